@@ -1,0 +1,5 @@
+-- Laws that the proofs of several functions cite.
+pub mod Bits
+pub mod Judge
+pub mod Limits
+pub mod Sizes

@@ -1,0 +1,179 @@
+// Numbers without a wrap, and expressions: every sum and product is taken at a width that holds it, and then judged.
+ghost use mathlib.Core.Path.{_≡_};
+ghost use mathlib.Core.Bool.{_&&_, _||_};
+ghost use lib.IntN.{pos, negsuc, negℤ, _+ℤ_, _-ℤ_, _*ℤ_};
+ghost use lib.Signed.{leZ};
+ghost use mir.Syntax.{w32};
+ghost use mir.Val.{SFits};
+ghost use mathlib.Core.List.{[], _∷_};
+ghost use Rattle.expr.specs.Affine.{value, within, allWithin, opposite, judge};
+ghost use Rattle.expr.specs.Three.{affine, point, sums, inequality, OPPOSITE};
+
+// An expression: a constant and a coefficient for each of three parameters (paper: allowances).
+pub struct Expr {
+    pub constant: i32,
+    pub p: i32,
+    pub q: i32,
+    pub r: i32,
+}
+
+// A valuation of three parameters (paper: setting); 0 for one that a sheet lacks.
+pub struct Valuation {
+    pub p: i16,
+    pub q: i16,
+    pub r: i16,
+}
+
+// A number that is not judged yet.
+pub struct Number {
+    pub value: i64,
+}
+
+// An expression whose numbers are not judged yet.
+pub struct Sums {
+    pub constant: Number,
+    pub p: Number,
+    pub q: Number,
+    pub r: Number,
+}
+
+// An expression that was judged: it, or that one of its numbers is out of range.
+pub enum Inequality {
+    Is(Expr),
+    Wide,
+}
+
+// Whether a or b.
+pub fn either(a: bool, b: bool) -> bool
+    ensures { λ r. ⌜ r ≡ (a || b) ⌝ }
+{
+    if a {
+        return true;
+    }
+    b
+}
+
+// x as a wider number.
+pub fn wide(x: i32) -> i64
+    ensures { λ r. ⌜ r ≡ x ⌝ }
+{
+    x as i64
+}
+
+// x as a wider number.
+pub fn wide16(x: i16) -> i64
+    ensures { λ r. ⌜ r ≡ x ⌝ }
+{
+    x as i64
+}
+
+// x + y.
+pub fn sum(x: i32, y: i32) -> Number
+    ensures { λ r. ⌜ r .value ≡ x +ℤ y ⌝ }
+{
+    Number {
+        value: wide(x) + wide(y),
+    }
+}
+
+// x - y.
+pub fn difference(x: i32, y: i32) -> Number
+    ensures { λ r. ⌜ r .value ≡ x -ℤ y ⌝ }
+{
+    Number {
+        value: wide(x) - wide(y),
+    }
+}
+
+// x - y - 1.
+pub fn difference_less_one(x: i32, y: i32) -> Number
+    ensures { λ r. ⌜ r .value ≡ ((x -ℤ y) -ℤ pos 1) ⌝ }
+{
+    Number {
+        value: wide(x) - wide(y) - 1,
+    }
+}
+
+// x · y.
+pub fn product(x: i32, y: i16) -> i64
+    ensures { λ r. ⌜ r ≡ x *ℤ y ⌝ }
+{
+    wide(x) * wide16(y)
+}
+
+// Whether x lies from -limit to limit.
+fn is_within(x: Number, limit: i32) -> bool
+    ensures { λ r. ⌜ r ≡ within limit (x .value) ⌝ }
+{
+    let high = wide(limit);
+    if 0 - high <= x.value {
+        return x.value <= high;
+    }
+    false
+}
+
+// Whether every number of s lies from -limit to limit.
+fn all_within(s: Sums, limit: i32) -> bool
+    ensures { λ r. ⌜ r ≡ allWithin limit (s .constant .value ∷ s .p .value ∷ s .q .value ∷ s .r .value ∷ []) ⌝ }
+{
+    if is_within(s.constant, limit) {
+        if is_within(s.p, limit) {
+            if is_within(s.q, limit) {
+                return is_within(s.r, limit);
+            }
+        }
+    }
+    false
+}
+
+// x as a narrower number.
+fn narrow(x: Number) -> i32
+    requires { ⌜ SFits w32 (x .value) ⌝ }
+    ensures { λ r. ⌜ r ≡ x .value ⌝ }
+{
+    x.value as i32
+}
+
+// s as an expression, if each of its numbers lies from -limit to limit.
+pub fn judged(s: Sums, limit: i32) -> Inequality
+    ensures { λ r. ⌜ r ≡ inequality (judge limit (sums s)) ⌝ }
+{
+    if all_within(s, limit) {
+        return Inequality::Is(Expr {
+            constant: narrow(s.constant),
+            p: narrow(s.p),
+            q: narrow(s.q),
+            r: narrow(s.r),
+        });
+    }
+    Inequality::Wide
+}
+
+impl Expr {
+    pub const ZERO: Expr = Expr {
+        constant: 0,
+        p: 0,
+        q: 0,
+        r: 0,
+    };
+
+    // The value at v: constant + sum of coefficient × parameter.
+    pub fn at(self, v: Valuation) -> i64
+        ensures { λ r. ⌜ r ≡ value (affine self) (point v) ⌝ }
+    {
+        wide(self.constant) + (product(self.p, v.p) + (product(self.q, v.q) + product(self.r, v.r)))
+    }
+
+    // The opposite of self ≥ 0, parameters being whole: -self - 1 ≥ 0. Its constant may lie one past the range of a test.
+    pub fn opposite(self) -> Inequality
+        ensures { λ r. ⌜ r ≡ inequality (judge OPPOSITE (opposite (affine self))) ⌝ }
+    {
+        let s = Sums {
+            constant: difference(-1, self.constant),
+            p: difference(0, self.p),
+            q: difference(0, self.q),
+            r: difference(0, self.r),
+        };
+        judged(s, 1000001)
+    }
+}

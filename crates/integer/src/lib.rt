@@ -1,0 +1,1 @@
+// No code: integers for proofs. The laws are in specs/.
