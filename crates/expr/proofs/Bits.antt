@@ -2,7 +2,8 @@
 -- These laws say that the bits come and go: of an operation f on two locals that hold x and y, the result is f x y.
 use mathlib.Core.Path.{_≡_, subst, sym, _∙_}
 use lib.IntN.{ℤ}
-use mir.Syntax.{Width}
+use mir.Facts.{sfits-widen}
+use mir.Syntax.{Width, w16, w64}
 use mir.Val.{SFits, toZ, ofZ}
 use mir.ValLaws.{toZ-ofZ}
 
@@ -30,3 +31,7 @@ passed w a x e f = e ∙ toZ-ofZ w x f
 -- what a callee says of two signed arguments
 pub heard : (f : ℤ → ℤ → ℤ) (v w : Width) (a x y : ℤ) → a ≡ f (toZ v (ofZ v x)) (toZ w (ofZ w y)) → SFits v x → SFits w y → a ≡ f x y
 heard f v w a x y e fx fy = e ∙ subst (λ (k : ℤ). f k (toZ w (ofZ w y)) ≡ f x y) (sym (toZ-ofZ v x fx)) (subst (λ (k : ℤ). f x k ≡ f x y) (sym (toZ-ofZ w y fy)) (λ i. f x y))
+
+-- a local that holds what `wide16` gave
+pub widened : (a x : ℤ) → a ≡ toZ w16 (ofZ w16 x) → SFits w16 x → toZ w64 (ofZ w64 a) ≡ x
+widened a x e f = held w64 a x (passed w16 a x e f) (sfits-widen {w = w16} tt f)

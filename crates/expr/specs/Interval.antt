@@ -4,7 +4,7 @@ use mathlib.Core.List.{List, [], _∷_}
 use mathlib.Core.Bool.{Bool, true, false}
 use Prim.Native.Nat.{ℕ, zero, suc}
 use lib.IntN.{ℤ, pos, negsuc, negℤ, _+ℤ_, _*ℤ_}
-use lib.Signed.{leZ}
+use lib.Signed.{leZ, _≤ℤ_}
 use Rattle.integer.specs.Floor.{floorZ}
 use Rattle.expr.specs.Affine.{Affine}
 use Rattle.expr.specs.declared.ranges.Range.{Range}
@@ -35,6 +35,10 @@ abbrev pub pickZ : Bool → ℤ → ℤ → ℤ
 pickZ true a b = a
 pickZ false a b = b
 
+-- the end of a range at which coefficient × parameter is the most
+abbrev pub end : ℤ → Range → ℤ
+end c r = pickZ (leZ (pos 0) c) (r .high) (r .low)
+
 -- the most that coefficient × parameter can be in a range
 abbrev pub best : ℤ → Range → ℤ
 best c r = pickZ (leZ (pos 0) c) (c *ℤ r .high) (c *ℤ r .low)
@@ -58,7 +62,18 @@ unfoldable pub narrowL : ℤ → List ℤ → Range → List Range → Range
 narrowL c [] r rs = interval r c (pos 0)
 narrowL c (a ∷ cs) r rs = interval r (c +ℤ bestSum cs rs) a
 
+abbrev pub narrow : Affine → Range → List Range → Range
+narrow e r rs = narrowL (e .constant) (e .coefs) r rs
+
 -- the same for several inequalities
 unfoldable pub narrowed : List Affine → Range → List Range → Range
 narrowed [] r rs = r
-narrowed (e ∷ es) r rs = narrowed es (narrowL (e .constant) (e .coefs) r rs) rs
+narrowed (e ∷ es) r rs = narrowed es (narrow e r rs) rs
+
+-- the range of the one number at n of a range, counted from 0
+abbrev pub pointAt : Range → ℕ → Range
+pointAt r n = record { low = r .low +ℤ pos n; high = r .low +ℤ pos n }
+
+-- numbers that the code can negate and divide without a wrap
+abbrev pub Tame : ℤ → Type 0
+Tame z = (negℤ (pos 4611686018427387903) ≤ℤ z) × (z ≤ℤ pos 4611686018427387903)

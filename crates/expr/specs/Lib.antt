@@ -1,7 +1,9 @@
 -- What is read first: Affine (expressions), Limit (bounds and weights), Valuations (satisfiability), Interval (an inequality's interval),
--- for any number of parameters; then Three, which says how the code's records stand for them.
+-- for any number of parameters; then Three, which says how the code's records stand for them. The other files are laws of these.
 pub mod Affine
 pub mod Interval
+pub mod IntervalLaws
 pub mod Limit
+pub mod SearchLaws
 pub mod Three
 pub mod Valuations
