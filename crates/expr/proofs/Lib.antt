@@ -5,5 +5,7 @@ pub mod Cuts
 pub mod Floors
 pub mod Judge
 pub mod Limits
+pub mod Loops
 pub mod Sizes
+pub mod Totals
 pub mod Widths

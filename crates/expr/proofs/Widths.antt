@@ -1,16 +1,16 @@
 -- Sizes of what a range's width and its members are made of.
 use mathlib.Core.Path.{_≡_, refl, sym, _∙_, ap, subst}
 use mathlib.Core.Bool.{Bool, true, false}
-use Prim.Native.Nat.{ℕ, zero, suc, _+_, _<_, _^_}
+use Prim.Native.Nat.{ℕ, zero, suc, _+_, _<_, _≤_}
 use native.Mathlib.Omega.{arith}
 use lib.Dec.{T}
-use lib.IntN.{ℤ, pos, natAbs, _+ℤ_, _-ℤ_}
+use lib.IntN.{ℤ, pos, negsuc, natAbs, _+ℤ_, _-ℤ_}
 use lib.Signed.{leZ, _≤ℤ_, _<ℤ_, nonNeg, yes-nonNeg}
 use mir.Facts.{fits-natAbs}
 use mir.Syntax.{w16, w64}
 use mir.Val.{Fits, SFits, toZ, ofZ}
 use Rattle.integer.specs.Order.{leZ-true, leZ-false}
-use Rattle.integer.specs.Parts.{p, n, natAbs-parts, nonneg-part}
+use Rattle.integer.specs.Parts.{p, n, zs, +-parts, -parts, fits-in, natAbs-parts, nonneg-part}
 use Rattle.integer.specs.Split.{split, split-all}
 use Rattle.expr.specs.IntervalLaws.{In}
 use Rattle.expr.specs.SearchLaws.{width-in, width-zero}
@@ -58,3 +58,12 @@ member-fits-64 l h k = rw (split l, split h) (simp split-all (omega arith))
 
 pub place-fits : (l h : ℤ) (k : ℕ) → SFits w16 l → SFits w16 h → (l +ℤ pos k) ≤ℤ h → SFits w64 (pos k)
 place-fits l h k = rw (split l, split h) (simp split-all (omega arith))
+
+most-of : (l h z : ℤ) → z ≡ (h +ℤ pos 1) -ℤ l → SFits w16 l → SFits w16 h → p z ≤ 65536
+unfolding p n
+most-of l h (pos k) e f g = omega (zs, -parts (h +ℤ pos 1) l, +-parts h (pos 1), fits-in f, fits-in g)
+most-of l h (negsuc k) e f g = omega arith
+
+pub width-most : (r : Range) → SFits w16 (r .low) → SFits w16 (r .high) → width r ≤ 65536
+unfolding width
+width-most r f g = most-of (r .low) (r .high) ((r .high +ℤ pos 1) -ℤ r .low) refl f g

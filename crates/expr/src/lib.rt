@@ -2,6 +2,7 @@
 mod bound;
 mod number;
 mod ranges;
+mod search;
 mod weight;
 
 pub use bound::Bound;
@@ -12,4 +13,5 @@ pub use number::Inequality;
 pub use number::Valuation;
 pub use ranges::Range;
 pub use ranges::Ranges;
+pub use search::{Solution, System, count, first};
 pub use weight::Weight;

@@ -5,7 +5,7 @@ ghost use mathlib.Core.Path.{_≡_};
 ghost use mathlib.Core.List.{[], _∷_};
 ghost use lib.IntN.{pos, negℤ, _+ℤ_};
 ghost use lib.Signed.{_≤ℤ_, _<ℤ_};
-ghost use Prim.Native.Nat.{_<_};
+ghost use Prim.Native.Nat.{_<_, _≤_};
 ghost use Rattle.integer.specs.Floor.{floorZ};
 ghost use Rattle.expr.specs.Interval.{Tame, EMPTY, from, upTo, interval, end, fix, narrow, pointAt};
 ghost use Rattle.expr.specs.Three.{affine};
@@ -152,6 +152,7 @@ impl Range {
     // How many numbers the range has.
     pub fn width(self) -> usize
         ensures { λ n. ⌜ n ≡ width self ⌝ }
+        ensures small { λ n. ⌜ n ≤ 65536 ⌝ }
     {
         let low = number::wide16(self.low);
         let high = number::wide16(self.high);
@@ -168,5 +169,25 @@ impl Range {
     {
         let x = (number::wide16(self.low) + n as i64) as i16;
         Range { low: x, high: x }
+    }
+}
+
+impl Ranges {
+    // The ranges with p's put in.
+    pub fn with_p(self, p: Range) -> Ranges
+        ensures { λ b. ⌜ b ≡ record { p = p; q = self .q; r = self .r } ⌝ }
+    {
+        let q = self.q;
+        let r = self.r;
+        Ranges { p, q, r }
+    }
+
+    // The ranges with q's put in.
+    pub fn with_q(self, q: Range) -> Ranges
+        ensures { λ b. ⌜ b ≡ record { p = self .p; q = q; r = self .r } ⌝ }
+    {
+        let p = self.p;
+        let r = self.r;
+        Ranges { p, q, r }
     }
 }

@@ -1,5 +1,6 @@
 -- The width of a range that is not empty, as a number that is not below 0.
-use mathlib.Core.Path.{refl}
+use mathlib.Core.Path.{refl, sym, subst}
+use Prim.Native.Nat.{ℕ, _≤_}
 use mathlib.Core.Bool.{true, false}
 use lib.IntN.{pos, _+ℤ_, _-ℤ_}
 use mir.Facts.{sfits-lit, sfits-widen}
@@ -8,7 +9,7 @@ use mir.Val.{SFits}
 use borrow.Author.Needs.{needs}
 use Rattle.expr.proofs.Bits.{passed, held, op-fits, op-is, op-back}
 use Rattle.expr.proofs.Cuts.{tested}
-use Rattle.expr.proofs.Widths.{one-more-fits, width-fits, width-cast, width-is, width-none}
+use Rattle.expr.proofs.Widths.{one-more-fits, width-fits, width-cast, width-is, width-none, width-most}
 use Rattle.expr.proofs.ranges.Range.width.Statement.{statement}
 use Rattle.expr.proofs.ranges.Range.width.Tie as tie
 
@@ -53,8 +54,9 @@ returns c =
     let g : SFits w16 (r .high) = record { sfits = c .before .before .before .before .struct-told .given .1 .0 .1 } in
     let el = passed w16 _ (r .low) (c .before .before .before .wide16 .ensures) f in
     let eh = passed w16 _ (r .high) (c .before .wide162 .ensures) g in
-    width-is r _ (op-back _-ℤ_ w64 _ _ (r .high +ℤ pos 1) (r .low) (op-is _+ℤ_ w64 _ (pos 1) (r .high) (pos 1) eh refl (sfits-widen {w = w16} tt g) (sfits-lit tt)) el (one-more-fits _ g) (sfits-widen {w = w16} tt f) (width-fits _ _ f g))
-    (tested _ _ (r .low) (r .high) true (held w64 _ _ el (sfits-widen {w = w16} tt f)) (held w64 _ _ eh (sfits-widen {w = w16} tt g)) (c .if1 .taken))
+    let e = width-is r _ (op-back _-ℤ_ w64 _ _ (r .high +ℤ pos 1) (r .low) (op-is _+ℤ_ w64 _ (pos 1) (r .high) (pos 1) eh refl (sfits-widen {w = w16} tt g) (sfits-lit tt)) el (one-more-fits _ g) (sfits-widen {w = w16} tt f) (width-fits _ _ f g))
+    (tested _ _ (r .low) (r .high) true (held w64 _ _ el (sfits-widen {w = w16} tt f)) (held w64 _ _ eh (sfits-widen {w = w16} tt g)) (c .if1 .taken)) in
+    (e, subst (λ (m : ℕ). m ≤ 65536) (sym e) (width-most r f g))
 
 returns-2 : tie.Need-returns-2
 returns-2 c =
@@ -63,7 +65,8 @@ returns-2 c =
     let g : SFits w16 (r .high) = record { sfits = c .before .before .before .before .struct-told .given .1 .0 .1 } in
     let el = passed w16 _ (r .low) (c .before .before .before .wide16 .ensures) f in
     let eh = passed w16 _ (r .high) (c .before .wide162 .ensures) g in
-    width-none r (tested _ _ (r .low) (r .high) false (held w64 _ _ el (sfits-widen {w = w16} tt f)) (held w64 _ _ eh (sfits-widen {w = w16} tt g)) (c .if1 .left))
+    let e = width-none r (tested _ _ (r .low) (r .high) false (held w64 _ _ el (sfits-widen {w = w16} tt f)) (held w64 _ _ eh (sfits-widen {w = w16} tt g)) (c .if1 .left)) in
+    (e, subst (λ (m : ℕ). m ≤ 65536) (sym e) (width-most r f g))
 
 pub width-spec : {M : Type 1} → statement M
 width-spec = tie.close (tie.spec wide16-requires wide16-requires-2 add-result sub-result cast-result returns returns-2)
