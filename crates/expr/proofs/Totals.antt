@@ -43,7 +43,7 @@ module _ (f : ℤ → ℕ) (x : ℤ) where
       → a + c + total f (x +ℤ pos (i + 1)) (n - (i + 1)) ≡ w
   total-turn n i a c w h e k =
       let s : total f (x +ℤ pos i) (n - i) ≡ f (x +ℤ pos i) + total f (x +ℤ pos (i + 1)) (n - (i + 1)) =
-          rw (left n i h, total-step (x +ℤ pos i) (n - (i + 1)), next x i) refl in
+      rw (left n i h, total-step (x +ℤ pos i) (n - (i + 1)), next x i) refl in
       omega (arith, s)
 
   pub total-done : (n i a w : ℕ) → n ≤ i → a + total f (x +ℤ pos i) (n - i) ≡ w → a ≡ w

@@ -3,6 +3,7 @@
 pub mod Affine
 pub mod Interval
 pub mod IntervalLaws
+pub mod Laws
 pub mod Limit
 pub mod SearchLaws
 pub mod Three

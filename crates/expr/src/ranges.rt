@@ -1,6 +1,7 @@
 // Ranges of parameters, and the part of a range where an inequality can still hold.
 use crate::number;
-use crate::number::{Expr, Valuation};
+use crate::number::Expr;
+use crate::number::Valuation;
 ghost use mathlib.Core.Path.{_≡_};
 ghost use mathlib.Core.List.{[], _∷_};
 ghost use lib.IntN.{pos, negℤ, _+ℤ_};

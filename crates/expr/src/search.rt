@@ -1,8 +1,10 @@
 // Satisfiability of inequalities over the ranges of three parameters: parameter by parameter in order, each inequality narrows the next
 // parameter's range with the best that the later ones can do, so that the last range is exact and hopeless branches are never entered.
-use crate::number::{Expr, Valuation};
+use crate::number::Expr;
+use crate::number::Valuation;
 use crate::ranges;
-use crate::ranges::{Range, Ranges};
+use crate::ranges::Range;
+use crate::ranges::Ranges;
 ghost use mathlib.Core.Path.{_≡_};
 ghost use Prim.Native.Nat.{min, _≤_};
 ghost use mathlib.Core.List.{[], _∷_, map};

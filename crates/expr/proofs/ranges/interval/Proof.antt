@@ -84,7 +84,7 @@ returns-2 c =
     let ek = toZ-ofZ w64 k (s .fits .constant) in
     let ea = toZ-ofZ w64 a (s .fits .slope) in
     let q = floor-at _ (pos 0 -ℤ k) a _ _ (c .before .floor2 .ensures)
-        (op-back _-ℤ_ w64 (pos 0) _ (pos 0) k refl refl (sfits-lit tt) (s .fits .constant) (tame-neg-fits k (s .pre .0))) ea in
+    (op-back _-ℤ_ w64 (pos 0) _ (pos 0) k refl refl (sfits-lit tt) (s .fits .constant) (tame-neg-fits k (s .pre .0))) ea in
     upTo-at _ r (floorZ (negℤ k) a) _ (c .up-to .ensures)
     (toZ-ofZ w64 (c .before .floor2 .result) (search needs) ∙ q ∙ ap (λ (z : ℤ). floorZ z a) (zero-minus′ k))
     ∙ interval-down r k a (is-below a _ ea (c .before .before .if2 .taken))

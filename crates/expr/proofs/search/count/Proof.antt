@@ -31,12 +31,16 @@ width-requires c κs = search needs
 loop-holds : tie.Need-loop-holds Inv-loop μ-loop
 loop-holds c =
     let a = c .before .before .args in
-    let w = c .width .ensures in
-    (omega arith, w .1, w .0, omega arith,
+    let w = c .width .ensures in (
+      omega arith,
+      w .1,
+      w .0,
+      omega arith,
       total-start (λ (x : ℤ). count (a .b .q ∷ a .b .r ∷ []) (map (fix x) (exprs (a .s)))) (c .before .narrowed-p .result .low) (c .width .result)
-      ∙ ap (λ (n : ℕ). total (λ (x : ℤ). count (a .b .q ∷ a .b .r ∷ []) (map (fix x) (exprs (a .s)))) (c .before .narrowed-p .result .low) n) (w .0)
-      ∙ ap (λ (r : Range). total (λ (x : ℤ). count (a .b .q ∷ a .b .r ∷ []) (map (fix x) (exprs (a .s)))) (r .low) (width r)) (c .before .narrowed-p .ensures)
-      ∙ sym (count-step (exprs (a .s)) (a .b .p) (a .b .q ∷ a .b .r ∷ [])))
+          ∙ ap (λ (n : ℕ). total (λ (x : ℤ). count (a .b .q ∷ a .b .r ∷ []) (map (fix x) (exprs (a .s)))) (c .before .narrowed-p .result .low) n) (w .0)
+          ∙ ap (λ (r : Range). total (λ (x : ℤ). count (a .b .q ∷ a .b .r ∷ []) (map (fix x) (exprs (a .s)))) (r .low) (width r)) (c .before .narrowed-p .ensures)
+          ∙ sym (count-step (exprs (a .s)) (a .b .p) (a .b .q ∷ a .b .r ∷ [])),
+    )
 
 point-requires : tie.Need-point-requires Inv-loop μ-loop
 point-requires c κs = omega arith

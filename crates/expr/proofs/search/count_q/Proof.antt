@@ -31,12 +31,16 @@ width-requires c κs = search needs
 loop-holds : tie.Need-loop-holds Inv-loop μ-loop
 loop-holds c =
     let a = c .before .before .args in
-    let w = c .width .ensures in
-    (omega arith, w .1, w .0, omega arith,
+    let w = c .width .ensures in (
+      omega arith,
+      w .1,
+      w .0,
+      omega arith,
       total-start (λ (x : ℤ). count (a .b .r ∷ []) (map (fix x) (map (fix (a .b .p .low)) (exprs (a .s))))) (c .before .narrowed-q .result .low) (c .width .result)
-      ∙ ap (λ (n : ℕ). total (λ (x : ℤ). count (a .b .r ∷ []) (map (fix x) (map (fix (a .b .p .low)) (exprs (a .s))))) (c .before .narrowed-q .result .low) n) (w .0)
-      ∙ ap (λ (r : Range). total (λ (x : ℤ). count (a .b .r ∷ []) (map (fix x) (map (fix (a .b .p .low)) (exprs (a .s))))) (r .low) (width r)) (c .before .narrowed-q .ensures)
-      ∙ sym (count-step (map (fix (a .b .p .low)) (exprs (a .s))) (a .b .q) (a .b .r ∷ [])))
+          ∙ ap (λ (n : ℕ). total (λ (x : ℤ). count (a .b .r ∷ []) (map (fix x) (map (fix (a .b .p .low)) (exprs (a .s))))) (c .before .narrowed-q .result .low) n) (w .0)
+          ∙ ap (λ (r : Range). total (λ (x : ℤ). count (a .b .r ∷ []) (map (fix x) (map (fix (a .b .p .low)) (exprs (a .s))))) (r .low) (width r)) (c .before .narrowed-q .ensures)
+          ∙ sym (count-step (map (fix (a .b .p .low)) (exprs (a .s))) (a .b .q) (a .b .r ∷ [])),
+    )
 
 point-requires : tie.Need-point-requires Inv-loop μ-loop
 point-requires c κs = omega arith

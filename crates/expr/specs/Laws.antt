@@ -1,0 +1,151 @@
+-- What sums, tests and opposites mean at a valuation, for any number of parameters.
+use mathlib.Core.Path.{_≡_, refl, sym, ap, _∙_}
+use mathlib.Core.List.{List, [], _∷_, map}
+use mathlib.Core.Bool.{Bool, true, false, not, _||_}
+use Prim.Native.Nat.{ℕ}
+use native.Mathlib.Omega.{arith}
+use lib.IntN.{ℤ, pos, negsuc, negℤ, _+ℤ_, _-ℤ_, _*ℤ_, +ℤ-idl, +ℤ-idr}
+use lib.Signed.{leZ, _≤ℤ_}
+use Rattle.integer.specs.Order.{true-leZ}
+use Rattle.integer.specs.Split.{split, split-all}
+use Rattle.expr.specs.Affine.{Affine, dot, value, plusL, minusL, plus, minus, lessOne, opposite, allWithin, Judged, fine, wide, judge, pickJ, LIMIT}
+use Rattle.expr.specs.Limit.{Limit, none, limit, atV, sumW, marked, sumB, slack, slackE, tighterW, Question, yes′, no′, ask, wide′, asked, tighterB, MOST, saturate, saturated}
+
+-- ---- values
+plus-step : (c d x a b : ℤ) → ((c +ℤ d) *ℤ x) +ℤ (a +ℤ b) ≡ ((c *ℤ x) +ℤ a) +ℤ ((d *ℤ x) +ℤ b)
+plus-step c d x a b = rw (split c, split d, split x, split a, split b) (simp split-all (omega arith))
+
+pub plus-dot : (cs ds v : List ℤ) → dot (plusL cs ds) v ≡ dot cs v +ℤ dot ds v
+unfolding dot plusL
+plus-dot [] ds v = sym (+ℤ-idl (dot ds v))
+plus-dot (c ∷ cs) [] v = sym (+ℤ-idr (dot (c ∷ cs) v))
+plus-dot (c ∷ cs) (d ∷ ds) [] = refl
+plus-dot (c ∷ cs) (d ∷ ds) (x ∷ v) = rw (plus-dot cs ds v) (plus-step c d x (dot cs v) (dot ds v))
+
+neg-step : (d x b : ℤ) → (negℤ d *ℤ x) +ℤ negℤ b ≡ negℤ ((d *ℤ x) +ℤ b)
+neg-step d x b = rw (split d, split x, split b) (simp split-all (omega arith))
+
+pub neg-dot : (ds v : List ℤ) → dot (map negℤ ds) v ≡ negℤ (dot ds v)
+unfolding dot
+neg-dot [] v = refl
+neg-dot (d ∷ ds) [] = refl
+neg-dot (d ∷ ds) (x ∷ v) = rw (neg-dot ds v) (neg-step d x (dot ds v))
+
+minus-step : (c d x a b : ℤ) → ((c -ℤ d) *ℤ x) +ℤ (a -ℤ b) ≡ ((c *ℤ x) +ℤ a) -ℤ ((d *ℤ x) +ℤ b)
+minus-step c d x a b = rw (split c, split d, split x, split a, split b) (simp split-all (omega arith))
+
+zero-less : (x : ℤ) → negℤ x ≡ pos 0 -ℤ x
+zero-less x = rw (split x) (simp split-all (omega arith))
+
+less-zero : (x : ℤ) → x ≡ x -ℤ pos 0
+less-zero x = rw (split x) (simp split-all (omega arith))
+
+pub minus-dot : (cs ds v : List ℤ) → dot (minusL cs ds) v ≡ dot cs v -ℤ dot ds v
+unfolding dot minusL
+minus-dot [] ds v = neg-dot ds v ∙ zero-less (dot ds v)
+minus-dot (c ∷ cs) [] v = less-zero (dot (c ∷ cs) v)
+minus-dot (c ∷ cs) (d ∷ ds) [] = refl
+minus-dot (c ∷ cs) (d ∷ ds) (x ∷ v) = rw (minus-dot cs ds v) (minus-step c d x (dot cs v) (dot ds v))
+
+plus-both : (c d a b : ℤ) → (c +ℤ d) +ℤ (a +ℤ b) ≡ (c +ℤ a) +ℤ (d +ℤ b)
+plus-both c d a b = rw (split c, split d, split a, split b) (simp split-all (omega arith))
+
+minus-both : (c d a b : ℤ) → (c -ℤ d) +ℤ (a -ℤ b) ≡ (c +ℤ a) -ℤ (d +ℤ b)
+minus-both c d a b = rw (split c, split d, split a, split b) (simp split-all (omega arith))
+
+less-both : (c a : ℤ) → (c -ℤ pos 1) +ℤ a ≡ (c +ℤ a) -ℤ pos 1
+less-both c a = rw (split c, split a) (simp split-all (omega arith))
+
+turn-both : (c a : ℤ) → (negsuc 0 -ℤ c) +ℤ negℤ a ≡ negsuc 0 -ℤ (c +ℤ a)
+turn-both c a = rw (split c, split a) (simp split-all (omega arith))
+
+-- the value of a sum is the sum of the values, and so for a difference
+pub plus-value : (a b : Affine) (v : List ℤ) → value (plus a b) v ≡ value a v +ℤ value b v
+unfolding value plus
+plus-value a b v = rw (plus-dot (a .coefs) (b .coefs) v) (plus-both (a .constant) (b .constant) (dot (a .coefs) v) (dot (b .coefs) v))
+
+pub minus-value : (a b : Affine) (v : List ℤ) → value (minus a b) v ≡ value a v -ℤ value b v
+unfolding value minus
+minus-value a b v = rw (minus-dot (a .coefs) (b .coefs) v) (minus-both (a .constant) (b .constant) (dot (a .coefs) v) (dot (b .coefs) v))
+
+pub lessOne-value : (e : Affine) (v : List ℤ) → value (lessOne e) v ≡ value e v -ℤ pos 1
+unfolding value lessOne
+lessOne-value e v = less-both (e .constant) (dot (e .coefs) v)
+
+pub opposite-value : (e : Affine) (v : List ℤ) → value (opposite e) v ≡ negsuc 0 -ℤ value e v
+unfolding value opposite
+opposite-value e v = rw (neg-dot (e .coefs) v) (turn-both (e .constant) (dot (e .coefs) v))
+
+-- ---- the opposite: at every valuation exactly one of an inequality and its opposite holds
+same-test : (a b : Bool) → (a ≡ true → b ≡ true) → (b ≡ true → a ≡ true) → a ≡ b
+same-test true b f g = sym (f refl)
+same-test false true f g = g refl
+same-test false false f g = refl
+
+holds-not : (x : ℤ) → leZ (pos 0) x ≡ true → leZ (pos 0) (negsuc 0 -ℤ x) ≡ false
+holds-not x = rw (split x) (simp split-all (omega arith))
+
+not-holds : (x : ℤ) → leZ (pos 0) x ≡ false → leZ (pos 0) (negsuc 0 -ℤ x) ≡ true
+not-holds x = rw (split x) (simp split-all (omega arith))
+
+turned : (x : ℤ) (b : Bool) → leZ (pos 0) x ≡ b → leZ (pos 0) (negsuc 0 -ℤ x) ≡ not b
+turned x true e = holds-not x e
+turned x false e = not-holds x e
+
+pub opposite-holds : (e : Affine) (v : List ℤ) → leZ (pos 0) (value (opposite e) v) ≡ not (leZ (pos 0) (value e v))
+opposite-holds e v = rw (opposite-value e v) (turned (value e v) (leZ (pos 0) (value e v)) refl)
+
+-- ---- judging changes nothing
+judged-same : (b : Bool) (e x : Affine) → pickJ b (fine e) wide ≡ fine x → e ≡ x
+judged-same true e x h = cc
+judged-same false e x h = let z : _≡_ {A = ℕ} 0 1 = cc in absurd (omega arith)
+
+pub judge-same : (l : ℤ) (e x : Affine) → judge l e ≡ fine x → e ≡ x
+unfolding judge
+judge-same l e x h = judged-same (allWithin l (e .constant ∷ e .coefs)) e x h
+
+-- ---- sums: a sum of bounds that is not wide is, at every valuation, the sum of the weights
+marked-same : (s : Bool) (j : Judged Affine) (e : Affine) (c : Limit Affine) → ((x : Affine) → j ≡ fine x → e ≡ x) → marked s j ≡ fine c → c ≡ limit s e
+unfolding marked
+marked-same s (fine x) e c f h = let g = f x refl in cc
+marked-same s wide e c f h = let z : _≡_ {A = ℕ} 0 1 = cc in absurd (omega arith)
+
+pub sum-at : (a b c : Limit Affine) (v : List ℤ) → sumB a b ≡ fine c → atV v c ≡ sumW (atV v a) (atV v b)
+unfolding sumB sumW atV
+sum-at none b c v h = let e : c ≡ none = cc in rw e refl
+sum-at (limit s a) none c v h = let e : c ≡ none = cc in rw e refl
+sum-at (limit s a) (limit t b) c v h =
+    let e : c ≡ limit (s || t) (plus a b) = marked-same (s || t) (judge LIMIT (plus a b)) (plus a b) c (judge-same LIMIT (plus a b)) h in
+    rw (e, plus-value a b v) refl
+
+-- ---- tests: the answer of a test that is not wide is, at every valuation, whether the first weight is tighter
+unfoldable pub answer : Question → List ℤ → Bool
+answer yes′ v = true
+answer no′ v = false
+answer (ask e) v = leZ (pos 0) (value e v)
+answer wide′ v = false
+
+slack-value : (s t : Bool) (a b : Affine) (v : List ℤ) → value (slackE s t a b) v ≡ slack s t (value a v) (value b v)
+slack-value true true a b v = rw (lessOne-value (minus b a) v, minus-value b a v) refl
+slack-value true false a b v = minus-value b a v
+slack-value false t a b v = rw (lessOne-value (minus b a) v, minus-value b a v) refl
+
+asked-same : (j : Judged Affine) (e : Affine) (v : List ℤ) → ((x : Affine) → j ≡ fine x → e ≡ x) → (asked j ≡ wide′ → ⊥) → answer (asked j) v ≡ leZ (pos 0) (value e v)
+unfolding asked answer
+asked-same (fine x) e v f h = rw (f x refl) refl
+asked-same wide e v f h = absurd (h refl)
+
+pub tighter-at : (a b : Limit Affine) (v : List ℤ) → (tighterB a b ≡ wide′ → ⊥) → answer (tighterB a b) v ≡ tighterW (atV v a) (atV v b)
+unfolding tighterB tighterW atV answer
+tighter-at none b v h = refl
+tighter-at (limit s a) none v h = refl
+tighter-at (limit s a) (limit t b) v h =
+    asked-same (judge LIMIT (slackE s t a b)) (slackE s t a b) v (judge-same LIMIT (slackE s t a b)) h ∙ ap (λ (x : ℤ). leZ (pos 0) x) (slack-value s t a b v)
+
+-- ---- weights that are far from the ends of 64 bits are not touched
+pub saturate-same : (x : ℤ) → negℤ MOST ≤ℤ x → x ≤ℤ MOST → saturate x ≡ x
+unfolding saturate
+saturate-same x h k =
+    let a : leZ x MOST ≡ true = true-leZ k in
+    let b : leZ (negℤ MOST) x ≡ true = true-leZ h in
+    rw (a, b) refl
