@@ -1,0 +1,4 @@
+pub mod Cursor
+pub mod Contents
+pub mod Refusals
+pub mod Laws

@@ -1,0 +1,83 @@
+-- The whole file (paper 01, "The sheet file", and rows 2 to 5 of "When no piece is given"): checked 2 to 5 in order, the whole file for each.
+use Prim.Native.Nat.{ℕ, _+_}
+use mathlib.Core.List.{List}
+use lib.ListN.{length, replicate}
+use lib.IntN.{pos}
+use Rattle.expr.specs.declared.ranges.Range.{Range}
+use Rattle.expr.specs.declared.ranges.Ranges.{Ranges}
+use Rattle.fields.specs.declared.Contents.{Contents}
+use Rattle.fields.specs.declared.Refusal.{Refusal}
+use Rattle.fields.specs.declared.Refusal.the-variants.{Nothing, Size, Body, Route}
+use Rattle.fields.specs.declared.Refusal.the-variants as refusal
+use Rattle.fields.specs.Cursor.{pick, went}
+use Rattle.fields.specs.Contents.{sized, contentsOf}
+use Rattle.sheet.specs.declared.Sheet.{Sheet}
+use Rattle.sheet.specs.declared.SheetAt.{SheetAt}
+use Rattle.sheet.specs.declared.Reading.{Reading}
+use Rattle.sheet.specs.Bodies.{parametersAt, locationsAt, transitionsAt, routeAt, blankLocations, blankTransitions}
+use Rattle.sheet.specs.Route.{linksOf}
+
+-- 0 to 0
+abbrev pub blankRange : Range
+blankRange = record { low = pos 0; high = pos 0 }
+
+-- a sheet with nothing but zeros
+unfoldable pub blankSheet : Sheet
+blankSheet =
+    record {
+      parameters = 0;
+      ranges = record { p = blankRange; q = blankRange; r = blankRange };
+      clocks = 0;
+      locations = 0;
+      location = blankLocations;
+      transitions = 0;
+      transition = blankTransitions;
+      moves = 0;
+      route = replicate 32 0;
+    }
+
+-- a refusal, with a blank sheet
+unfoldable pub refusedBy : Refusal → Reading
+refusedBy refusal = record { refusal = refusal; sheet = blankSheet }
+
+-- the four bodies, one after another: body 1 from byte 22 to its end, and so on; body 4 to the file's end
+unfoldable pub bodiesOf : List ℕ → Contents → SheetAt
+bodiesOf s contents =
+    let one = parametersAt s (contents .first) (went 22 0) in
+    let two = locationsAt s (contents .second) (one .count) (one .spot) in
+    let three = transitionsAt s (contents .third) (one .count) (two .clocks) (two .count) (two .spot) in
+    let four = routeAt s (length s) (three .count) (three .spot) in
+    record {
+      spot = four .spot;
+      sheet =
+          record {
+            parameters = one .count;
+            ranges = one .ranges;
+            clocks = two .clocks;
+            locations = two .count;
+            location = two .list;
+            transitions = three .count;
+            transition = three .list;
+            moves = four .count;
+            route = four .list;
+          };
+    }
+
+-- refusal 5, where body 4 starts at `third`: route byte i is at third + 1 + i; else the sheet
+unfoldable pub judgedRoute : ℕ → Sheet → Reading
+judgedRoute third sheet =
+    let link = linksOf (sheet .transition) (sheet .route) (sheet .moves) in
+    pick (link .ok) (record { refusal = Nothing; sheet = sheet }) (refusedBy (Route (third + 1 + link .index)))
+
+-- refusal 4, else what follows it
+unfoldable pub judgedBodies : ℕ → SheetAt → Reading
+judgedBodies third bodies = pick (bodies .spot .ok) (judgedRoute third (bodies .sheet)) (refusedBy (Body (bodies .spot .at)))
+
+-- what reading a file gives: refusal 2, 3, 4 or 5, the first that there is ground for; else the sheet
+unfoldable pub readOf : List ℕ → Reading
+readOf s =
+    pick (sized s)
+    (pick (contentsOf s .spot .ok)
+    (judgedBodies (contentsOf s .third) (bodiesOf s (contentsOf s)))
+    (refusedBy (refusal.Contents (contentsOf s .spot .at))))
+    (refusedBy Size)

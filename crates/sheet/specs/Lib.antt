@@ -1,0 +1,9 @@
+pub mod Guards
+pub mod Bodies
+pub mod Route
+pub mod File
+pub mod Filled
+pub mod WellFormed
+pub mod Numbers
+pub mod Accepted
+pub mod Examples

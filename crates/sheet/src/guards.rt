@@ -1,0 +1,189 @@
+// Guards (paper: limits) and counted lists of them.
+ghost use mathlib.Core.Path.{_≡_};
+ghost use Prim.Native.Nat.{_<_};
+ghost use Rattle.sheet.specs.Guards.{
+  numberOf,
+  exprOf,
+  oneZero,
+  boundOf,
+  coefficientField,
+  rightField,
+  guardAt,
+  guardStep,
+  guardsAt,
+  blankGuard,
+  blankGuards,
+};
+use super::Guard;
+use expr::Bound;
+use expr::Expr;
+use fields::Spot;
+use fields::cursor::both;
+use fields::cursor::byte_field;
+use fields::cursor::judged;
+use fields::cursor::signed_field;
+use fields::cursor::take_byte;
+
+// A guard, and where reading stands after it.
+pub struct GuardAt {
+    pub spot: Spot,
+    pub guard: Guard,
+}
+
+// The guards of a location or a transition, how many, and where reading stands after them.
+pub struct GuardsAt {
+    pub spot: Spot,
+    pub count: usize,
+    pub guards: [Guard; 6],
+}
+
+// The number of a signed field, from the number plus 32,768.
+fn number_of(word: u16) -> i32
+    ensures { λ r. ⌜ r ≡ numberOf word ⌝ }
+{
+    (word as i32) - 32768
+}
+
+// An expression from its four fields.
+fn expr_of(constant: u16, p: u16, q: u16, r: u16) -> Expr
+    ensures { λ e. ⌜ e ≡ exprOf constant p q r ⌝ }
+{
+    Expr {
+        constant: number_of(constant),
+        p: number_of(p),
+        q: number_of(q),
+        r: number_of(r),
+    }
+}
+
+// Whether exactly one of two clocks is 0.
+fn one_zero(left: u8, right: u8) -> bool
+    ensures { λ r. ⌜ r ≡ oneZero left right ⌝ }
+{
+    if left == 0 { right != 0 } else { right == 0 }
+}
+
+// The second clock of a guard whose first has just been read.
+fn right_field(file: &[u8], end: usize, clocks: u8, left: Spot) -> Spot
+    ensures { λ r. ⌜ r ≡ rightField (now (file .entry)) end clocks left ⌝ }
+{
+    let taken = take_byte(file, end, left);
+    let right = both(taken.byte <= clocks, one_zero(left.byte, taken.byte));
+    judged(left, taken, right)
+}
+
+// A coefficient: -1,000 to 1,000, and 0 for a parameter that the sheet lacks.
+fn coefficient_field(file: &[u8], end: usize, parameters: u8, index: u8, spot: Spot) -> Spot
+    ensures { λ r. ⌜ r ≡ coefficientField (now (file .entry)) end parameters index spot ⌝ }
+{
+    if index < parameters {
+        signed_field(file, end, 31768, 33768, spot)
+    } else {
+        signed_field(file, end, 32768, 32768, spot)
+    }
+}
+
+// The bound of a guard: relation 0 is at most, 1 is below.
+fn bound_of(relation: u8, expr: Expr) -> Bound
+    ensures { λ r. ⌜ r ≡ boundOf relation expr ⌝ }
+{
+    Bound {
+        none: false,
+        strict: relation == 1,
+        expr,
+    }
+}
+
+// The guard at a spot.
+fn guard_at(file: &[u8], end: usize, parameters: u8, clocks: u8, spot: Spot) -> GuardAt
+    ensures { λ r. ⌜ r ≡ guardAt (now (file .entry)) end parameters clocks spot ⌝ }
+{
+    let left = byte_field(file, end, 0, clocks as usize, spot);
+    let right = right_field(file, end, clocks, left);
+    let relation = byte_field(file, end, 0, 1, right);
+    let zero = byte_field(file, end, 0, 0, relation);
+    let constant = signed_field(file, end, 31768, 33768, zero);
+    let p = coefficient_field(file, end, parameters, 0, constant);
+    let q = coefficient_field(file, end, parameters, 1, p);
+    let r = coefficient_field(file, end, parameters, 2, q);
+    let expr = expr_of(constant.word, p.word, q.word, r.word);
+    let bound = bound_of(relation.byte, expr);
+    GuardAt {
+        spot: r,
+        guard: Guard {
+            left: left.byte,
+            right: right.byte,
+            bound,
+        },
+    }
+}
+
+// A guard with nothing but zeros, for a place past the count.
+fn blank_guard() -> Guard
+    ensures { λ r. ⌜ r ≡ blankGuard ⌝ }
+{
+    Guard {
+        left: 0,
+        right: 0,
+        bound: Bound {
+            none: false,
+            strict: false,
+            expr: Expr {
+                constant: 0,
+                p: 0,
+                q: 0,
+                r: 0,
+            },
+        },
+    }
+}
+
+// Six blank guards.
+pub fn blank_guards() -> [Guard; 6]
+    ensures { λ r. ⌜ r ≡ blankGuards ⌝ }
+{
+    [blank_guard(); 6]
+}
+
+// One more guard, if the count says so.
+fn guard_step(
+    file: &[u8],
+    end: usize,
+    parameters: u8,
+    clocks: u8,
+    i: usize,
+    list: GuardsAt,
+) -> GuardsAt
+    requires { ⌜ i < 6 ⌝ }
+    ensures { λ r. ⌜ r ≡ guardStep (now (file .entry)) end parameters clocks i list ⌝ }
+{
+    if i < list.count {
+        let read = guard_at(file, end, parameters, clocks, list.spot);
+        let mut next = list;
+        let spot = read.spot;
+        next.spot = spot;
+        let guard = read.guard;
+        next.guards[i] = guard;
+        next
+    } else {
+        list
+    }
+}
+
+// The guards at a spot: a count, 0 to 6, then the guards.
+pub fn guards_at(file: &[u8], end: usize, parameters: u8, clocks: u8, spot: Spot) -> GuardsAt
+    ensures { λ r. ⌜ r ≡ guardsAt (now (file .entry)) end parameters clocks spot ⌝ }
+{
+    let count = byte_field(file, end, 0, 6, spot);
+    let mut list = GuardsAt {
+        spot: count,
+        count: count.byte as usize,
+        guards: blank_guards(),
+    };
+    let mut i: usize = 0;
+    while i < 6 {
+        list = guard_step(file, end, parameters, clocks, i, list);
+        i += 1;
+    }
+    list
+}

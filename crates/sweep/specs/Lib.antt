@@ -1,0 +1,2 @@
+-- Walk has Sweep's rules at one valuation.
+pub mod Walk

@@ -1,0 +1,1 @@
+// Sweep: one valuation worked out in plain numbers.

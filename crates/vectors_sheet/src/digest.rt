@@ -1,0 +1,171 @@
+// Digests of a sheet and of what `body` hands out. Each number x takes a digest h to
+// (h * 1000003 + x + 2147483648) mod 1000000007, and h starts at 0.
+//
+// The numbers of a sheet are all its fields in the file's order, those of the places past a count
+// too. The numbers of the bodies are, for each kind from 0 to 5, the refusal's number and place (0
+// and 0 for none), the length of the part, and its bytes.
+use expr::Expr;
+use expr::Range;
+use expr::Ranges;
+use sheet::Guard;
+use sheet::Location;
+use sheet::Sheet;
+use sheet::Transition;
+
+// The digest with a number that is handed over with 2,147,483,648 added.
+fn mixed(h: u64, x: u64) -> u64 {
+    ((h % 1000000007) * 1000003 + x % 4294967296) % 1000000007
+}
+
+// The digest with a byte.
+fn with_byte(h: u64, x: u8) -> u64 {
+    mixed(h, (x as u64) + 2147483648)
+}
+
+// The digest with a count or a location's number.
+fn with_count(h: u64, x: usize) -> u64 {
+    mixed(h, (x as u64) % 4294967296 + 2147483648)
+}
+
+// The digest with a number that may be negative.
+fn with_number(h: u64, x: i32) -> u64 {
+    mixed(h, ((x as i64) + 2147483648) as u64)
+}
+
+// The digest with an end of a range.
+fn with_end(h: u64, x: i16) -> u64 {
+    with_number(h, x as i32)
+}
+
+// The digest with an expression: its constant and its coefficients.
+fn with_expr(h: u64, expr: Expr) -> u64 {
+    let constant = with_number(h, expr.constant);
+    let p = with_number(constant, expr.p);
+    let q = with_number(p, expr.q);
+    with_number(q, expr.r)
+}
+
+// The relation of a bound: 0 at most, 1 below; 2 if there is none, which no guard has.
+fn relation(none: bool, strict: bool) -> u8 {
+    if none {
+        2
+    } else if strict {
+        1
+    } else {
+        0
+    }
+}
+
+// The digest with a guard.
+fn with_guard(h: u64, guard: Guard) -> u64 {
+    let left = with_byte(h, guard.left);
+    let right = with_byte(left, guard.right);
+    let bound = guard.bound;
+    let relation = with_byte(right, relation(bound.none, bound.strict));
+    with_expr(relation, bound.expr)
+}
+
+// The digest with a count of guards and all six places.
+fn with_guards(h: u64, count: usize, guards: [Guard; 6]) -> u64 {
+    let mut mix = with_count(h, count);
+    for i in 0..6 {
+        mix = with_guard(mix, guards[i]);
+    }
+    mix
+}
+
+// The digest with a range.
+fn with_range(h: u64, range: Range) -> u64 {
+    let low = with_end(h, range.low);
+    with_end(low, range.high)
+}
+
+// The digest with the three ranges.
+fn with_ranges(h: u64, ranges: Ranges) -> u64 {
+    let p = with_range(h, ranges.p);
+    let q = with_range(p, ranges.q);
+    with_range(q, ranges.r)
+}
+
+// The digest with a location.
+fn with_location(h: u64, location: Location) -> u64 {
+    let guards = location.guards;
+    with_guards(h, location.count, guards)
+}
+
+// The digest with the locations.
+fn with_locations(h: u64, list: [Location; 16]) -> u64 {
+    let mut mix = h;
+    for i in 0..16 {
+        mix = with_location(mix, list[i]);
+    }
+    mix
+}
+
+// The digest with a transition.
+fn with_transition(h: u64, transition: Transition) -> u64 {
+    let from = with_count(h, transition.from);
+    let to = with_count(from, transition.to);
+    let resets = with_byte(to, transition.resets);
+    let guards = transition.guards;
+    with_guards(resets, transition.count, guards)
+}
+
+// The digest with the transitions.
+fn with_transitions(h: u64, list: [Transition; 32]) -> u64 {
+    let mut mix = h;
+    for i in 0..32 {
+        mix = with_transition(mix, list[i]);
+    }
+    mix
+}
+
+// The digest with the route.
+fn with_route(h: u64, list: [u8; 32]) -> u64 {
+    let mut mix = h;
+    for i in 0..32 {
+        mix = with_byte(mix, list[i]);
+    }
+    mix
+}
+
+// The digest of a sheet.
+pub fn digest(sheet: Sheet) -> u64 {
+    let ranges = sheet.ranges;
+    let location = sheet.location;
+    let transition = sheet.transition;
+    let route = sheet.route;
+    let parameters = with_ranges(with_count(0, sheet.parameters), ranges);
+    let clocks = with_count(parameters, sheet.clocks);
+    let locations = with_locations(with_count(clocks, sheet.locations), location);
+    let transitions = with_transitions(with_count(locations, sheet.transitions), transition);
+    with_route(with_count(transitions, sheet.moves), route)
+}
+
+// The digest with a part of a file: its length and its bytes.
+fn with_part(h: u64, part: &[u8]) -> u64 {
+    let mut mix = with_count(h, part.len());
+    let mut i = 0;
+    while i < part.len() {
+        mix = with_byte(mix, part[i]);
+        i += 1;
+    }
+    mix
+}
+
+// The digest with the body of a kind: why it is refused, and its part.
+fn with_body(h: u64, file: &[u8], kind: u8) -> u64 {
+    let refusal = fields::body_refusal(file, kind);
+    let number = with_count(h, fields::number(refusal));
+    let place = with_count(number, fields::place(refusal));
+    with_part(place, fields::body(file, kind))
+}
+
+// The digest of the bodies of the kinds 0 to 5.
+pub fn bodies(file: &[u8]) -> u64 {
+    let mut mix = 0;
+    for kind in 0..6 {
+        mix = with_body(mix, file, kind);
+    }
+    mix
+}

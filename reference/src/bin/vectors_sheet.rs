@@ -1,0 +1,122 @@
+//! Writes the stored test vectors of the sheet file and their results into the folder of the
+//! program that runs them, or, with `--check`, compares what is stored there with a fresh
+//! computation.
+//!
+//! Use: `vectors_sheet [--check] FOLDER`, or `vectors_sheet --list` to see which lines of the results
+//! belong to which family.
+
+use reference::sheet::Refusal;
+use reference::vectors::{families, limits, lines, store, stored, Family, LIMITS};
+use std::path::Path;
+use std::process::ExitCode;
+
+/// The stored files and their results, by name in the folder.
+const FILES: &str = "data/sheets.bin";
+const RESULTS: &str = "stdout";
+
+fn main() -> ExitCode {
+    let args: Vec<String> = std::env::args().skip(1).collect();
+    let words: Vec<&str> = args.iter().map(String::as_str).collect();
+    let done = match words[..] {
+        ["--list"] => list(),
+        ["--check", folder] => check(Path::new(folder)),
+        [folder] if !folder.starts_with('-') => write(Path::new(folder)),
+        _ => Err("use: vectors_sheet [--check] FOLDER, or --list".to_string()),
+    };
+    match done {
+        Ok(()) => ExitCode::SUCCESS,
+        Err(message) => {
+            eprintln!("vectors_sheet: {message}");
+            ExitCode::FAILURE
+        }
+    }
+}
+
+/// Prints each family with its first and last line of the results.
+fn list() -> Result<(), String> {
+    let mut first = 1;
+    for Family { name, files } in families() {
+        let last = first + files.len() - 1;
+        let bytes: usize = files.iter().map(Vec::len).sum();
+        println!("lines {first} to {last}: {name}, {bytes} bytes");
+        if name == LIMITS {
+            list_limits(first);
+        }
+        first = last + 1;
+    }
+    Ok(())
+}
+
+/// Prints what each case at a limit tries and what it must give, the first one at that line.
+fn list_limits(first: usize) {
+    for (line, case) in (first..).zip(limits::cases()) {
+        match case.result.refusal() {
+            None => println!("  line {line}: {}: taken", case.name),
+            Some(Refusal { number, place }) => {
+                println!(
+                    "  line {line}: {}: refused {number} place {place}",
+                    case.name
+                )
+            }
+        }
+    }
+}
+
+/// Writes the files and their results.
+fn write(folder: &Path) -> Result<(), String> {
+    let families = families();
+    let files = || families.iter().flat_map(|family| &family.files);
+    put(&folder.join(FILES), &store(files()))?;
+    put(&folder.join(RESULTS), lines(files()).as_bytes())?;
+    println!("vectors_sheet: {} files written", files().count());
+    Ok(())
+}
+
+/// Compares the stored files with those that would be written, and the stored results with those
+/// of the stored files. The error names the first difference.
+fn check(folder: &Path) -> Result<(), String> {
+    let families = families();
+    let files: Vec<&Vec<u8>> = families.iter().flat_map(|family| &family.files).collect();
+    let kept = stored(&get(&folder.join(FILES))?).ok_or("the last stored file is not whole")?;
+    let results = String::from_utf8(get(&folder.join(RESULTS))?)
+        .map_err(|_| "the stored results are not text")?;
+    same("file", &files, &kept.iter().collect::<Vec<_>>())?;
+    let fresh = lines(kept.iter());
+    same("result", &text_lines(&fresh), &text_lines(&results))?;
+    println!("vectors_sheet: {} stored results agree", kept.len());
+    Ok(())
+}
+
+/// The lines of a text, each with its line end if it has one.
+fn text_lines(text: &str) -> Vec<&str> {
+    text.split_inclusive('\n').collect()
+}
+
+/// Nothing if both lists are the same, and otherwise an error that names the first difference.
+fn same<T: PartialEq + std::fmt::Debug>(what: &str, fresh: &[T], kept: &[T]) -> Result<(), String> {
+    for (i, (x, y)) in fresh.iter().zip(kept).enumerate() {
+        if x != y {
+            let n = i + 1;
+            return Err(format!("{what} {n}: {x:?} is right, {y:?} is stored"));
+        }
+    }
+    if fresh.len() == kept.len() {
+        Ok(())
+    } else {
+        let (right, there) = (fresh.len(), kept.len());
+        Err(format!("{right} {what}s are right, {there} are stored"))
+    }
+}
+
+/// The bytes of a file, or why it cannot be read.
+fn get(path: &Path) -> Result<Vec<u8>, String> {
+    std::fs::read(path).map_err(|why| format!("{}: {why}", path.display()))
+}
+
+/// Writes bytes to a file, with its folder if that is missing.
+fn put(path: &Path, bytes: &[u8]) -> Result<(), String> {
+    let folder = path.parent().unwrap_or(Path::new("."));
+    std::fs::create_dir_all(folder)
+        .and_then(|()| std::fs::write(path, bytes))
+        .map_err(|why| format!("{}: {why}", path.display()))
+}
