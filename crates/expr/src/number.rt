@@ -44,7 +44,7 @@ pub enum Inequality {
 }
 
 // Whether a or b.
-pub fn either(a: bool, b: bool) -> bool
+pub(crate) fn either(a: bool, b: bool) -> bool
     ensures { λ r. ⌜ r ≡ (a || b) ⌝ }
 {
     if a {
@@ -54,21 +54,21 @@ pub fn either(a: bool, b: bool) -> bool
 }
 
 // x as a wider number.
-pub fn wide(x: i32) -> i64
+pub(crate) fn wide(x: i32) -> i64
     ensures { λ r. ⌜ r ≡ x ⌝ }
 {
     x as i64
 }
 
 // x as a wider number.
-pub fn wide16(x: i16) -> i64
+pub(crate) fn wide16(x: i16) -> i64
     ensures { λ r. ⌜ r ≡ x ⌝ }
 {
     x as i64
 }
 
 // x + y.
-pub fn sum(x: i32, y: i32) -> Number
+pub(crate) fn sum(x: i32, y: i32) -> Number
     ensures { λ r. ⌜ r .value ≡ x +ℤ y ⌝ }
 {
     Number {
@@ -77,7 +77,7 @@ pub fn sum(x: i32, y: i32) -> Number
 }
 
 // x - y.
-pub fn difference(x: i32, y: i32) -> Number
+pub(crate) fn difference(x: i32, y: i32) -> Number
     ensures { λ r. ⌜ r .value ≡ x -ℤ y ⌝ }
 {
     Number {
@@ -86,7 +86,7 @@ pub fn difference(x: i32, y: i32) -> Number
 }
 
 // x - y - 1.
-pub fn difference_less_one(x: i32, y: i32) -> Number
+pub(crate) fn difference_less_one(x: i32, y: i32) -> Number
     ensures { λ r. ⌜ r .value ≡ ((x -ℤ y) -ℤ pos 1) ⌝ }
 {
     Number {
@@ -95,7 +95,7 @@ pub fn difference_less_one(x: i32, y: i32) -> Number
 }
 
 // x · y.
-pub fn product(x: i32, y: i16) -> i64
+pub(crate) fn product(x: i32, y: i16) -> i64
     ensures { λ r. ⌜ r ≡ x *ℤ y ⌝ }
 {
     wide(x) * wide16(y)
@@ -135,7 +135,7 @@ fn narrow(x: Number) -> i32
 }
 
 // s as an expression, if each of its numbers lies from -limit to limit.
-pub fn judged(s: Sums, limit: i32) -> Inequality
+pub(crate) fn judged(s: Sums, limit: i32) -> Inequality
     ensures { λ r. ⌜ r ≡ inequality (judge limit (sums s)) ⌝ }
 {
     if all_within(s, limit) {

@@ -97,7 +97,7 @@ fn interval(r: Range, constant: i64, slope: i64) -> Range
 }
 
 // The low end of r.
-pub fn lowest(r: Range) -> i16
+pub(crate) fn lowest(r: Range) -> i16
     ensures { λ x. ⌜ x ≡ r .low ⌝ }
 {
     r.low
@@ -114,7 +114,7 @@ fn end(coefficient: i32, r: Range) -> i16
 }
 
 // The part of r where e ≥ 0 can still be met by p, the later parameters at their best.
-pub fn narrow_p(e: Expr, b: Ranges, r: Range) -> Range
+pub(crate) fn narrow_p(e: Expr, b: Ranges, r: Range) -> Range
     ensures { λ s. ⌜ s ≡ narrow (affine e) r (b .q ∷ b .r ∷ []) ⌝ }
 {
     let corner = Valuation {
@@ -126,7 +126,7 @@ pub fn narrow_p(e: Expr, b: Ranges, r: Range) -> Range
 }
 
 // The part of r where e ≥ 0 can still be met by q, p being at its lowest and r at its best.
-pub fn narrow_q(e: Expr, b: Ranges, r: Range) -> Range
+pub(crate) fn narrow_q(e: Expr, b: Ranges, r: Range) -> Range
     ensures { λ s. ⌜ s ≡ narrow (fix (b .p .low) (affine e)) r (b .r ∷ []) ⌝ }
 {
     let corner = Valuation {
@@ -138,7 +138,7 @@ pub fn narrow_q(e: Expr, b: Ranges, r: Range) -> Range
 }
 
 // The part of r where e ≥ 0 is met by r, p and q being at their lowest.
-pub fn narrow_r(e: Expr, b: Ranges, r: Range) -> Range
+pub(crate) fn narrow_r(e: Expr, b: Ranges, r: Range) -> Range
     ensures { λ s. ⌜ s ≡ narrow (fix (b .q .low) (fix (b .p .low) (affine e))) r [] ⌝ }
 {
     let corner = Valuation {
@@ -151,7 +151,7 @@ pub fn narrow_r(e: Expr, b: Ranges, r: Range) -> Range
 
 impl Range {
     // How many numbers the range has.
-    pub fn width(self) -> usize
+    pub(crate) fn width(self) -> usize
         ensures { λ n. ⌜ n ≡ width self ⌝ }
         ensures small { λ n. ⌜ n ≤ 65536 ⌝ }
     {
@@ -164,7 +164,7 @@ impl Range {
     }
 
     // The range of the one number at n, counted from 0.
-    pub fn point(self, n: usize) -> Range
+    pub(crate) fn point(self, n: usize) -> Range
         requires { ⌜ n < width self ⌝ }
         ensures { λ r. ⌜ r ≡ pointAt self n ⌝ }
     {
@@ -175,7 +175,7 @@ impl Range {
 
 impl Ranges {
     // The ranges with p's put in.
-    pub fn with_p(self, p: Range) -> Ranges
+    pub(crate) fn with_p(self, p: Range) -> Ranges
         ensures { λ b. ⌜ b ≡ record { p = p; q = self .q; r = self .r } ⌝ }
     {
         let q = self.q;
@@ -184,7 +184,7 @@ impl Ranges {
     }
 
     // The ranges with q's put in.
-    pub fn with_q(self, q: Range) -> Ranges
+    pub(crate) fn with_q(self, q: Range) -> Ranges
         ensures { λ b. ⌜ b ≡ record { p = self .p; q = q; r = self .r } ⌝ }
     {
         let p = self.p;

@@ -1,2 +1,12 @@
--- Walk has Sweep's rules at one valuation.
+-- What is read first: Walk (Sweep's rules at one valuation) and Claims (what is claimed of them against runs). Proofs has the theorems, Sizes
+-- why no number wraps, Tables what the code does step by step; the others serve these.
+pub mod Claims
+pub mod Moves
+pub mod Padding
+pub mod Proofs
+pub mod Right
+pub mod Route
+pub mod Sizes
+pub mod Steps
+pub mod Tables
 pub mod Walk

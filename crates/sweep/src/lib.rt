@@ -1,1 +1,3 @@
 // Sweep: one valuation worked out in plain numbers.
+mod matrix;
+mod walk;

@@ -1,0 +1,98 @@
+-- The cases of the code's steps on tables, with the branches' tests.
+use mathlib.Core.Path.{_≡_, refl, sym, _∙_, ap}
+use mathlib.Core.List.{List, [], _∷_}
+use mathlib.Core.Bool.{Bool, true, false}
+use Prim.Native.Nat.{ℕ, suc, _+_, _≤_, _<_, min}
+use native.Mathlib.Numerals.{add-one}
+use native.Mathlib.Omega.{arith}
+use borrow.Author.Tests.{lt-ltb, le-ltb}
+use lib.Dec.{ltb, leb, eqb}
+use lib.IntN.{ℤ}
+use lib.ListN.{length, getD, take, drop, length-take, drop-of-length-le}
+use lib.Seq.{drop-cons, getD-take}
+use Rattle.expr.specs.declared.weight.Weight.{Weight}
+use Rattle.sheet.specs.declared.Guard.{Guard}
+use Rattle.sweep.specs.Tables.{Table, zeroWeight, voidTable, entryOf, rowOf, isVoid, pick, sumC, tighterC, limitedEntry, limitedTable, guardedTable, guardTable, guardsTable, at}
+
+pub list5 : {A : Type 0} {a b c d e a′ b′ c′ d′ e′ : A} → a ≡ a′ → b ≡ b′ → c ≡ c′ → d ≡ d′ → e ≡ e′
+    → _≡_ {A = List A} (a ∷ b ∷ c ∷ d ∷ e ∷ []) (a′ ∷ b′ ∷ c′ ∷ d′ ∷ e′ ∷ [])
+list5 p q r s t = λ i. p i ∷ q i ∷ r i ∷ s i ∷ t i ∷ []
+
+module _ (past : Bool) (was s add via : Weight) (t : Bool) (h : past ≡ false) (ev : via ≡ sumC s add) (et : t ≡ tighterC via was) where
+  pub entry-via : t ≡ true → via ≡ limitedEntry past was s add
+  unfolding limitedEntry
+  entry-via ht =
+      let k : tighterC (sumC s add) was ≡ true = sym (ap (λ (x : Weight). tighterC x was) ev) ∙ sym et ∙ ht in
+      rw (h, k) ev
+
+  pub entry-was : t ≡ false → was ≡ limitedEntry past was s add
+  unfolding limitedEntry
+  entry-was ht =
+      let k : tighterC (sumC s add) was ≡ false = sym (ap (λ (x : Weight). tighterC x was) ev) ∙ sym et ∙ ht in
+      rw (h, k) refl
+
+-- ---- the rules for a guard
+module _ (m : Table) (clocks i j : ℕ) (e : Weight) where
+  pub guard-past-i : 4 < i → m ≡ guardedTable m clocks i j e
+  unfolding guardedTable
+  guard-past-i h = rw (lt-ltb 4 i h) refl
+
+  pub guard-past-j : i ≤ 4 → 4 < j → m ≡ guardedTable m clocks i j e
+  unfolding guardedTable
+  guard-past-j h k = rw (le-ltb 4 i h, lt-ltb 4 j k) refl
+
+  module _ (hi : i ≤ 4) (hj : j ≤ 4) (v : Bool) (ev : v ≡ isVoid m) where
+    pub guard-void : v ≡ true → m ≡ guardedTable m clocks i j e
+    unfolding guardedTable
+    guard-void h = rw (le-ltb 4 i hi, le-ltb 4 j hj, sym ev ∙ h) refl
+
+    module _ (hv : v ≡ false) (s : Weight) (t : Bool) (es : s ≡ sumC e (entryOf m j i)) (et : t ≡ tighterC s zeroWeight) where
+      cut : (b : Bool) → t ≡ b → tighterC (sumC e (entryOf m j i)) zeroWeight ≡ b
+      cut b h = sym (ap (λ (x : Weight). tighterC x zeroWeight) es) ∙ sym et ∙ h
+
+      pub guard-cut : t ≡ true → voidTable ≡ guardedTable m clocks i j e
+      unfolding guardedTable
+      guard-cut h = rw (le-ltb 4 i hi, le-ltb 4 j hj, sym ev ∙ hv, cut true h) refl
+
+      module _ (ht : t ≡ false) (u : Bool) (eu : u ≡ tighterC e (entryOf m i j)) where
+        pub guard-limited : u ≡ true → limitedTable m clocks i j e ≡ guardedTable m clocks i j e
+        unfolding guardedTable
+        guard-limited h = rw (le-ltb 4 i hi, le-ltb 4 j hj, sym ev ∙ hv, cut false ht, sym eu ∙ h) refl
+
+        pub guard-stays : u ≡ false → m ≡ guardedTable m clocks i j e
+        unfolding guardedTable
+        guard-stays h = rw (le-ltb 4 i hi, le-ltb 4 j hj, sym ev ∙ hv, cut false ht, sym eu ∙ h) refl
+
+-- ---- the loop over guards: what is left of the list takes the matrix to where the whole list takes it
+pub size-is : {A : Type 0} (n k most : ℕ) (xs : List A) → n ≡ min k most → length xs ≡ most → (n ≤ most) × (n ≡ length (take k xs))
+size-is n k most xs e l = (omega arith, rw (length-take k xs, l) e)
+
+module _ (clocks : ℕ) (v : List ℤ) (xs : List Guard) (k : ℕ) where
+  guards-cons : (l : List Guard) (g : Guard) (rest : List Guard) (m : Table) → l ≡ g ∷ rest → guardsTable m clocks v l ≡ guardsTable (guardTable m clocks v g) clocks v rest
+  unfolding guardsTable
+  guards-cons l g rest m h = rw h refl
+
+  pub guards-turn : (i : ℕ) (m n w : Table) (d : Guard) → i < length (take k xs) → guardsTable m clocks v (drop i (take k xs)) ≡ w
+      → n ≡ guardTable m clocks v (getD xs i d) → guardsTable n clocks v (drop (i + 1) (take k xs)) ≡ w
+  guards-turn i m n w d h e f =
+      let b : i < k = omega (arith, length-take k xs) in
+      rw (add-one i, f, ← getD-take k xs i d b)
+      (sym (guards-cons (drop i (take k xs)) (getD (take k xs) i d) (drop (suc i) (take k xs)) m (drop-cons (take k xs) i d h)) ∙ e)
+
+  pub guards-done : (i : ℕ) (m w : Table) → length (take k xs) ≤ i → guardsTable m clocks v (drop i (take k xs)) ≡ w → m ≡ w
+  unfolding guardsTable
+  guards-done i m w h e = rw (drop-of-length-le (take k xs) h) at e
+
+-- ---- indices
+pub at-below : (n i : ℕ) → i < n → i ≡ at n i
+at-below n i h = rw (lt-ltb i n h) refl
+
+pub at-past : (n i : ℕ) → n ≤ i → 0 ≡ at n i
+at-past n i h = rw (le-ltb i n h) refl
+
+pub at-fits : (n i : ℕ) → 0 < n → at n i < n
+at-fits n i h = by (ltb i n) refl
+  where
+    by : (b : Bool) → ltb i n ≡ b → pick b i 0 < n
+    by true e = omega (arith, borrow.Author.Tests.ltb-true i n e)
+    by false e = h

@@ -1,0 +1,159 @@
+-- What the code does, step by step, with its matrices as lists of rows. Coded says that this is Walk.
+use mathlib.Core.List.{List, [], _∷_}
+use mathlib.Core.Bool.{Bool, true, false}
+use Prim.Native.Nat.{ℕ, zero, suc, _/_, _%_}
+use lib.Dec.{ltb, leb, eqb}
+use lib.IntN.{ℤ, pos}
+use lib.ListN.{getD, set, take}
+use Rattle.expr.specs.Limit.{sumW, tighterW, saturated, atV}
+use Rattle.expr.specs.Three.{weighed, weightOf, limitOf}
+use Rattle.expr.specs.declared.weight.Weight.{Weight}
+use Rattle.sheet.specs.declared.Guard.{Guard}
+use Rattle.sheet.specs.declared.Location.{Location}
+use Rattle.sheet.specs.declared.Sheet.{Sheet}
+use Rattle.sheet.specs.declared.Transition.{Transition}
+use Rattle.sheet.specs.Route.{noTransition}
+use Rattle.sheet.specs.WellFormed.{noLocation}
+
+abbrev pub Table : Type 0
+Table = List (List Weight)
+
+abbrev pub zeroWeight : Weight
+zeroWeight = record { none = false; strict = false; value = pos 0 }
+
+abbrev pub zeroRow : List Weight
+zeroRow = zeroWeight ∷ zeroWeight ∷ zeroWeight ∷ zeroWeight ∷ zeroWeight ∷ []
+
+abbrev pub startTable : Table
+startTable = zeroRow ∷ zeroRow ∷ zeroRow ∷ zeroRow ∷ zeroRow ∷ []
+
+-- the void matrix: clock 0 is below itself
+abbrev pub voidTable : Table
+voidTable =
+    (record { none = false; strict = true; value = pos 0 } ∷ zeroWeight ∷ zeroWeight ∷ zeroWeight ∷ zeroWeight ∷ [])
+    ∷ zeroRow ∷ zeroRow ∷ zeroRow ∷ zeroRow ∷ []
+
+abbrev pub rowOf : Table → ℕ → List Weight
+rowOf m i = getD m i []
+
+abbrev pub entryOf : Table → ℕ → ℕ → Weight
+entryOf m i j = getD (getD m i []) j zeroWeight
+
+abbrev pub isVoid : Table → Bool
+isVoid m = entryOf m 0 0 .strict
+
+abbrev pub pick : {A : Type 0} → Bool → A → A → A
+pick true a b = a
+pick false a b = b
+
+-- the code's sum and test of weights
+abbrev pub sumC : Weight → Weight → Weight
+sumC a b = weightOf (sumW (saturated (weighed a)) (saturated (weighed b)))
+
+abbrev pub tighterC : Weight → Weight → Bool
+tighterC a b = tighterW (weighed a) (weighed b)
+
+unfoldable pub limitedEntry : Bool → Weight → Weight → Weight → Weight
+limitedEntry past was s add = pick past was (pick (tighterC (sumC s add) was) (sumC s add) was)
+
+unfoldable pub limitedRow : ℕ → List Weight → Weight → List Weight → List Weight
+limitedRow clocks old s add =
+    limitedEntry false (getD old 0 zeroWeight) s (getD add 0 zeroWeight)
+    ∷ limitedEntry (ltb clocks 1) (getD old 1 zeroWeight) s (getD add 1 zeroWeight)
+    ∷ limitedEntry (ltb clocks 2) (getD old 2 zeroWeight) s (getD add 2 zeroWeight)
+    ∷ limitedEntry (ltb clocks 3) (getD old 3 zeroWeight) s (getD add 3 zeroWeight)
+    ∷ limitedEntry (ltb clocks 4) (getD old 4 zeroWeight) s (getD add 4 zeroWeight)
+    ∷ []
+
+unfoldable pub limitedLine : Table → ℕ → ℕ → ℕ → ℕ → Weight → List Weight
+limitedLine m clocks k i j e = pick (ltb clocks k) (rowOf m k) (limitedRow clocks (rowOf m k) (sumC (entryOf m k i) e) (rowOf m j))
+
+unfoldable pub limitedTable : Table → ℕ → ℕ → ℕ → Weight → Table
+limitedTable m clocks i j e =
+    limitedLine m clocks 0 i j e ∷ limitedLine m clocks 1 i j e ∷ limitedLine m clocks 2 i j e ∷ limitedLine m clocks 3 i j e
+    ∷ limitedLine m clocks 4 i j e ∷ []
+
+-- the three rules for a guard, on a matrix that is not void
+unfoldable pub guardedTable : Table → ℕ → ℕ → ℕ → Weight → Table
+guardedTable m clocks i j e =
+    pick (ltb 4 i) m
+    (pick (ltb 4 j) m
+    (pick (isVoid m) m
+    (pick (tighterC (sumC e (entryOf m j i)) zeroWeight) voidTable (pick (tighterC e (entryOf m i j)) (limitedTable m clocks i j e) m))))
+
+abbrev pub noneWeight : Weight
+noneWeight = record { none = true; strict = false; value = pos 0 }
+
+unfoldable pub delayedRow : Bool → List Weight → List Weight
+delayedRow past row =
+    pick past row (noneWeight ∷ getD row 1 zeroWeight ∷ getD row 2 zeroWeight ∷ getD row 3 zeroWeight ∷ getD row 4 zeroWeight ∷ [])
+
+unfoldable pub delayedTable : Table → ℕ → Table
+delayedTable m clocks =
+    pick (isVoid m) m
+    (rowOf m 0 ∷ delayedRow (ltb clocks 1) (rowOf m 1) ∷ delayedRow (ltb clocks 2) (rowOf m 2) ∷ delayedRow (ltb clocks 3) (rowOf m 3)
+    ∷ delayedRow (ltb clocks 4) (rowOf m 4) ∷ [])
+
+unfoldable pub resetEntry : Bool → Bool → Weight → Weight → Weight
+resetEntry past same was top = pick past was (pick same was top)
+
+unfoldable pub resetRow : ℕ → ℕ → List Weight → List Weight → List Weight
+resetRow clocks r old top =
+    resetEntry false (eqb r 0) (getD old 0 zeroWeight) (getD top 0 zeroWeight)
+    ∷ resetEntry (ltb clocks 1) (eqb r 1) (getD old 1 zeroWeight) (getD top 1 zeroWeight)
+    ∷ resetEntry (ltb clocks 2) (eqb r 2) (getD old 2 zeroWeight) (getD top 2 zeroWeight)
+    ∷ resetEntry (ltb clocks 3) (eqb r 3) (getD old 3 zeroWeight) (getD top 3 zeroWeight)
+    ∷ resetEntry (ltb clocks 4) (eqb r 4) (getD old 4 zeroWeight) (getD top 4 zeroWeight)
+    ∷ []
+
+unfoldable pub resetLine : Table → ℕ → ℕ → ℕ → List Weight
+resetLine m clocks r k =
+    pick (ltb clocks k) (rowOf m k)
+    (pick (eqb k r) (resetRow clocks r (rowOf m k) (rowOf m 0)) (set (rowOf m k) r (getD (rowOf m k) 0 zeroWeight)))
+
+unfoldable pub resetTable : Table → ℕ → ℕ → Table
+resetTable m clocks r =
+    resetLine m clocks r 0 ∷ resetLine m clocks r 1 ∷ resetLine m clocks r 2 ∷ resetLine m clocks r 3 ∷ resetLine m clocks r 4 ∷ []
+
+unfoldable pub resetIf : Table → ℕ → ℕ → ℕ → Table
+resetIf m clocks r bit = pick (eqb bit 1) (pick (leb r clocks) (resetTable m clocks r) m) m
+
+-- in rising order; a void matrix stays
+unfoldable pub resetsTable : Table → ℕ → ℕ → Table
+resetsTable m clocks bits =
+    pick (isVoid m) m
+    (resetIf (resetIf (resetIf (resetIf m clocks 1 (bits % 2)) clocks 2 (bits / 2 % 2)) clocks 3 (bits / 4 % 2)) clocks 4 (bits / 8 % 2))
+
+-- a guard with v put in
+unfoldable pub guardTable : Table → ℕ → List ℤ → Guard → Table
+guardTable m clocks v g = guardedTable m clocks (g .left) (g .right) (weightOf (atV v (limitOf (g .bound))))
+
+-- guards in file order
+unfoldable pub guardsTable : Table → ℕ → List ℤ → List Guard → Table
+guardsTable m clocks v [] = m
+guardsTable m clocks v (g ∷ gs) = guardsTable (guardTable m clocks v g) clocks v gs
+
+unfoldable pub stayTable : Table → ℕ → List ℤ → Location → Table
+stayTable m clocks v here = guardsTable (delayedTable m clocks) clocks v (take (here .count) (here .guards))
+
+unfoldable pub moveTable : Table → ℕ → List ℤ → Transition → Table
+moveTable m clocks v t = resetsTable (guardsTable m clocks v (take (t .count) (t .guards))) clocks (t .resets)
+
+-- an index past the list's end stands for the first place: no accepted sheet has one
+abbrev pub at : ℕ → ℕ → ℕ
+at n i = pick (ltb i n) i 0
+
+unfoldable pub locationC : Sheet → ℕ → Location
+locationC s l = getD (s .location) (at 16 l) noLocation
+
+unfoldable pub transitionC : Sheet → ℕ → Transition
+transitionC s n = getD (s .transition) (at 32 n) noTransition
+
+unfoldable pub walkTable : Sheet → List ℤ → ℕ → List ℕ → Table → Table
+walkTable s v l [] m = stayTable m (s .clocks) v (locationC s l)
+walkTable s v l (n ∷ ns) m =
+    walkTable s v (transitionC s n .to) ns (moveTable (stayTable m (s .clocks) v (locationC s l)) (s .clocks) v (transitionC s n))
+
+-- the whole route
+unfoldable pub sweepTable : Sheet → List ℤ → Table
+sweepTable s v = walkTable s v 0 (take (s .moves) (s .route)) startTable
