@@ -12,7 +12,10 @@ use lib.ListN.{length, getD, take, drop, length-take, drop-of-length-le}
 use lib.Seq.{drop-cons, getD-take}
 use Rattle.expr.specs.declared.weight.Weight.{Weight}
 use Rattle.sheet.specs.declared.Guard.{Guard}
-use Rattle.sweep.specs.Tables.{Table, zeroWeight, voidTable, entryOf, rowOf, isVoid, pick, sumC, tighterC, limitedEntry, limitedTable, guardedTable, guardTable, guardsTable, at}
+use Rattle.sheet.specs.declared.Location.{Location}
+use Rattle.sheet.specs.declared.Sheet.{Sheet}
+use Rattle.sheet.specs.declared.Transition.{Transition}
+use Rattle.sweep.specs.Tables.{Table, zeroWeight, voidTable, entryOf, rowOf, isVoid, pick, sumC, tighterC, limitedEntry, limitedTable, guardedTable, guardTable, guardsTable, stayTable, moveTable, locationC, transitionC, walkTable, at}
 
 pub list5 : {A : Type 0} {a b c d e a′ b′ c′ d′ e′ : A} → a ≡ a′ → b ≡ b′ → c ≡ c′ → d ≡ d′ → e ≡ e′
     → _≡_ {A = List A} (a ∷ b ∷ c ∷ d ∷ e ∷ []) (a′ ∷ b′ ∷ c′ ∷ d′ ∷ e′ ∷ [])
@@ -96,3 +99,27 @@ at-fits n i h = by (ltb i n) refl
     by : (b : Bool) → ltb i n ≡ b → pick b i 0 < n
     by true e = omega (arith, borrow.Author.Tests.ltb-true i n e)
     by false e = h
+
+-- ---- the loop over the route: what is left of it takes the matrix to where the whole route takes it
+module _ (s : Sheet) (v : List ℤ) where
+  walk-cons : (ns : List ℕ) (n : ℕ) (rest : List ℕ) (l : ℕ) (m : Table) → ns ≡ n ∷ rest
+      → walkTable s v l ns m ≡ walkTable s v (transitionC s n .to) rest (moveTable (stayTable m (s .clocks) v (locationC s l)) (s .clocks) v (transitionC s n))
+  unfolding walkTable
+  walk-cons ns n rest l m h = rw h refl
+
+  pub walk-turn : (k l : ℕ) (m stayed next w : Table) (here : Location) (t : Transition) → k < length (take (s .moves) (s .route))
+      → walkTable s v l (drop k (take (s .moves) (s .route))) m ≡ w → t ≡ transitionC s (getD (s .route) k 0) → here ≡ locationC s l
+      → stayed ≡ stayTable m (s .clocks) v here → next ≡ moveTable stayed (s .clocks) v t
+      → walkTable s v (t .to) (drop (k + 1) (take (s .moves) (s .route))) next ≡ w
+  walk-turn k l m stayed next w here t h e et eh es en =
+      let b : k < s .moves = omega (arith, length-take (s .moves) (s .route)) in
+      rw (add-one k, en, es, eh, et, ← getD-take (s .moves) (s .route) k 0 b)
+      (sym (walk-cons (drop k (take (s .moves) (s .route))) (getD (take (s .moves) (s .route)) k 0) (drop (suc k) (take (s .moves) (s .route))) l m
+      (drop-cons (take (s .moves) (s .route)) k 0 h)) ∙ e)
+
+  pub walk-done : (k l : ℕ) (m r w : Table) (here : Location) → length (take (s .moves) (s .route)) ≤ k
+      → walkTable s v l (drop k (take (s .moves) (s .route))) m ≡ w → here ≡ locationC s l → r ≡ stayTable m (s .clocks) v here → r ≡ w
+  unfolding walkTable
+  walk-done k l m r w here h e eh er =
+      let f : stayTable m (s .clocks) v (locationC s l) ≡ w = rw (drop-of-length-le (take (s .moves) (s .route)) h) at e in
+      er ∙ ap (λ (p : Location). stayTable m (s .clocks) v p) eh ∙ f

@@ -91,6 +91,13 @@ fn transition_at(s: Sheet, n: usize) -> Transition
     s.transition[i]
 }
 
+// x as a wider number.
+fn wide(x: u8) -> usize
+    ensures { λ r. ⌜ r ≡ x ⌝ }
+{
+    x as usize
+}
+
 // What is left of all zero after the whole route.
 pub(crate) fn walk(s: Sheet, v: Valuation) -> [[Weight; 5]; 5]
     ensures { λ r. ⌜ r ≡ sweepTable s (point v) ⌝ }
@@ -100,8 +107,7 @@ pub(crate) fn walk(s: Sheet, v: Valuation) -> [[Weight; 5]; 5]
     let mut l = 0;
     let mut k = 0;
     while k < n {
-        let number = s.route[k] as usize;
-        let t = transition_at(s, number);
+        let t = transition_at(s, wide(s.route[k]));
         let next = moved(stay(m, s.clocks, v, location_at(s, l)), s.clocks, v, t);
         m = next;
         l = t.to;

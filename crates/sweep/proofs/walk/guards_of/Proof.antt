@@ -3,7 +3,7 @@ use Prim.Native.Nat.{_≤_, _-_}
 use Rattle.expr.specs.Three.{point}
 use Rattle.sweep.specs.Tables.{guardsTable}
 use borrow.Author.Needs.{needs}
-use lib.ListN.{length, take, drop, length-map}
+use lib.ListN.{length, take, drop}
 use mathlib.Core.Path.{_≡_, refl}
 use native.Mathlib.Omega.{arith}
 use Rattle.sweep.proofs.Steps.{size-is, guards-turn, guards-done}
@@ -23,7 +23,7 @@ at-most-requires c κs = search needs
 loop-holds : tie.Need-loop-holds Inv-loop μ-loop
 loop-holds c = 
     let a = c .before .args in
-    let l : length (a .t5) ≡ 6 = simp length-map at (c .before .good .1 .1 .1 .1 .0 .1 .0 .1) in
+    let l : length (a .t5) ≡ 6 = search needs in
     let h = size-is _ (a .count) 6 (a .t5) (c .at-most .ensures) l in
     (h .0, h .1, refl)
 

@@ -1,0 +1,243 @@
+// Families of systems to measure.
+use crate::random::Random;
+use crate::system::{Expr, System, MOST};
+
+const CUBE: [(i16, i16); 3] = [(0, 63), (0, 63), (0, 63)];
+
+fn value(e: &Expr, v: [i16; 3]) -> i64 {
+    e[0] as i64 + e[1] as i64 * v[0] as i64 + e[2] as i64 * v[1] as i64 + e[3] as i64 * v[2] as i64
+}
+
+// All valuations of the ranges, in lexicographic order.
+fn valuations(ranges: [(i16, i16); 3]) -> Vec<[i16; 3]> {
+    let [p, q, r] = ranges;
+    let mut all = Vec::new();
+    for x in p.0..=p.1 {
+        for y in q.0..=q.1 {
+            all.extend((r.0..=r.1).map(|z| [x, y, z]));
+        }
+    }
+    all
+}
+
+// A random half-space through a point of the ranges; none of its three numbers is past `most`.
+fn half_space(random: &mut Random, ranges: [(i16, i16); 3], most: i64) -> Expr {
+    let [p, q, r] = [0; 3].map(|_| random.within(-most, most) as i32);
+    let [x, y, z] = ranges.map(|(low, high)| random.within(low as i64, high as i64) as i32);
+    [-(p * x + q * y + r * z), p, q, r]
+}
+
+// The half-space with the point v put on its border.
+fn through(random: &mut Random, v: [i16; 3], most: i64) -> Expr {
+    let [p, q, r] = [0; 3].map(|_| random.within(-most, most) as i32);
+    [-(p * v[0] as i32 + q * v[1] as i32 + r * v[2] as i32), p, q, r]
+}
+
+// What is left of a list of valuations under one more inequality.
+fn kept(left: &[[i16; 3]], e: &Expr) -> usize {
+    left.iter().filter(|&&v| value(e, v) >= 0).count()
+}
+
+// Inequalities from `draw`, each of which cuts something off, until nothing is left: at least `least` of them, and at most 25.
+// All but the last cut gently; then one that ends it is looked for, and where none is found soon, one that halves.
+fn until_nothing(least: usize, mut draw: impl FnMut() -> Expr) -> System {
+    loop {
+        let mut left = valuations(CUBE);
+        let mut list = Vec::new();
+        let mut tries = 0;
+        while list.len() < MOST && !left.is_empty() && tries < 2000 {
+            tries += 1;
+            let e = draw();
+            let k = kept(&left, &e);
+            let gentle = k < left.len() && k * 4 >= left.len() * 3;
+            let ending = k == 0 || (tries > 500 && k * 2 < left.len());
+            let last = list.len() + 1 >= least;
+            if (last && ending) || (!last && gentle) {
+                left.retain(|&v| value(&e, v) >= 0);
+                list.push(e);
+                tries = 0;
+            }
+        }
+        if left.is_empty() {
+            return System { ranges: CUBE, list };
+        }
+    }
+}
+
+// Random half-spaces until nothing is left.
+fn without_solution(random: &mut Random, least: usize, most: i64) -> System {
+    until_nothing(least, || half_space(random, CUBE, most))
+}
+
+// An expression and its opposite, -e - 1 ≥ 0, behind other inequalities that leave the middle.
+fn opposites(random: &mut Random, inequalities: usize) -> System {
+    let mut list = many_solutions(random, inequalities - 2).list;
+    let e = through(random, [32, 32, 32], 9);
+    list.extend([e, [-1 - e[0], -e[1], -e[2], -e[3]]]);
+    System { ranges: CUBE, list }
+}
+
+// Half-spaces that leave only valuations in the last part of the order.
+fn late_solution(random: &mut Random, inequalities: usize) -> System {
+    let v = [60, 50, 40].map(|low| random.within(low, 63) as i16);
+    let mut list = vec![[-(v[0] as i32), 1, 0, 0], [-(v[1] as i32), 0, 1, 0]];
+    while list.len() < inequalities {
+        let mut e = through(random, v, 9);
+        e[0] += random.within(0, 20) as i32;
+        list.push(e);
+    }
+    System { ranges: CUBE, list }
+}
+
+// Half-spaces around the middle, far enough from it that many valuations are left.
+fn many_solutions(random: &mut Random, inequalities: usize) -> System {
+    let mut list = Vec::new();
+    while list.len() < inequalities {
+        let mut e = through(random, [32, 32, 32], 9);
+        e[0] += random.within(100, 400) as i32;
+        list.push(e);
+    }
+    System { ranges: CUBE, list }
+}
+
+// Differences of two parameters and bounds of one, as clocks give them: coefficients are -1, 0 and 1.
+fn difference(random: &mut Random) -> Expr {
+    let mut e = [random.within(-20, 20) as i32, 0, 0, 0];
+    let first = random.within(1, 3) as usize;
+    let second = random.within(1, 3) as usize;
+    e[first] += 1;
+    e[second] -= 1;
+    e
+}
+
+// Such differences until nothing is left.
+fn differences(random: &mut Random, least: usize) -> System {
+    until_nothing(least, || difference(random))
+}
+
+// The inequalities of a system again and again, up to 25.
+fn repeated(list: &[Expr]) -> Vec<Expr> {
+    list.iter().copied().cycle().take(MOST).collect()
+}
+
+// Two inequalities that say that an expression is 0.
+fn zero(e: Expr) -> [Expr; 2] {
+    [e, e.map(|x| -x)]
+}
+
+// Systems in which the best of the later parameters says little, so that most branches are entered in vain.
+fn contrived() -> Vec<System> {
+    let sums: [&[Expr]; 6] = [
+        // an even sum is odd
+        &zero([-189, 2, 2, 2]),
+        // the same without p, so that each p is tried
+        &zero([-63, 0, 2, 2]),
+        // no p and no q: each pair is tried for an r that is never there
+        &zero([-63, 0, 0, 2]),
+        // each pair leaves half a number for r
+        &zero([-189, 4, 6, 2]),
+        // two planes that meet in no whole point
+        &[[-95, 1, 1, 1], [94, -1, -1, 1], [94, 1, -1, -1], [-95, -1, 1, -1], [31, 0, 0, -1]],
+        // r lies both above and below a middle that each pair shifts
+        &[[-33, 1, -1, 2], [32, -1, 1, -2]],
+    ];
+    let mut all = Vec::new();
+    for list in sums {
+        all.push(System { ranges: CUBE, list: list.to_vec() });
+        all.push(System { ranges: CUBE, list: repeated(list) });
+    }
+    // harmless inequalities first, so that the one that decides comes last
+    for (seed, most) in [(1, 1), (2, 9), (3, 1000)] {
+        let random = &mut Random(seed);
+        let mut list = Vec::new();
+        while list.len() < MOST - 2 {
+            let mut e = through(random, [32, 32, 32], most);
+            e[0] += 100 * most as i32;
+            list.push(e);
+        }
+        list.extend(zero([-63, 0, 0, 2]));
+        all.push(System { ranges: CUBE, list });
+    }
+    all
+}
+
+// Small and large coefficients, as random as the other systems, over other ranges.
+fn other_ranges(random: &mut Random) -> System {
+    let mut ranges = [(0, 0); 3];
+    for range in &mut ranges {
+        let low = random.within(-40, 40);
+        let width = [0, 0, 1, 2, 7, 31][random.within(0, 5) as usize];
+        *range = (low as i16, (low + width) as i16);
+    }
+    let count = random.within(0, 12);
+    let mut list = Vec::new();
+    for _ in 0..count {
+        let most = [1, 9, 10_000][random.within(0, 2) as usize];
+        list.push(half_space(random, ranges, most));
+    }
+    System { ranges, list }
+}
+
+// Edges: nothing to try, one valuation, the ends of the numbers.
+fn edges() -> Vec<System> {
+    let one = [(0, 0); 3];
+    let empty = [(0, 0), (1, 0), (0, 0)];
+    let ends = [(i16::MIN, i16::MIN + 1), (i16::MAX - 1, i16::MAX), (0, 0)];
+    let wide = [i32::MIN, i32::MAX, i32::MAX, i32::MIN];
+    let mut all = Vec::new();
+    for ranges in [one, empty, ends] {
+        for list in [vec![], vec![[0; 4]], vec![[-1, 0, 0, 0]], vec![wide; MOST], vec![[i32::MAX; 4], [i32::MIN; 4]]] {
+            all.push(System { ranges, list });
+        }
+    }
+    all
+}
+
+pub enum Question {
+    First,
+    Count,
+}
+
+pub struct Family {
+    pub name: &'static str,
+    pub question: Question,
+    // Whether no system of the family has a solution and none is contrived: what the time limit is about.
+    pub judged: bool,
+    pub systems: Vec<System>,
+}
+
+fn family(name: &'static str, question: Question, judged: bool, systems: Vec<System>) -> Family {
+    Family { name, question, judged, systems }
+}
+
+// All families, with n systems each where they are random.
+pub fn all(n: usize) -> Vec<Family> {
+    use Question::{Count, First};
+    let random = &mut Random(2024);
+    let sizes = |i: usize| 3 + i % (MOST - 2);
+    let planes: Vec<System> = (0..n).map(|i| without_solution(random, sizes(i), 9)).collect();
+    let steep: Vec<System> = (0..n).map(|i| without_solution(random, sizes(i), 1000)).collect();
+    let clocks: Vec<System> = (0..n).map(|i| differences(random, 2 + i % 6)).collect();
+    let padded: Vec<System> = planes.iter().map(|s| System { ranges: CUBE, list: repeated(&s.list) }).collect();
+    let pairs: Vec<System> = (0..n).map(|i| opposites(random, sizes(i))).collect();
+    let late: Vec<System> = (0..n).map(|i| late_solution(random, sizes(i))).collect();
+    let many: Vec<System> = (0..n).map(|i| many_solutions(random, sizes(i))).collect();
+    let others: Vec<System> = (0..n * 10).map(|_| other_ranges(random)).collect();
+    vec![
+        family("no solution, coefficients to 9", First, true, planes.clone()),
+        family("no solution, coefficients to 1000", First, true, steep),
+        family("no solution, differences", First, true, clocks),
+        family("no solution, 25 by repetition", First, true, padded),
+        family("no solution, e and its opposite", First, true, pairs),
+        family("no solution, count", Count, true, planes),
+        family("found late", First, false, late),
+        family("many solutions, first", First, false, many.clone()),
+        family("many solutions, count", Count, false, many),
+        family("contrived, first", First, false, contrived()),
+        family("contrived, count", Count, false, contrived()),
+        family("other ranges, first", First, false, others.clone()),
+        family("other ranges, count", Count, false, others),
+        family("edges, first", First, false, edges()),
+        family("edges, count", Count, false, edges()),
+    ]
+}

@@ -1,0 +1,56 @@
+// The two searches: the proved one, and a plain scan over all valuations in lexicographic order.
+use crate::system::{Expr, System};
+
+mod proved {
+    extern "C" {
+        pub fn search_first(input: *const u8, length: usize) -> i64;
+        pub fn search_count(input: *const u8, length: usize) -> i64;
+    }
+}
+
+// The first valuation, packed, or -1.
+pub fn first(input: &[u8]) -> i64 {
+    // The function reads the slice, and asks nothing of its contents.
+    unsafe { proved::search_first(input.as_ptr(), input.len()) }
+}
+
+// How many valuations there are.
+pub fn count(input: &[u8]) -> i64 {
+    // As above.
+    unsafe { proved::search_count(input.as_ptr(), input.len()) }
+}
+
+fn holds(list: &[Expr], v: [i16; 3]) -> bool {
+    list.iter().all(|e| e[0] as i64 + e[1] as i64 * v[0] as i64 + e[2] as i64 * v[1] as i64 + e[3] as i64 * v[2] as i64 >= 0)
+}
+
+fn packed(v: [i16; 3]) -> i64 {
+    v.iter().fold(0, |sum, &x| sum * 65536 + (x as i64 + 32768))
+}
+
+pub fn scan_first(s: &System) -> i64 {
+    let [p, q, r] = s.ranges;
+    for x in p.0..=p.1 {
+        for y in q.0..=q.1 {
+            for z in r.0..=r.1 {
+                if holds(&s.list, [x, y, z]) {
+                    return packed([x, y, z]);
+                }
+            }
+        }
+    }
+    -1
+}
+
+pub fn scan_count(s: &System) -> i64 {
+    let [p, q, r] = s.ranges;
+    let mut total = 0;
+    for x in p.0..=p.1 {
+        for y in q.0..=q.1 {
+            for z in r.0..=r.1 {
+                total += holds(&s.list, [x, y, z]) as i64;
+            }
+        }
+    }
+    total
+}
