@@ -56,7 +56,14 @@ loop-less : tie.Need-loop-less Inv-loop μ-loop
 loop-less c = omega arith
 
 loop-again : tie.Need-loop-again Inv-loop μ-loop
-loop-again c = ?la
+loop-again c = 
+    let a = c .before .before .before .before .before .before .before .before .before .before .args in
+    let i = c .before .before .before .before .before .before .before .loop in
+    let v = i .inv in
+    (v .0, v .1,
+      walk-turn (a .t1) (point (a .v)) (i .k) (i .l) (i .m) _ _ _ _ _ (omega arith) (v .2)
+      (c .before .before .before .transition-at .ensures ∙ ap (λ (n : ℕ). transitionC (a .t1) n) (c .before .before .before .before .wide .ensures))
+      (c .before .before .location-at .ensures) (c .before .stay .ensures) (c .moved .ensures))
 
 location-at-requires-2 : tie.Need-location-at-requires-2 Inv-loop μ-loop
 location-at-requires-2 c κs = search needs
