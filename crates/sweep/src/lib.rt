@@ -1,3 +1,27 @@
-// Sweep: one valuation worked out in plain numbers.
+// Sweep: one valuation of a sheet's parameters worked out in plain numbers.
+//
+// The contract of `sweep` is an equation with `replyOf` of specs/Reply, for every file and every three numbers; specs/Claims says what that
+// reply is worth: void exactly if no run exists, and else the matrix of tightest bounds over the end states of all runs.
 mod matrix;
+mod reply;
 mod walk;
+pub use reply::Answer;
+pub use reply::Reply;
+pub use reply::Row;
+pub use reply::number;
+pub use reply::place;
+ghost use mathlib.Core.Path.{_≡_};
+ghost use Rattle.sweep.specs.Reply.{replyOf};
+
+// What Sweep replies to a sheet file and three numbers, one for each parameter; 0 for one that the sheet lacks.
+pub fn sweep(file: &[u8], p: i64, q: i64, r: i64) -> Reply
+    ensures { λ x. ⌜ x ≡ replyOf (now (file .entry)) p q r ⌝ }
+{
+    let reading = sheet::read(file);
+    let refusal = reading.refusal;
+    let s = reading.sheet;
+    if fields::number(refusal) == 0 {
+        return reply::reply_for(s, p, q, r);
+    }
+    reply::blank(Answer::Refused(refusal))
+}
