@@ -10,29 +10,29 @@ use borrow.Author.Tests.{ltb-true, ltb-false}
 use mir.Syntax.{w16, w32}
 use mir.Val.{Fits, SFits, toZ, ofZ}
 use mir.Facts.{sfits-widen, toZ-pos, toZ-ofZ}
-use Rattle.sheet.specs.Guards.{numberOf}
+use Rattle.sheet.specs.Guards.{signedOf}
 
 small : (b : Bool) (w : ℕ) → ltb w 32768 ≡ b → w < 65536 → mag (cond b (negsuc (32768 - suc w)) (pos (w - 32768))) < 32768
 small true w e h = omega (arith, ltb-true w 32768 e)
 small false w e h = omega (arith, ltb-false w 32768 e)
 
 -- the number fits 16 bits
-pub number-short : (w : ℕ) → Fits w16 w → SFits w16 (numberOf w)
-unfolding numberOf
+pub number-short : (w : ℕ) → Fits w16 w → SFits w16 (signedOf w)
+unfolding signedOf
 number-short w f = record { sfits = small (ltb w 32768) w refl (f .fits) }
 
 -- and 32 bits
-pub number-wide : (w : ℕ) → Fits w16 w → SFits w32 (numberOf w)
+pub number-wide : (w : ℕ) → Fits w16 w → SFits w32 (signedOf w)
 number-wide w f = sfits-widen _ (number-short w f)
 
 -- the sum that the code forms is the number
-pub code-number : (w : ℕ) → Fits w16 w → toZ w32 w -ℤ pos 32768 ≡ numberOf w
-unfolding numberOf
+pub code-number : (w : ℕ) → Fits w16 w → toZ w32 w -ℤ pos 32768 ≡ signedOf w
+unfolding signedOf
 code-number w f = ap (λ (z : ℤ). z -ℤ pos 32768) (toZ-pos w32 {n = w} (omega arith))
 
 -- its bits stand for it, at 32 bits and at 16
-pub kept-wide : (w : ℕ) → Fits w16 w → toZ w32 (ofZ w32 (numberOf w)) ≡ numberOf w
+pub kept-wide : (w : ℕ) → Fits w16 w → toZ w32 (ofZ w32 (signedOf w)) ≡ signedOf w
 kept-wide w f = toZ-ofZ (number-wide w f)
 
-pub kept-short : (w : ℕ) → Fits w16 w → toZ w16 (ofZ w16 (numberOf w)) ≡ numberOf w
+pub kept-short : (w : ℕ) → Fits w16 w → toZ w16 (ofZ w16 (signedOf w)) ≡ signedOf w
 kept-short w f = toZ-ofZ (number-short w f)

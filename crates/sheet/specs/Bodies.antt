@@ -18,13 +18,13 @@ use Rattle.sheet.specs.declared.bodies.LocationsAt.{LocationsAt}
 use Rattle.sheet.specs.declared.bodies.TransitionAt.{TransitionAt}
 use Rattle.sheet.specs.declared.bodies.TransitionsAt.{TransitionsAt}
 use Rattle.sheet.specs.declared.bodies.RouteAt.{RouteAt}
-use Rattle.sheet.specs.Guards.{numberField, numberOf, blankGuards, guardsAt}
+use Rattle.sheet.specs.Guards.{numberField, signedOf, blankGuards, guardsAt}
 
 -- Body 1: count of allowances, 0 to 3; for each, lowest and highest
 
 -- lowest and highest of one allowance
 unfoldable pub rangeOf : ℕ → ℕ → Range
-rangeOf low high = record { low = numberOf low; high = numberOf high }
+rangeOf low high = record { low = signedOf low; high = signedOf high }
 
 -- lowest ≤ highest, difference ≤ 63
 unfoldable pub highestRight : ℕ → ℕ → Bool

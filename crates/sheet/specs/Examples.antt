@@ -13,7 +13,7 @@ use Rattle.fields.specs.Contents.{sized, entryField, headOf, oneOf, firstOf, tw
 use Rattle.sheet.specs.declared.Guard.{Guard}
 use Rattle.sheet.specs.declared.Reading.{Reading}
 use Rattle.sheet.specs.declared.Sheet.{Sheet}
-use Rattle.sheet.specs.Guards.{numberOf, exprOf, boundOf, oneZero, rightField, coefficientField, guardAt, blankGuard, blankGuards, guardStep, guardsAt}
+use Rattle.sheet.specs.Guards.{signedOf, exprOf, boundOf, oneZero, rightField, coefficientField, guardAt, blankGuard, blankGuards, guardStep, guardsAt}
 use Rattle.sheet.specs.Bodies.{rangeOf, highestRight, highestField, rangeAt, parametersAt, blankLocation, blankLocations, locationStep, locationsRead, locationsAt, belowField, resetsRight, resetsField, transitionAt, blankTransition, blankTransitions, transitionStep, transitionsRead, transitionsAt, routeStep, routeRead, routeAt}
 use Rattle.sheet.specs.Route.{endsAt, linkStep, linksOf}
 use Rattle.sheet.specs.File.{blankRange, blankSheet, refusedBy, bodiesOf, judgedRoute, judgedBodies, readOf}
@@ -89,7 +89,7 @@ pub record Examples : Type 0 where
   pub no-such-move : readOf (set sheetA 61 1) .refusal ≡ Body 61
 
 pub examples : Examples
-unfolding sheetA contentsA limitP limitThree guardP guardThree readA bare shifted judged byteTaken wordTaken signedTaken byteField wordField signedField finished turns sized entryField headOf oneOf firstOf twoOf secondOf threeOf thirdOf fourOf contentsOf numberOf exprOf boundOf oneZero rightField coefficientField guardAt blankGuard blankGuards guardStep guardsAt rangeOf highestRight highestField rangeAt parametersAt blankLocation blankLocations locationStep locationsRead locationsAt belowField resetsRight resetsField transitionAt blankTransition blankTransitions transitionStep transitionsRead transitionsAt routeStep routeRead routeAt endsAt linkStep linksOf blankSheet refusedBy bodiesOf judgedRoute judgedBodies readOf
+unfolding sheetA contentsA limitP limitThree guardP guardThree readA bare shifted judged byteTaken wordTaken signedTaken byteField wordField signedField finished turns sized entryField headOf oneOf firstOf twoOf secondOf threeOf thirdOf fourOf contentsOf signedOf exprOf boundOf oneZero rightField coefficientField guardAt blankGuard blankGuards guardStep guardsAt rangeOf highestRight highestField rangeAt parametersAt blankLocation blankLocations locationStep locationsRead locationsAt belowField resetsRight resetsField transitionAt blankTransition blankTransitions transitionStep transitionsRead transitionsAt routeStep routeRead routeAt endsAt linkStep linksOf blankSheet refusedBy bodiesOf judgedRoute judgedBodies readOf
 examples =
     record {
       sheet-a = refl;

@@ -24,12 +24,12 @@ abbrev pub zeroField : List ℕ → ℕ → Spot → Spot
 zeroField s end spot = signedField s end 32768 32768 spot
 
 -- the number of a signed field
-unfoldable pub numberOf : ℕ → ℤ
-numberOf word = pos word -ℤ pos 32768
+unfoldable pub signedOf : ℕ → ℤ
+signedOf word = pos word -ℤ pos 32768
 
 -- constant and three coefficients
 unfoldable pub exprOf : ℕ → ℕ → ℕ → ℕ → Expr
-exprOf constant p q r = record { constant = numberOf constant; p = numberOf p; q = numberOf q; r = numberOf r }
+exprOf constant p q r = record { constant = signedOf constant; p = signedOf p; q = signedOf q; r = signedOf r }
 
 -- relation 0 is ≤, 1 is <; a limit's bound is never none
 unfoldable pub boundOf : ℕ → Expr → Bound

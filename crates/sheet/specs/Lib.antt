@@ -5,5 +5,8 @@ pub mod File
 pub mod Filled
 pub mod WellFormed
 pub mod Numbers
+pub mod GuardLaws
+pub mod BodyLaws
+pub mod RouteLaws
 pub mod Accepted
 pub mod Examples

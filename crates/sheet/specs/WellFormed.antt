@@ -19,7 +19,7 @@ use Rattle.sheet.specs.Route.{noTransition}
 use Rattle.sheet.specs.File.{blankRange}
 use Rattle.sheet.specs.Filled.{Filled}
 
--- what is read past a list's end
+-- the limit that is read past a list's end
 abbrev pub noGuard : Guard
 noGuard =
     record {
@@ -28,6 +28,7 @@ noGuard =
       bound = record { none = false; strict = false; expr = record { constant = pos 0; p = pos 0; q = pos 0; r = pos 0 } };
     }
 
+-- the stage that is read past a list's end
 abbrev pub noLocation : Location
 noLocation = record { count = 0; guards = [] }
 
@@ -66,6 +67,7 @@ pub record GuardRight (parameters clocks : ℕ) (guard : Guard) : Type 0 where
 abbrev pub GuardsRight : ℕ → ℕ → ℕ → List Guard → Type 0
 GuardsRight parameters clocks count guards = Filled 6 count noGuard blankGuard (GuardRight parameters clocks) guards
 
+-- a stage: its standing limits
 abbrev pub LocationRight : ℕ → ℕ → Location → Type 0
 LocationRight parameters clocks location = GuardsRight parameters clocks (location .count) (location .guards)
 
@@ -81,7 +83,7 @@ unfoldable pub arrivedAt : List Transition → List ℕ → ℕ → ℕ
 arrivedAt transition route zero = 0
 arrivedAt transition route (suc k) = getD transition (getD route k 0) noTransition .to
 
--- an accepted sheet
+-- an accepted sheet: its counts, ranges, stages, moves and route, and the route links
 pub record WellFormed (sheet : Sheet) : Type 0 where
   pub parameters : sheet .parameters ≤ 3
   pub p : RangeRight (sheet .parameters) 0 (sheet .ranges .p)

@@ -23,7 +23,7 @@ ghost use Rattle.sheet.specs.Bodies.{
   blankLocations,
   blankTransitions,
 };
-ghost use Rattle.sheet.specs.Guards.{numberOf};
+ghost use Rattle.sheet.specs.Guards.{signedOf};
 use super::Location;
 use super::Transition;
 use super::guards::blank_guards;
@@ -83,7 +83,7 @@ pub struct RouteAt {
 
 // The number of a signed field that is the end of a range, from the number plus 32,768.
 fn short_of(word: u16) -> i16
-    ensures { λ r. ⌜ r ≡ numberOf word ⌝ }
+    ensures { λ r. ⌜ r ≡ signedOf word ⌝ }
 {
     ((word as i32) - 32768) as i16
 }

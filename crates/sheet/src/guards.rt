@@ -2,7 +2,7 @@
 ghost use mathlib.Core.Path.{_≡_};
 ghost use Prim.Native.Nat.{_<_};
 ghost use Rattle.sheet.specs.Guards.{
-  numberOf,
+  signedOf,
   exprOf,
   oneZero,
   boundOf,
@@ -38,8 +38,8 @@ pub struct GuardsAt {
 }
 
 // The number of a signed field, from the number plus 32,768.
-fn number_of(word: u16) -> i32
-    ensures { λ r. ⌜ r ≡ numberOf word ⌝ }
+fn signed_of(word: u16) -> i32
+    ensures { λ r. ⌜ r ≡ signedOf word ⌝ }
 {
     (word as i32) - 32768
 }
@@ -49,10 +49,10 @@ fn expr_of(constant: u16, p: u16, q: u16, r: u16) -> Expr
     ensures { λ e. ⌜ e ≡ exprOf constant p q r ⌝ }
 {
     Expr {
-        constant: number_of(constant),
-        p: number_of(p),
-        q: number_of(q),
-        r: number_of(r),
+        constant: signed_of(constant),
+        p: signed_of(p),
+        q: signed_of(q),
+        r: signed_of(r),
     }
 }
 

@@ -1,8 +1,8 @@
--- `guards::number_of` meets its contract: the sum is the definition's, and its bits stand for it. Assumes nothing.
+-- `guards::signed_of` meets its contract: the sum is the definition's, and its bits stand for it. Assumes nothing.
 use Rattle.sheet.proofs.Signed.{code-number, number-wide, kept-wide}
 use borrow.Author.Needs.{needs}
-use Rattle.sheet.proofs.guards.number_of.Statement.{statement}
-use Rattle.sheet.proofs.guards.number_of.Tie as tie
+use Rattle.sheet.proofs.guards.signed_of.Statement.{statement}
+use Rattle.sheet.proofs.guards.signed_of.Tie as tie
 
 cast-result : tie.Need-cast-result
 cast-result c = search needs
@@ -13,5 +13,5 @@ sub-result c = rw (code-number _ (c .fits .word)) (number-wide _ (c .fits .word)
 returns : tie.Need-returns
 returns c = rw (code-number _ (c .fits .word)) (kept-wide _ (c .fits .word))
 
-pub number-of-spec : {M : Type 1} → statement M
-number-of-spec = tie.close (tie.spec cast-result sub-result returns)
+pub signed-of-spec : {M : Type 1} → statement M
+signed-of-spec = tie.close (tie.spec cast-result sub-result returns)
