@@ -49,13 +49,14 @@ sheet-faithful s f p q r = by (inRange (s .ranges .p) p) (inRange (s .ranges .q)
   where
     by : (a b c : Bool) → inRange (s .ranges .p) p ≡ a → inRange (s .ranges .q) q ≡ b → inRange (s .ranges .r) r ≡ c
         → pick a (pick b (pick c (sweptTable (sweepTable s (p ∷ q ∷ r ∷ []))) (blankReply (answer.Outside 2))) (blankReply (answer.Outside 1))) (blankReply (answer.Outside 0))
-          ≡ pick a (pick b (pick c (swept (sweepAt s (p ∷ q ∷ r ∷ []))) (blankReply (answer.Outside 2))) (blankReply (answer.Outside 1))) (blankReply (answer.Outside 0))
+        ≡ pick a (pick b (pick c (swept (sweepAt s (p ∷ q ∷ r ∷ []))) (blankReply (answer.Outside 2))) (blankReply (answer.Outside 1))) (blankReply (answer.Outside 0))
     by false b c e g h = refl
     by true false c e g h = refl
     by true true false e g h = refl
     by true true true e g h =
         let v : List ℤ = p ∷ q ∷ r ∷ [] in
-        let t : Thousands v =
-            (in-small (s .parameters) 0 (s .ranges .p) p (f .p) e,
-              (in-small (s .parameters) 1 (s .ranges .q) q (f .q) g, (in-small (s .parameters) 2 (s .ranges .r) r (f .r) h, tt))) in
+        let t : Thousands v = (
+          in-small (s .parameters) 0 (s .ranges .p) p (f .p) e,
+          (in-small (s .parameters) 1 (s .ranges .q) q (f .q) g, (in-small (s .parameters) 2 (s .ranges .r) r (f .r) h, tt)),
+        ) in
         ap sweptTable (sweep-coded s f v t) ∙ swept-coded (sweepAt s v) (first-zero f v t)

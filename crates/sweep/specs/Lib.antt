@@ -15,4 +15,5 @@ pub mod Sizes
 pub mod Steps
 pub mod TableReply
 pub mod Tables
+pub mod Theorems
 pub mod Walk

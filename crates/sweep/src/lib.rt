@@ -5,6 +5,7 @@
 mod matrix;
 mod reply;
 mod walk;
+
 pub use reply::Answer;
 pub use reply::Reply;
 pub use reply::Row;

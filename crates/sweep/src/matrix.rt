@@ -61,7 +61,14 @@ fn limited_row(clocks: usize, old: [Weight; 5], s: Weight, add: [Weight; 5]) -> 
 }
 
 // Row k after the guard i - j with the weight e: (k, l) takes (k, i) + e + (j, l) where that is tighter. A row past the clocks stays.
-fn limited_line(m: [[Weight; 5]; 5], clocks: usize, k: usize, i: usize, j: usize, e: Weight) -> [Weight; 5]
+fn limited_line(
+    m: [[Weight; 5]; 5],
+    clocks: usize,
+    k: usize,
+    i: usize,
+    j: usize,
+    e: Weight,
+) -> [Weight; 5]
     requires { ⌜ (k < 5) × ((i < 5) × (j < 5)) ⌝ }
     ensures { λ r. ⌜ r ≡ limitedLine m clocks k i j e ⌝ }
 {
@@ -89,7 +96,13 @@ fn limited(m: [[Weight; 5]; 5], clocks: usize, i: usize, j: usize, e: Weight) ->
 }
 
 // One guard i - j with the weight e: void if e + (j, i) is tighter than zero; else m, if e isn't tighter than (i, j); else limited.
-pub(crate) fn guarded(m: [[Weight; 5]; 5], clocks: usize, i: usize, j: usize, e: Weight) -> [[Weight; 5]; 5]
+pub(crate) fn guarded(
+    m: [[Weight; 5]; 5],
+    clocks: usize,
+    i: usize,
+    j: usize,
+    e: Weight,
+) -> [[Weight; 5]; 5]
     ensures { λ r. ⌜ r ≡ guardedTable m clocks i j e ⌝ }
 {
     if 4 < i {

@@ -33,7 +33,13 @@ fn at_most(n: usize, most: usize) -> usize
 }
 
 // The matrix after the first count guards, in order.
-fn guards_of(m: [[Weight; 5]; 5], clocks: usize, v: Valuation, count: usize, guards: [Guard; 6]) -> [[Weight; 5]; 5]
+fn guards_of(
+    m: [[Weight; 5]; 5],
+    clocks: usize,
+    v: Valuation,
+    count: usize,
+    guards: [Guard; 6],
+) -> [[Weight; 5]; 5]
     ensures { λ r. ⌜ r ≡ guardsTable m clocks (point v) (take count guards) ⌝ }
 {
     let n = at_most(count, 6);

@@ -19,7 +19,7 @@ reply-for-requires : tie.Need-reply-for-requires
 reply-for-requires c κs = search needs
 
 returns : tie.Need-returns
-returns c = 
+returns c =
     let s = c .before .before .before .before .before .before in
     let a = s .args in
     c .reply-for .ensures
@@ -31,7 +31,7 @@ blank-requires : tie.Need-blank-requires
 blank-requires c κs = search needs
 
 returns-2 : tie.Need-returns-2
-returns-2 c = 
+returns-2 c =
     let a = c .before .before .before .before .before .before .args in
     c .blank .ensures
     ∙ refused-reply (a .file .now) (a .p) (a .q) (a .r) _ (c .before .before .before .before .read .ensures)

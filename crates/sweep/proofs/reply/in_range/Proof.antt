@@ -14,13 +14,13 @@ wide-requires-2 : tie.Need-wide-requires-2
 wide-requires-2 c κs = search needs
 
 returns : tie.Need-returns
-returns c = 
+returns c =
     let s = c .before .before .before .before .before in
     let t = s .args .range in
     range-yes t (s .args .x) _ _ _ (widened _ (t .low) (c .before .before .before .wide .ensures) (record { sfits = c .before .before .before .before .struct-told .given .0 .1 })) (toZ-ofZ w64 _ (s .fits .x)) (widened _ (t .high) (c .wide2 .ensures) (record { sfits = c .before .struct-told2 .given .1 .0 .1 })) (c .before .before .if1 .taken)
 
 returns-2 : tie.Need-returns-2
-returns-2 c = 
+returns-2 c =
     let s = c .before .before .before in
     let t = s .args .range in
     range-no t (s .args .x) _ _ (widened _ (t .low) (c .before .wide .ensures) (record { sfits = c .before .before .struct-told .given .0 .1 })) (toZ-ofZ w64 _ (s .fits .x)) (c .if1 .left)

@@ -56,7 +56,7 @@ swept-requires : tie.Need-swept-requires
 swept-requires c κs = search needs
 
 returns-4 : tie.Need-returns-4
-returns-4 c = 
+returns-4 c =
     let a = c .before .before .before .before .before .before .before .before .before .before .before .before .before .before .before .args in
     let x = toZ-ofZ w16 (c .before .before .before .before .value-in .result) (search needs) ∙ c .before .before .before .before .value-in .ensures ∙ toZ-ofZ w64 _ (c .before .before .before .before .before .before .before .before .before .before .before .before .before .before .before .fits .p) in
     let y = toZ-ofZ w16 (c .before .before .before .value-in2 .result) (search needs) ∙ c .before .before .before .value-in2 .ensures ∙ toZ-ofZ w64 _ (c .before .before .before .before .before .before .before .before .before .before .before .before .before .before .before .fits .q) in

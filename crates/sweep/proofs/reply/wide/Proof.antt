@@ -7,13 +7,13 @@ use Rattle.sweep.proofs.reply.wide.Statement.{statement}
 use Rattle.sweep.proofs.reply.wide.Tie as tie
 
 cast-result : tie.Need-cast-result
-cast-result c = 
+cast-result c =
     let f = c .fits .x in
     let g : SFits w64 (c .args .x) = sfits-widen tt f in
     simp toZ-ofZ g
 
 returns : tie.Need-returns
-returns c = 
+returns c =
     let f = c .fits .x in
     let g : SFits w64 (c .args .x) = sfits-widen tt f in
     simp toZ-ofZ

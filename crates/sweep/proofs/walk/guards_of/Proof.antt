@@ -11,7 +11,7 @@ use Rattle.sweep.proofs.walk.guards_of.Statement.{statement}
 use Rattle.sweep.proofs.walk.guards_of.Tie as tie
 
 abbrev Inv-loop : tie.InvT-loop
-Inv-loop clocks v count guards n now₀ i₀ now i = 
+Inv-loop clocks v count guards n now₀ i₀ now i =
     (n ≤ 6) × (n ≡ length (take count guards)) × (guardsTable now clocks (point v) (drop i (take count guards)) ≡ guardsTable now₀ clocks (point v) (take count guards))
 
 abbrev μ-loop : tie.MeasureT-loop
@@ -21,7 +21,7 @@ at-most-requires : tie.Need-at-most-requires Inv-loop μ-loop
 at-most-requires c κs = search needs
 
 loop-holds : tie.Need-loop-holds Inv-loop μ-loop
-loop-holds c = 
+loop-holds c =
     let a = c .before .args in
     let l : length (a .t5) ≡ 6 = search needs in
     let h = size-is _ (a .count) 6 (a .t5) (c .at-most .ensures) l in
@@ -43,13 +43,13 @@ loop-less : tie.Need-loop-less Inv-loop μ-loop
 loop-less c = omega arith
 
 loop-again : tie.Need-loop-again Inv-loop μ-loop
-loop-again c = 
+loop-again c =
     let a = c .before .before .before .before .before .args in
     let v = c .before .before .before .loop .inv in
     (v .0, v .1, guards-turn (a .clocks) (point (a .v)) (a .t5) (a .count) (c .before .before .before .loop .i) _ _ _ _ (omega arith) (v .2) (c .guard .ensures))
 
 returns : tie.Need-returns Inv-loop μ-loop
-returns c = 
+returns c =
     let a = c .before .before .before .args in
     guards-done (a .clocks) (point (a .v)) (a .t5) (a .count) (c .before .loop .i) _ _ (omega arith) (c .before .loop .inv .2)
 

@@ -13,7 +13,7 @@ resets-requires c κs = search needs
 
 returns : tie.Need-returns
 unfolding moveTable
-returns c = 
+returns c =
     let a = c .before .before .before .args in
     c .resets .ensures ∙ ap (λ (m : Table). resetsTable m (a .clocks) (a .t .resets)) (c .before .guards-of .ensures)
 

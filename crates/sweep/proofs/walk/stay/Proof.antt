@@ -15,7 +15,7 @@ guards-of-requires c κs = search needs
 
 returns : tie.Need-returns
 unfolding stayTable
-returns c = 
+returns c =
     let a = c .before .before .before .args in
     c .guards-of .ensures ∙ ap (λ (m : Table). guardsTable m (a .clocks) (point (a .v)) (take (a .here .count) (a .here .guards))) (c .before .delayed .ensures)
 

@@ -11,7 +11,7 @@ use Rattle.sweep.proofs.walk.walk.Statement.{statement}
 use Rattle.sweep.proofs.walk.walk.Tie as tie
 
 abbrev Inv-loop : tie.InvT-loop
-Inv-loop v s n m₀ l₀ k₀ m l k = 
+Inv-loop v s n m₀ l₀ k₀ m l k =
     (n ≤ 32) × (n ≡ length (take (s .moves) (s .route))) × (walkTable s (point v) l (drop k (take (s .moves) (s .route))) m ≡ sweepTable s (point v))
 
 abbrev μ-loop : tie.MeasureT-loop
@@ -25,7 +25,7 @@ start-requires c κs = search needs
 
 loop-holds : tie.Need-loop-holds Inv-loop μ-loop
 unfolding sweepTable
-loop-holds c = 
+loop-holds c =
     let a = c .before .before .args in
     let l : length (a .t1 .route) ≡ 32 = search needs in
     let h = size-is _ (a .t1 .moves) 32 (a .t1 .route) (c .before .at-most .ensures) l in
@@ -56,14 +56,16 @@ loop-less : tie.Need-loop-less Inv-loop μ-loop
 loop-less c = omega arith
 
 loop-again : tie.Need-loop-again Inv-loop μ-loop
-loop-again c = 
+loop-again c =
     let a = c .before .before .before .before .before .before .before .before .before .before .args in
     let i = c .before .before .before .before .before .before .before .loop in
-    let v = i .inv in
-    (v .0, v .1,
+    let v = i .inv in (
+      v .0,
+      v .1,
       walk-turn (a .t1) (point (a .v)) (i .k) (i .l) (i .m) _ _ _ _ _ (omega arith) (v .2)
-      (c .before .before .before .transition-at .ensures ∙ ap (λ (n : ℕ). transitionC (a .t1) n) (c .before .before .before .before .wide .ensures))
-      (c .before .before .location-at .ensures) (c .before .stay .ensures) (c .moved .ensures))
+          (c .before .before .before .transition-at .ensures ∙ ap (λ (n : ℕ). transitionC (a .t1) n) (c .before .before .before .before .wide .ensures))
+          (c .before .before .location-at .ensures) (c .before .stay .ensures) (c .moved .ensures),
+    )
 
 location-at-requires-2 : tie.Need-location-at-requires-2 Inv-loop μ-loop
 location-at-requires-2 c κs = search needs
@@ -72,7 +74,7 @@ stay-requires-2 : tie.Need-stay-requires-2 Inv-loop μ-loop
 stay-requires-2 c κs = search needs
 
 returns : tie.Need-returns Inv-loop μ-loop
-returns c = 
+returns c =
     let a = c .before .before .before .before .before .before .args in
     let i = c .before .before .before .loop in
     walk-done (a .t1) (point (a .v)) (i .k) (i .l) (i .m) _ _ _ (omega arith) (i .inv .2) (c .before .location-at2 .ensures) (c .stay2 .ensures)

@@ -1,0 +1,2 @@
+-- A law that the proof of the entry cites.
+pub mod Numbers

@@ -1,0 +1,35 @@
+-- Sweep's answer, by its number.
+use Prim.Native.Nat.{ℕ}
+use Rattle.sweep.specs.Reply.{answerNumber}
+use Rattle.sweep.specs.declared.reply.Reply.{Reply}
+use borrow.Author.Needs.{needs}
+use lib.IntN.{pos}
+use mathlib.Core.Path.{ap, _∙_}
+use mir.Syntax.{w64}
+use mir.ValLaws.{toZ-ofZ}
+use Rattle.capi.proofs.Numbers.{fits, same-reply}
+use Rattle.capi.proofs.sweep_sheet.Statement.{statement}
+use Rattle.capi.proofs.sweep_sheet.Tie as tie
+
+sweep-requires : tie.Need-sweep-requires
+sweep-requires c κs = search needs
+
+number-requires : tie.Need-number-requires
+number-requires c κs = search needs
+
+signed-requires : tie.Need-signed-requires
+signed-requires c κs = fits _ (c .before .sweep .result .answer) (c .number .ensures)
+
+returns : tie.Need-returns
+returns c =
+    let s = c .before .before .before .before in
+    toZ-ofZ w64 (c .signed .result) (search needs)
+    ∙ c .signed .ensures
+    ∙ ap pos
+    (c .before .number .ensures
+    ∙ ap (λ (x : Reply). answerNumber (x .answer))
+    (c .before .before .sweep .ensures
+    ∙ same-reply (s .args .sheet .now) (toZ-ofZ w64 _ (s .fits .p)) (toZ-ofZ w64 _ (s .fits .q)) (toZ-ofZ w64 _ (s .fits .r))))
+
+pub sweep-sheet-spec : {M : Type 1} → statement M
+sweep-sheet-spec = tie.close (tie.spec sweep-requires number-requires signed-requires returns)
