@@ -10,8 +10,8 @@ use mir.Val.{SFits, toZ, ofZ}
 use mir.ValLaws.{toZ-ofZ}
 use Rattle.integer.specs.Product.{product-range}
 use Rattle.integer.specs.Split.{split, split-all}
-use Rattle.expr.specs.Affine.{Affine, value, dot}
-use Rattle.expr.specs.Interval.{Tame, interval, pickZ, end, best, bestSum, fix, fixL, narrowL, narrow}
+use Rattle.expr.specs.Affine.{Affine, value, dot, pickZ}
+use Rattle.expr.specs.Interval.{Tame, interval, end, best, bestSum, fix, fixL, narrowL, narrow}
 use Rattle.expr.specs.Three.{affine}
 use Rattle.expr.specs.declared.number.Expr.{Expr}
 use Rattle.expr.specs.declared.ranges.Range.{Range}

@@ -13,6 +13,7 @@ use Rattle.integer.specs.Floor.{floorZ, floor-quot, floor-quot-neg, floor-turn,
 use Rattle.integer.specs.Order.{leZ-true, leZ-false, ltZ-true, ltZ-false}
 use Rattle.integer.specs.Split.{split, split-all}
 use Rattle.expr.specs.Interval.{Tame}
+use Rattle.expr.proofs.Sizes.{zero-minus}
 
 pub tame-fits : (z : ℤ) → Tame z → SFits w64 z
 tame-fits z = rw (split z) (simp split-all (omega arith))
@@ -72,12 +73,9 @@ under (negsuc n) h k = record { lt = tt }
 pub flip-above : (d : ℤ) → d <ℤ pos 0 → pos 0 <ℤ (pos 0 -ℤ d)
 flip-above d = rw (split d) (simp split-all (omega arith))
 
-pub zero-minus′ : (l : ℤ) → pos 0 -ℤ l ≡ negℤ l
-zero-minus′ l = rw (split l) (simp split-all (omega arith))
-
 -- the quotient by a divisor below 0
 pub floor-flip : (z d : ℤ) → d <ℤ pos 0 → floorZ (pos 0 -ℤ z) (pos 0 -ℤ d) ≡ floorZ z d
-floor-flip z d h = rw (zero-minus′ z, zero-minus′ d) (sym (floor-turn z d h))
+floor-flip z d h = rw (zero-minus z, zero-minus d) (sym (floor-turn z d h))
 
 pub tame-flip : (z : ℤ) → Tame z → Tame (pos 0 -ℤ z)
 tame-flip z = rw (split z) (simp split-all (omega arith))

@@ -9,8 +9,9 @@ use mir.Syntax.{w64}
 use mir.Val.{SFits}
 use Rattle.integer.specs.Order.{leZ-true}
 use Rattle.integer.specs.Split.{split, split-all}
-use Rattle.expr.specs.Affine.{Affine, Judged, fine, wide, judge, LIMIT, plus}
-use Rattle.expr.specs.Limit.{Limit, none, limit, marked, sumB, slackE, asked, tighterB, MOST, pickZ, saturate, saturated, sumW, tighterW}
+use Rattle.expr.specs.Affine.{Affine, Judged, fine, wide, judge, LIMIT, plus, pickZ}
+use Rattle.expr.specs.Laws.{same-test}
+use Rattle.expr.specs.Limit.{Limit, none, limit, marked, sumB, slackE, asked, tighterB, MOST, saturate, saturated, sumW, tighterW}
 use Rattle.expr.specs.Three.{affine, exprOf, inequality, limitOf, boundOf, boundSum, test, weighed, weightOf}
 use Rattle.expr.specs.declared.bound.Bound.{Bound as CodeBound}
 use Rattle.expr.specs.declared.bound.BoundSum.{BoundSum}
@@ -90,11 +91,6 @@ pub weight-path : {s t : Bool} {x y : ℤ} → s ≡ t → x ≡ y → _≡_ {A 
 weight-path d e = λ i. record { none = false; strict = d i; value = e i }
 
 -- ---- tests of weights
-same-test : (a b : Bool) → (a ≡ true → b ≡ true) → (b ≡ true → a ≡ true) → a ≡ b
-same-test true b f g = sym (f refl)
-same-test false true f g = g refl
-same-test false false f g = refl
-
 le-slack : (x y : ℤ) → leZ x y ≡ true → leZ (pos 0) (y -ℤ x) ≡ true
 le-slack x y = rw (split x, split y) (simp split-all (omega arith))
 

@@ -1,6 +1,6 @@
 -- Sizes: sums and differences of narrow numbers fit the wide width.
 use mathlib.Core.Path.{_≡_, refl, sym, _∙_}
-use mathlib.Core.Bool.{Bool, true, false, _&&_, and-true, false≢true}
+use mathlib.Core.Bool.{Bool, true, false, _&&_, and-true}
 use mathlib.Core.List.{List, [], _∷_}
 use Prim.{Unit}
 use lib.Signed.{leZ, _≤ℤ_}
@@ -11,6 +11,7 @@ use mir.Val.{SFits, toZ, ofZ}
 use mir.ValLaws.{toZ-ofZ}
 use native.Mathlib.Omega.{arith}
 use Rattle.integer.specs.Split.{split, split-all}
+use Rattle.expr.specs.IntervalLaws.{and-left, and-right}
 
 -- a fact of each element
 abbrev pub All : (ℤ → Type 0) → List ℤ → Type 0
@@ -77,14 +78,6 @@ last a r e = sym (and-true a ∙ e)
 -- ---- what follows from the test of a whole expression
 pub within-fits : (l x : ℤ) → SFits w32 l → leZ (negℤ l) x ≡ true → leZ x l ≡ true → SFits w32 x
 within-fits l x = rw (split l, split x) (simp split-all (omega arith))
-
-and-left : (a b : Bool) → (a && b) ≡ true → a ≡ true
-and-left true b e = refl
-and-left false b e = absurd (false≢true e)
-
-and-right : (a b : Bool) → (a && b) ≡ true → b ≡ true
-and-right true b e = e
-and-right false b e = absurd (false≢true e)
 
 -- each number of a list that passed the test fits
 pub all-fits : (l : ℤ) (xs : List ℤ) → SFits w32 l → allWithin l xs ≡ true → All (SFits w32) xs

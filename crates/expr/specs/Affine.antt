@@ -55,6 +55,10 @@ abbrev pub allWithin : ℤ → List ℤ → Bool
 allWithin limit [] = true
 allWithin limit (x ∷ xs) = within limit x && allWithin limit xs
 
+abbrev pub pickZ : Bool → ℤ → ℤ → ℤ
+pickZ true a b = a
+pickZ false a b = b
+
 -- something judged: fine, or wide (paper: a constant or coefficient leaves the range)
 pub data Judged (A : Type 0) : Type 0 where
   fine : A → Judged A

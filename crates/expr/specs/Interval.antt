@@ -6,7 +6,7 @@ use Prim.Native.Nat.{ℕ, zero, suc}
 use lib.IntN.{ℤ, pos, negsuc, negℤ, _+ℤ_, _*ℤ_}
 use lib.Signed.{leZ, _≤ℤ_}
 use Rattle.integer.specs.Floor.{floorZ}
-use Rattle.expr.specs.Affine.{Affine}
+use Rattle.expr.specs.Affine.{Affine, pickZ}
 use Rattle.expr.specs.declared.ranges.Range.{Range}
 
 -- no number
@@ -30,10 +30,6 @@ unfoldable pub interval : Range → ℤ → ℤ → Range
 interval r c (pos zero) = pickR (leZ (pos 0) c) r EMPTY
 interval r c (pos (suc a)) = from r (negℤ (floorZ c (pos (suc a))))
 interval r c (negsuc a) = upTo r (floorZ (negℤ c) (negsuc a))
-
-abbrev pub pickZ : Bool → ℤ → ℤ → ℤ
-pickZ true a b = a
-pickZ false a b = b
 
 -- the end of a range at which coefficient × parameter is the most
 abbrev pub end : ℤ → Range → ℤ

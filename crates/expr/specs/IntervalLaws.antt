@@ -15,9 +15,9 @@ use Rattle.integer.specs.Order.{zts, leZ-true, true-leZ, +ℤ-mono}
 use Rattle.integer.specs.Parts.{p, n, zs, fits-in, fits-out}
 use Rattle.integer.specs.Product.{*ℤ-mono-nonneg, *ℤ-mono-nonpos}
 use Rattle.integer.specs.Split.{split, split-all}
-use Rattle.expr.specs.Affine.{Affine, dot, value}
+use Rattle.expr.specs.Affine.{Affine, dot, value, pickZ}
 use Rattle.expr.specs.Valuations.{satisfies}
-use Rattle.expr.specs.Interval.{EMPTY, pickR, from, upTo, interval, pickZ, best, bestSum, fixL, fix, narrowL, narrowed}
+use Rattle.expr.specs.Interval.{EMPTY, pickR, from, upTo, interval, best, bestSum, fixL, fix, narrowL, narrowed}
 use Rattle.expr.specs.declared.ranges.Range.{Range}
 
 -- x lies in a range

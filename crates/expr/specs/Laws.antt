@@ -77,7 +77,7 @@ unfolding value opposite
 opposite-value e v = rw (neg-dot (e .coefs) v) (turn-both (e .constant) (dot (e .coefs) v))
 
 -- ---- the opposite: at every valuation exactly one of an inequality and its opposite holds
-same-test : (a b : Bool) → (a ≡ true → b ≡ true) → (b ≡ true → a ≡ true) → a ≡ b
+pub same-test : (a b : Bool) → (a ≡ true → b ≡ true) → (b ≡ true → a ≡ true) → a ≡ b
 same-test true b f g = sym (f refl)
 same-test false true f g = g refl
 same-test false false f g = refl

@@ -4,7 +4,7 @@ use mathlib.Core.List.{List, [], _∷_}
 use mathlib.Core.Bool.{Bool, true, false, _&&_, _||_, not}
 use lib.IntN.{ℤ, pos, negℤ, _+ℤ_, _-ℤ_}
 use lib.Signed.{leZ}
-use Rattle.expr.specs.Affine.{Affine, value, plus, minus, lessOne, Judged, fine, wide, judge, LIMIT}
+use Rattle.expr.specs.Affine.{Affine, value, plus, minus, lessOne, Judged, fine, wide, judge, LIMIT, pickZ}
 
 pub data Limit (A : Type 0) : Type 0 where
   none : Limit A
@@ -28,10 +28,6 @@ sumW (limit s x) (limit t y) = limit (s || t) (x +ℤ y)
 -- the code's sum of weights never wraps: a number past ±(2^62 - 1) counts as that end
 abbrev pub MOST : ℤ
 MOST = pos 4611686018427387903
-
-abbrev pub pickZ : Bool → ℤ → ℤ → ℤ
-pickZ true a b = a
-pickZ false a b = b
 
 unfoldable pub saturate : ℤ → ℤ
 saturate x = pickZ (leZ x MOST) (pickZ (leZ (negℤ MOST) x) x (negℤ MOST)) MOST

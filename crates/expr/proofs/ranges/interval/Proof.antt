@@ -9,7 +9,8 @@ use borrow.Author.Needs.{needs}
 use Rattle.integer.specs.Floor.{floorZ}
 use Rattle.expr.proofs.Bits.{op-fits, op-back}
 use Rattle.expr.proofs.Cuts.{tested, interval-up, interval-down, interval-flat, flat-yes, flat-no, from-at, upTo-at, asks-floor, above-not-zero, below-not-zero, is-below, is-not-below}
-use Rattle.expr.proofs.Floors.{above, not-above, floor-at, floor-tame, tame-fits, tame-neg, tame-neg-fits, tame-flip, zero-minus′}
+use Rattle.expr.proofs.Floors.{above, not-above, floor-at, floor-tame, tame-fits, tame-neg, tame-neg-fits, tame-flip}
+use Rattle.expr.proofs.Sizes.{zero-minus}
 use Rattle.expr.proofs.ranges.interval.Statement.{statement}
 use Rattle.expr.proofs.ranges.interval.Tie as tie
 
@@ -48,7 +49,7 @@ returns c =
     from-at _ r (negℤ (floorZ k a)) _ (c .from .ensures)
     (op-back _-ℤ_ w64 (pos 0) _ (pos 0) (floorZ k a) refl (floor-at _ k a _ _ (c .before .floor .ensures) ek ea) (sfits-lit tt)
     (tame-fits _ (floor-tame k a (s .pre .0))) (tame-neg-fits _ (floor-tame k a (s .pre .0)))
-    ∙ zero-minus′ (floorZ k a))
+    ∙ zero-minus (floorZ k a))
     ∙ interval-up r k a (above a _ ea (c .before .before .if1 .taken))
 
 sub-floor : tie.Need-sub-floor
@@ -86,7 +87,7 @@ returns-2 c =
     let q = floor-at _ (pos 0 -ℤ k) a _ _ (c .before .floor2 .ensures)
     (op-back _-ℤ_ w64 (pos 0) _ (pos 0) k refl refl (sfits-lit tt) (s .fits .constant) (tame-neg-fits k (s .pre .0))) ea in
     upTo-at _ r (floorZ (negℤ k) a) _ (c .up-to .ensures)
-    (toZ-ofZ w64 (c .before .floor2 .result) (search needs) ∙ q ∙ ap (λ (z : ℤ). floorZ z a) (zero-minus′ k))
+    (toZ-ofZ w64 (c .before .floor2 .result) (search needs) ∙ q ∙ ap (λ (z : ℤ). floorZ z a) (zero-minus k))
     ∙ interval-down r k a (is-below a _ ea (c .before .before .if2 .taken))
 
 returns-3 : tie.Need-returns-3
