@@ -130,7 +130,7 @@ fn with_route(h: u64, list: [u8; 32]) -> u64 {
 }
 
 // The digest of a sheet.
-pub fn digest(sheet: Sheet) -> u64 {
+pub(crate) fn digest(sheet: Sheet) -> u64 {
     let ranges = sheet.ranges;
     let location = sheet.location;
     let transition = sheet.transition;
@@ -162,7 +162,7 @@ fn with_body(h: u64, file: &[u8], kind: u8) -> u64 {
 }
 
 // The digest of the bodies of the kinds 0 to 5.
-pub fn bodies(file: &[u8]) -> u64 {
+pub(crate) fn bodies(file: &[u8]) -> u64 {
     let mut mix = 0;
     for kind in 0..6 {
         mix = with_body(mix, file, kind);
