@@ -1,6 +1,6 @@
 /* Sweep: does a run follow the route of a sheet with its parameters at three given numbers?
  *
- * Link with libcapi.a (`rt staticlib capi` writes target/staticlib/libcapi.a); it needs only memcpy and memset.
+ * Link with libcapi.a (`rt staticlib capi` writes target/staticlib/libcapi.a); it needs only memcpy and memmove.
  */
 #ifndef SWEEP_H
 #define SWEEP_H
@@ -27,7 +27,7 @@ enum {
  * Returns one of the numbers above.
  *
  * It reads only the given bytes, writes nothing, keeps nothing between calls, allocates nothing and always returns. It may be called
- * from any thread, also at the same time.
+ * from any thread, also at the same time. A call takes some 40 KB of the stack.
  */
 int64_t sweep_sheet(const uint8_t *sheet, size_t length, int64_t p1, int64_t p2, int64_t p3);
 

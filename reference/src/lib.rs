@@ -3,9 +3,19 @@
 //!
 //! Identifiers use the field's terms, and the comment at a definition names the paper's word.
 
+#[cfg(test)]
+mod agree;
 pub mod digest;
+pub mod instants;
+#[cfg(test)]
+mod parts;
+pub mod planned;
 pub mod random;
 pub mod samples;
 pub mod sheet;
+pub mod sweep;
+pub mod sweeps;
+pub mod tool;
 pub mod vectors;
+pub mod weight;
 pub mod writer;

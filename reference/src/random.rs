@@ -35,6 +35,11 @@ impl Random {
         self.below(256) as u8
     }
 
+    /// A number of 64 bits with sign.
+    pub fn word(&mut self) -> i64 {
+        self.next() as i64
+    }
+
     /// True once in `n` times.
     pub fn once_in(&mut self, n: usize) -> bool {
         self.below(n) == 0

@@ -6,6 +6,7 @@
 //! belong to which family.
 
 use reference::sheet::Refusal;
+use reference::tool::{exit_code, get, get_text, put, same, text_lines};
 use reference::vectors::{families, limits, lines, store, stored, Family, LIMITS};
 use std::path::Path;
 use std::process::ExitCode;
@@ -23,13 +24,7 @@ fn main() -> ExitCode {
         [folder] if !folder.starts_with('-') => write(Path::new(folder)),
         _ => Err("use: vectors_sheet [--check] FOLDER, or --list".to_string()),
     };
-    match done {
-        Ok(()) => ExitCode::SUCCESS,
-        Err(message) => {
-            eprintln!("vectors_sheet: {message}");
-            ExitCode::FAILURE
-        }
-    }
+    exit_code("vectors_sheet", done)
 }
 
 /// Prints each family with its first and last line of the results.
@@ -78,45 +73,10 @@ fn check(folder: &Path) -> Result<(), String> {
     let families = families();
     let files: Vec<&Vec<u8>> = families.iter().flat_map(|family| &family.files).collect();
     let kept = stored(&get(&folder.join(FILES))?).ok_or("the last stored file is not whole")?;
-    let results = String::from_utf8(get(&folder.join(RESULTS))?)
-        .map_err(|_| "the stored results are not text")?;
+    let results = get_text(&folder.join(RESULTS))?;
     same("file", &files, &kept.iter().collect::<Vec<_>>())?;
     let fresh = lines(kept.iter());
     same("result", &text_lines(&fresh), &text_lines(&results))?;
     println!("vectors_sheet: {} stored results agree", kept.len());
     Ok(())
-}
-
-/// The lines of a text, each with its line end if it has one.
-fn text_lines(text: &str) -> Vec<&str> {
-    text.split_inclusive('\n').collect()
-}
-
-/// Nothing if both lists are the same, and otherwise an error that names the first difference.
-fn same<T: PartialEq + std::fmt::Debug>(what: &str, fresh: &[T], kept: &[T]) -> Result<(), String> {
-    for (i, (x, y)) in fresh.iter().zip(kept).enumerate() {
-        if x != y {
-            let n = i + 1;
-            return Err(format!("{what} {n}: {x:?} is right, {y:?} is stored"));
-        }
-    }
-    if fresh.len() == kept.len() {
-        Ok(())
-    } else {
-        let (right, there) = (fresh.len(), kept.len());
-        Err(format!("{right} {what}s are right, {there} are stored"))
-    }
-}
-
-/// The bytes of a file, or why it cannot be read.
-fn get(path: &Path) -> Result<Vec<u8>, String> {
-    std::fs::read(path).map_err(|why| format!("{}: {why}", path.display()))
-}
-
-/// Writes bytes to a file, with its folder if that is missing.
-fn put(path: &Path, bytes: &[u8]) -> Result<(), String> {
-    let folder = path.parent().unwrap_or(Path::new("."));
-    std::fs::create_dir_all(folder)
-        .and_then(|()| std::fs::write(path, bytes))
-        .map_err(|why| format!("{}: {why}", path.display()))
 }

@@ -3,7 +3,7 @@
 //! The files stand one after the other, each as its length (u16, little-endian) and its bytes. The
 //! results are text, a line for each file.
 
-mod damage;
+pub mod damage;
 pub mod limits;
 
 use crate::digest::line;

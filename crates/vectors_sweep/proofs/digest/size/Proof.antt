@@ -1,0 +1,24 @@
+-- `vectors_sweep::digest::size` is safe: -1 - x is not negative and fits where x is negative.
+-- Assumes nothing.
+use Rattle.vectors_sweep.proofs.Flipped.{flip-fits, flip-plain, same-plain}
+use borrow.Author.Needs.{needs}
+use Rattle.vectors_sweep.proofs.digest.size.Statement.{statement}
+use Rattle.vectors_sweep.proofs.digest.size.Tie as tie
+
+sub-result : tie.Need-sub-result
+sub-result c = flip-fits (c .before .args .x) (c .before .fits .x) (c .if1 .taken)
+
+cast-result : tie.Need-cast-result
+cast-result c = flip-plain (c .before .args .x) (c .before .fits .x) (c .if1 .taken)
+
+returns : tie.Need-returns
+returns c = search needs
+
+cast-result-2 : tie.Need-cast-result-2
+cast-result-2 c = same-plain (c .before .args .x) (c .before .fits .x) (c .if1 .left)
+
+returns-2 : tie.Need-returns-2
+returns-2 c = search needs
+
+pub size-spec : {M : Type 1} → statement M
+size-spec = tie.close (tie.spec sub-result cast-result returns cast-result-2 returns-2)

@@ -1,0 +1,239 @@
+//! Good sheets around a run: the route and its waits are chosen first, and then guards that this run
+//! meets, most of them with nothing to spare. Random guards alone leave few routes a run.
+
+use crate::random::Random;
+use crate::samples::{at_most, location, range, transition};
+use crate::sheet::{Guard, Parameter, Sheet};
+
+/// What a planned sheet has: that many of each, up to that many guards at each place, and ranges up
+/// to that width.
+#[derive(Clone, Copy)]
+pub struct Shape {
+    pub parameters: usize,
+    pub width: i16,
+    pub clocks: u8,
+    pub locations: usize,
+    pub transitions: usize,
+    pub moves: usize,
+    pub guards: usize,
+}
+
+/// A sheet, and a valuation that it was planned for.
+pub struct Planned {
+    pub sheet: Sheet,
+    pub valuation: [i64; 3],
+}
+
+/// A random shape: up to those counts of parameters, moves and guards, few locations and
+/// transitions, ranges up to that width.
+pub fn random_shape(random: &mut Random, moves: usize, guards: usize, width: i16) -> Shape {
+    let locations = 1 + random.below(4);
+    Shape {
+        parameters: random.below(4),
+        width,
+        clocks: 1 + random.below(4) as u8,
+        locations,
+        transitions: locations + random.below(4),
+        moves: random.below(moves + 1),
+        guards,
+    }
+}
+
+/// A sheet of that shape. One in three has a guard that the planned run may miss by a little.
+pub fn planned(random: &mut Random, shape: Shape) -> Planned {
+    let mut sheet = bare(random, shape);
+    let valuation = valuation(random, &sheet.parameters);
+    let seen = visits(random, &sheet);
+    for k in 0..sheet.locations.len() {
+        let values = at(&seen, |visit| visit.location == k);
+        sheet.locations[k].invariants = guards(random, shape, &values, valuation);
+    }
+    for k in 0..sheet.transitions.len() {
+        let values = at(&seen, |visit| visit.transition == Some(k));
+        sheet.transitions[k].guards = guards(random, shape, &values, valuation);
+    }
+    if random.once_in(3) {
+        tighten(random, &mut sheet);
+    }
+    Planned { sheet, valuation }
+}
+
+/// A sheet of that shape without guards. Every location has a transition that leaves it, so that a
+/// route can be as long as it has to.
+fn bare(random: &mut Random, shape: Shape) -> Sheet {
+    let locations = shape.locations;
+    let mut transitions = Vec::new();
+    for k in 0..shape.transitions {
+        let from = if k < locations {
+            k
+        } else {
+            random.below(locations)
+        };
+        let to = random.below(locations);
+        let resets = random.below(1 << shape.clocks) as u8 & random.byte();
+        transitions.push(transition(from as u8, to as u8, resets, &[]));
+    }
+    let mut sheet = Sheet {
+        parameters: (0..shape.parameters)
+            .map(|_| parameter(random, shape.width))
+            .collect(),
+        clocks: shape.clocks,
+        locations: vec![location(&[]); locations],
+        transitions,
+        route: Vec::new(),
+    };
+    let mut here = 0;
+    for _ in 0..shape.moves {
+        let next: Vec<u8> = (0..shape.transitions as u8)
+            .filter(|&t| sheet.transitions[usize::from(t)].from == here)
+            .collect();
+        let number = next[random.below(next.len())];
+        sheet.route.push(number);
+        here = sheet.transitions[usize::from(number)].to;
+    }
+    sheet
+}
+
+/// A range up to that width; one in four lies at an end of what is allowed.
+fn parameter(random: &mut Random, width: i16) -> Parameter {
+    let width = random.from_to(0, width);
+    let lowest = match random.below(8) {
+        0 => -1000,
+        1 => 1000 - width,
+        2 => random.from_to(-1000, 1000 - width),
+        _ => random.from_to(-9, 9),
+    };
+    range(lowest, lowest + width)
+}
+
+/// A valuation of those parameters.
+pub fn valuation(random: &mut Random, parameters: &[Parameter]) -> [i64; 3] {
+    let mut v = [0; 3];
+    for (x, p) in v.iter_mut().zip(parameters) {
+        *x = i64::from(random.from_to(p.lowest, p.highest));
+    }
+    v
+}
+
+/// The end of a wait: where, which transition follows, and the clocks there in half minutes.
+struct Visit {
+    location: usize,
+    transition: Option<usize>,
+    clocks: [i64; 5],
+}
+
+/// The visits of a run along the sheet's route, its waits being random.
+fn visits(random: &mut Random, sheet: &Sheet) -> Vec<Visit> {
+    let mut list = Vec::new();
+    let mut clocks = [0; 5];
+    let mut here = 0;
+    for next in sheet
+        .route
+        .iter()
+        .map(|&t| Some(usize::from(t)))
+        .chain([None])
+    {
+        let wait = some_wait(random);
+        for clock in &mut clocks[1..] {
+            *clock += wait;
+        }
+        list.push(Visit {
+            location: here,
+            transition: next,
+            clocks,
+        });
+        if let Some(t) = next {
+            let resets = sheet.transitions[t].resets;
+            for clock in (1..5).filter(|c| resets >> (c - 1) & 1 == 1) {
+                clocks[clock] = 0;
+            }
+            here = usize::from(sheet.transitions[t].to);
+        }
+    }
+    list
+}
+
+/// A wait in half minutes.
+fn some_wait(random: &mut Random) -> i64 {
+    match random.below(8) {
+        0 | 1 => 0,
+        2 => 2 * random.below(100) as i64,
+        3 => random.below(60) as i64,
+        _ => random.below(9) as i64,
+    }
+}
+
+/// The clocks at the visits of which that is true.
+fn at(seen: &[Visit], which: impl Fn(&Visit) -> bool) -> Vec<[i64; 5]> {
+    let visits = seen.iter().filter(|visit| which(visit));
+    visits.map(|visit| visit.clocks).collect()
+}
+
+/// Up to the shape's count of guards that those clocks meet at that valuation.
+fn guards(random: &mut Random, shape: Shape, values: &[[i64; 5]], v: [i64; 3]) -> Vec<Guard> {
+    let count = random.below(shape.guards + 1);
+    (0..count)
+        .filter_map(|_| guard(random, shape, values, v))
+        .collect()
+}
+
+/// A guard that those clocks meet at that valuation, unless its constant would be too large.
+fn guard(random: &mut Random, shape: Shape, values: &[[i64; 5]], v: [i64; 3]) -> Option<Guard> {
+    let clock = 1 + random.below(usize::from(shape.clocks));
+    let (a, b) = if random.once_in(2) {
+        (clock, 0)
+    } else {
+        (0, clock)
+    };
+    let halves = values.iter().map(|x| x[a] - x[b]).max();
+    let halves = halves.unwrap_or(random.below(9) as i64);
+    let spare = if random.once_in(2) {
+        0
+    } else {
+        random.below(4) as i64
+    };
+    let least = (halves + 1).div_euclid(2) + spare;
+    let mut coefficients = [0; 3];
+    for coefficient in &mut coefficients[..shape.parameters] {
+        *coefficient = coefficient_of(random);
+    }
+    let constant = least - product(coefficients, v);
+    if !(-1000..=1000).contains(&constant) {
+        return None;
+    }
+    let mut guard = at_most(a as u8, b as u8, constant as i16, coefficients);
+    guard.strict = 2 * least > halves && random.once_in(2);
+    Some(guard)
+}
+
+/// A coefficient, most often small.
+fn coefficient_of(random: &mut Random) -> i16 {
+    match random.below(12) {
+        0 => random.from_to(-40, 40),
+        1..=3 => 0,
+        4 | 5 => random.from_to(-3, 3),
+        _ => random.from_to(-1, 1),
+    }
+}
+
+/// The sum of coefficient times number.
+fn product(coefficients: [i16; 3], v: [i64; 3]) -> i64 {
+    let terms = coefficients.iter().zip(v);
+    terms.map(|(&c, x)| i64::from(c) * x).sum()
+}
+
+/// Makes one guard of the sheet, if it has any, strict or a little tighter.
+fn tighten(random: &mut Random, sheet: &mut Sheet) {
+    let stays = sheet.locations.iter_mut().map(|l| &mut l.invariants);
+    let moves = sheet.transitions.iter_mut().map(|t| &mut t.guards);
+    let mut all: Vec<&mut Guard> = stays.chain(moves).flatten().collect();
+    if all.is_empty() {
+        return;
+    }
+    let k = random.below(all.len());
+    if random.once_in(2) {
+        all[k].strict = true;
+    } else {
+        all[k].constant = (all[k].constant - random.from_to(0, 2)).max(-1000);
+    }
+}

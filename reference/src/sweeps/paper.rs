@@ -1,0 +1,386 @@
+//! Sheets at one valuation with results written by hand: the rows of paper 01, "Sheets to try", that
+//! concern Sweep, its "Wrong turns", and the order of the refusals. A test holds Sweep to them.
+
+use crate::samples::{at_most, below, location, range, sheet_a, transition};
+use crate::sheet::{Guard, Parameter, Sheet};
+use crate::weight::Weight;
+use crate::writer;
+use Reply::{Refused, Run, Void};
+
+/// The result that the paper gives: the entries of clock 0 and the sheet's clocks, void, or a
+/// refusal's number and place.
+#[derive(Clone, Debug)]
+pub enum Reply {
+    Run(Vec<Vec<Weight>>),
+    Void,
+    Refused(u8, usize),
+}
+
+/// What is tried, the file, the three numbers, and the result.
+pub struct Case {
+    pub name: &'static str,
+    pub file: Vec<u8>,
+    pub valuation: [i64; 3],
+    pub result: Reply,
+}
+
+/// All cases.
+pub fn cases() -> Vec<Case> {
+    let mut list = rows();
+    list.extend(wrong_turns());
+    list.extend(refused_files());
+    list.extend(refused_numbers());
+    list
+}
+
+/// The sheets of the rows, and sheet A with other counts.
+pub fn sheets() -> Vec<Sheet> {
+    vec![
+        sheet_a(),
+        sheet_a_strict(),
+        one_stay(&[range(0, 5), range(0, 5)], &[up_p(), up_q()]),
+        one_stay(&[range(0, 5), range(0, 5)], &[up_q(), up_p()]),
+        one_stay(&[], &[]),
+        one_stay(&[range(0, 0)], &[below(1, 0, 0, [1, 0, 0])]),
+        one_move(&[range(-5, 5)], &[], &[at_most(0, 1, 0, [1, 0, 0])]),
+        one_move(
+            &[],
+            &[at_most(1, 0, 0, [0; 3])],
+            &[at_most(0, 1, 0, [0; 3])],
+        ),
+        one_move(&[], &[at_most(1, 0, 0, [0; 3])], &[below(0, 1, 0, [0; 3])]),
+        two_clocks(at_most(1, 0, 5, [0; 3])),
+        two_clocks(below(1, 0, 5, [0; 3])),
+        wait_keeps(),
+        three_clocks(),
+    ]
+}
+
+/// At most c.
+fn le(value: i64) -> Weight {
+    Weight::At {
+        value,
+        strict: false,
+    }
+}
+
+/// Below c.
+fn lt(value: i64) -> Weight {
+    Weight::At {
+        value,
+        strict: true,
+    }
+}
+
+/// None.
+const NONE: Weight = Weight::None;
+
+/// A run with those entries, row by row.
+fn run<const N: usize>(rows: [[Weight; N]; N]) -> Reply {
+    Run(rows.map(|row| row.to_vec()).to_vec())
+}
+
+/// A run of a sheet with one clock: entries (0, 1) and (1, 0), the others being zero, not strict.
+fn run1(down: Weight, up: Weight) -> Reply {
+    run([[le(0), down], [up, le(0)]])
+}
+
+/// A case.
+fn case(name: &'static str, sheet: &Sheet, valuation: [i64; 3], result: Reply) -> Case {
+    file_case(name, writer::file(sheet), valuation, result)
+}
+
+/// A case with a file.
+fn file_case(name: &'static str, file: Vec<u8>, valuation: [i64; 3], result: Reply) -> Case {
+    Case {
+        name,
+        file,
+        valuation,
+        result,
+    }
+}
+
+/// Sheet A with 1 - 0 < p.
+fn sheet_a_strict() -> Sheet {
+    let mut sheet = sheet_a();
+    sheet.locations[0].invariants[0].strict = true;
+    sheet
+}
+
+/// 1 - 0 <= p.
+fn up_p() -> Guard {
+    at_most(1, 0, 0, [1, 0, 0])
+}
+
+/// 1 - 0 <= q.
+fn up_q() -> Guard {
+    at_most(1, 0, 0, [0, 1, 0])
+}
+
+/// One clock, one location with those invariants, and an empty route.
+fn one_stay(parameters: &[Parameter], invariants: &[Guard]) -> Sheet {
+    Sheet {
+        parameters: parameters.to_vec(),
+        clocks: 1,
+        locations: vec![location(invariants)],
+        transitions: vec![],
+        route: vec![],
+    }
+}
+
+/// One clock, a location with those invariants, and a move with those guards to one without any.
+fn one_move(parameters: &[Parameter], invariants: &[Guard], guards: &[Guard]) -> Sheet {
+    Sheet {
+        parameters: parameters.to_vec(),
+        clocks: 1,
+        locations: vec![location(invariants), location(&[])],
+        transitions: vec![transition(0, 1, 0, guards)],
+        route: vec![0],
+    }
+}
+
+/// Two clocks: a stay that ends with that guard and clock 1 at least 3, a move that resets clock 2,
+/// and a stay that ends with clock 2 at most 2.
+fn two_clocks(first: Guard) -> Sheet {
+    Sheet {
+        parameters: vec![],
+        clocks: 2,
+        locations: vec![location(&[first]), location(&[at_most(2, 0, 2, [0; 3])])],
+        transitions: vec![transition(0, 1, 0b10, &[at_most(0, 1, -3, [0; 3])])],
+        route: vec![0],
+    }
+}
+
+/// Two clocks, at least 4 and at most 6 minutes in the first stay, a reset of clock 2, and a last
+/// stay without an end.
+fn wait_keeps() -> Sheet {
+    Sheet {
+        parameters: vec![],
+        clocks: 2,
+        locations: vec![
+            location(&[at_most(1, 0, 6, [0; 3]), at_most(0, 1, -4, [0; 3])]),
+            location(&[]),
+        ],
+        transitions: vec![transition(0, 1, 0b10, &[])],
+        route: vec![0],
+    }
+}
+
+/// Three clocks: a first stay of at most 4 minutes, a reset of clock 1, a stay, a reset of clock 3, and a
+/// last stay that ends with clock 3 at least 1 and clock 1 at most 5.
+fn three_clocks() -> Sheet {
+    Sheet {
+        parameters: vec![],
+        clocks: 3,
+        locations: vec![
+            location(&[at_most(2, 0, 4, [0; 3])]),
+            location(&[]),
+            location(&[at_most(0, 3, -1, [0; 3]), at_most(1, 0, 5, [0; 3])]),
+        ],
+        transitions: vec![transition(0, 1, 0b001, &[]), transition(1, 2, 0b100, &[])],
+        route: vec![0, 1],
+    }
+}
+
+/// Rows of "Sheets to try".
+fn rows() -> Vec<Case> {
+    let a = sheet_a();
+    let strict = sheet_a_strict();
+    let box_of = [range(0, 5), range(0, 5)];
+    let pq = one_stay(&box_of, &[up_p(), up_q()]);
+    let qp = one_stay(&box_of, &[up_q(), up_p()]);
+    let zero = one_stay(&[range(0, 0)], &[below(1, 0, 0, [1, 0, 0])]);
+    let down = one_move(&[range(-5, 5)], &[], &[at_most(0, 1, 0, [1, 0, 0])]);
+    let meets = |g| one_move(&[], &[at_most(1, 0, 0, [0; 3])], &[g]);
+    let at_3 = || run1(le(-3), NONE);
+    vec![
+        case("A at 0", &a, [0, 0, 0], Void),
+        case("A at 2", &a, [2, 0, 0], Void),
+        case("A at 3", &a, [3, 0, 0], at_3()),
+        case("A at 10", &a, [10, 0, 0], at_3()),
+        case("A with < at 3", &strict, [3, 0, 0], Void),
+        case("A with < at 4", &strict, [4, 0, 0], at_3()),
+        case("<= p, <= q: 4, 2", &pq, [4, 2, 0], run1(le(0), le(2))),
+        case("<= p, <= q: 2, 4", &pq, [2, 4, 0], run1(le(0), le(2))),
+        case("<= p, <= q: 0, 0", &pq, [0, 0, 0], run1(le(0), le(0))),
+        case("<= q, <= p: 4, 2", &qp, [4, 2, 0], run1(le(0), le(2))),
+        case("<= q, <= p: 5, 5", &qp, [5, 5, 0], run1(le(0), le(5))),
+        case(
+            "no limits, empty route",
+            &one_stay(&[], &[]),
+            [0, 0, 0],
+            run1(le(0), NONE),
+        ),
+        case("< p, p in 0..0", &zero, [0, 0, 0], Void),
+        case("0 - 1 <= p at -5", &down, [-5, 0, 0], run1(le(-5), NONE)),
+        case("0 - 1 <= p at -1", &down, [-1, 0, 0], run1(le(-1), NONE)),
+        case("0 - 1 <= p at 0", &down, [0, 0, 0], run1(le(0), NONE)),
+        case("0 - 1 <= p at 5", &down, [5, 0, 0], run1(le(0), NONE)),
+        case(
+            "standing <= 0, 0 - 1 <= 0",
+            &meets(at_most(0, 1, 0, [0; 3])),
+            [0, 0, 0],
+            run1(le(0), NONE),
+        ),
+        case(
+            "standing <= 0, 0 - 1 < 0",
+            &meets(below(0, 1, 0, [0; 3])),
+            [0, 0, 0],
+            Void,
+        ),
+    ]
+}
+
+/// Sheets at which a wrong turn shows: w is the first wait and x the last one.
+fn wrong_turns() -> Vec<Case> {
+    // w from 3 to 5, x up to 2: clock 1 is w + x, clock 2 is x.
+    let closed = run([
+        [le(0), le(-3), le(0)],
+        [le(7), le(0), le(5)],
+        [le(2), le(-3), le(0)],
+    ]);
+    let open = run([
+        [le(0), le(-3), le(0)],
+        [lt(7), le(0), lt(5)],
+        [le(2), le(-3), le(0)],
+    ]);
+    // w from 4 to 6, any x.
+    let kept = run([
+        [le(0), le(-4), le(0)],
+        [NONE, le(0), le(6)],
+        [NONE, le(-4), le(0)],
+    ]);
+    // w up to 4, y between, x from 1, y + x up to 5: clock 1 is y + x, 2 is w + y + x, 3 is x.
+    let pushed = run([
+        [le(0), le(-1), le(-1), le(-1)],
+        [le(5), le(0), le(0), le(4)],
+        [le(9), le(4), le(0), le(8)],
+        [le(5), le(0), le(0), le(0)],
+    ]);
+    let zeros = [0, 0, 0];
+    vec![
+        case(
+            "two clocks",
+            &two_clocks(at_most(1, 0, 5, [0; 3])),
+            zeros,
+            closed,
+        ),
+        case(
+            "two clocks, <",
+            &two_clocks(below(1, 0, 5, [0; 3])),
+            zeros,
+            open,
+        ),
+        case("a wait keeps differences", &wait_keeps(), zeros, kept),
+        case(
+            "a limit reaches all entries",
+            &three_clocks(),
+            zeros,
+            pushed,
+        ),
+    ]
+}
+
+/// Files that are refused, whatever the numbers.
+fn refused_files() -> Vec<Case> {
+    let a = writer::file(&sheet_a());
+    let with = |change: &dyn Fn(&mut Sheet)| {
+        let mut sheet = sheet_a();
+        change(&mut sheet);
+        writer::file(&sheet)
+    };
+    let wide = with(&|s| s.parameters[0] = range(0, 64));
+    let long = with(&|s| {
+        s.transitions[0].to = 0;
+        s.route = vec![0; 33];
+    });
+    let most = with(&|s| {
+        s.transitions[0].to = 0;
+        s.transitions[0].guards.clear();
+        s.route = vec![0; 32];
+    });
+    let apart = with(&|s| s.route = vec![0, 0]);
+    let empty = writer::assemble(&Default::default());
+    let far = [i64::MIN, i64::MAX, 1];
+    let whole = with(&|s| s.parameters[0] = range(0, 63));
+    vec![
+        file_case("range 0..63", whole, [63, 0, 0], run1(le(-3), NONE)),
+        file_case("range 0..64", wide.clone(), [0, 0, 0], Refused(4, 25)),
+        file_case("range 0..64, far numbers", wide, far, Refused(4, 25)),
+        file_case("no byte", vec![], [0, 0, 0], Refused(2, 0)),
+        file_case("21 bytes", a[..21].to_vec(), far, Refused(2, 0)),
+        file_case("4,097 bytes", vec![1; 4097], far, Refused(2, 0)),
+        file_case("22 bytes, lengths 0", empty, far, Refused(4, 22)),
+        file_case("22 bytes of A", a[..22].to_vec(), far, Refused(3, 5)),
+        file_case("61 bytes of A", a[..61].to_vec(), far, Refused(3, 20)),
+        file_case("route of 33", long, far, Refused(4, 60)),
+        file_case("route of 32", most, [4, 0, 0], run1(le(0), le(4))),
+        file_case("a move from elsewhere", apart, far, Refused(5, 62)),
+    ]
+}
+
+/// Numbers that are no valuation.
+fn refused_numbers() -> Vec<Case> {
+    let a = sheet_a();
+    let bare = one_stay(&[], &[]);
+    let mut three = one_stay(&[range(-1, 1), range(0, 0), range(-1000, -937)], &[]);
+    three.clocks = 4;
+    let free = run([
+        [le(0); 5],
+        [NONE, le(0), le(0), le(0), le(0)],
+        [NONE, le(0), le(0), le(0), le(0)],
+        [NONE, le(0), le(0), le(0), le(0)],
+        [NONE, le(0), le(0), le(0), le(0)],
+    ]);
+    let (low, high) = (i64::MIN, i64::MAX);
+    vec![
+        case("A at -1", &a, [-1, 0, 0], Refused(6, 0)),
+        case("A at 11", &a, [11, 0, 0], Refused(6, 0)),
+        case("A at -2^63", &a, [low, 0, 0], Refused(6, 0)),
+        case("A at 2^63 - 1", &a, [high, 0, 0], Refused(6, 0)),
+        case("A at 65,539", &a, [65539, 0, 0], Refused(6, 0)),
+        case("A at 2^32 + 3", &a, [(1 << 32) + 3, 0, 0], Refused(6, 0)),
+        case("A with q 1", &a, [3, 1, 0], Refused(6, 1)),
+        case("A with q -2^63", &a, [3, low, 0], Refused(6, 1)),
+        case("A with r -1", &a, [3, 0, -1], Refused(6, 2)),
+        case("A with r 2^63 - 1", &a, [3, 0, high], Refused(6, 2)),
+        case("A with q 256 and r 1", &a, [3, 256, 1], Refused(6, 1)),
+        case("A, all wrong", &a, [low, low, high], Refused(6, 0)),
+        case("no parameter, p 1", &bare, [1, 0, 0], Refused(6, 0)),
+        case("no parameter, r 1", &bare, [0, 0, 1], Refused(6, 2)),
+        case("three parameters", &three, [1, 0, -937], free),
+        case("the third past it", &three, [1, 0, -936], Refused(6, 2)),
+        case("the third 0", &three, [1, 0, 0], Refused(6, 2)),
+        case("the second past it", &three, [1, -1, -936], Refused(6, 1)),
+        case("the first past it", &three, [-2, 1, 0], Refused(6, 0)),
+    ]
+}
+
+#[cfg(test)]
+mod tests {
+    use super::*;
+    use crate::sheet::{read, Refusal};
+    use crate::sweep::sweep;
+
+    /// Sweep gives the results that are written here.
+    #[test]
+    fn results_are_the_papers() {
+        for case in cases() {
+            let found = sweep(&case.file, case.valuation);
+            match &case.result {
+                Run(rows) => {
+                    let n = rows.len();
+                    let m = found.unwrap().unwrap();
+                    let inner: Vec<Vec<Weight>> =
+                        m[..n].iter().map(|row| row[..n].to_vec()).collect();
+                    assert_eq!(&inner, rows, "{}", case.name);
+                    assert_eq!(usize::from(read(&case.file).unwrap().clocks) + 1, n);
+                }
+                Void => assert_eq!(found, Ok(None), "{}", case.name),
+                &Refused(number, place) => {
+                    assert_eq!(found, Err(Refusal { number, place }), "{}", case.name)
+                }
+            }
+        }
+    }
+}

@@ -1,0 +1,76 @@
+//! Which valuations of a sheet's parameters are tried.
+
+use crate::planned::valuation;
+use crate::random::Random;
+use crate::sheet::{Parameter, MOST_PARAMETERS};
+
+/// Three numbers, one for each parameter.
+pub type Valuation = [i64; MOST_PARAMETERS];
+
+/// All the valuations of those parameters.
+pub fn all(parameters: &[Parameter]) -> Vec<Valuation> {
+    products(parameters, |p| (p.lowest..=p.highest).collect())
+}
+
+/// The valuations at which each parameter is at an end of its range.
+pub fn corners(parameters: &[Parameter]) -> Vec<Valuation> {
+    let mut list = products(parameters, |p| vec![p.lowest, p.highest]);
+    list.dedup();
+    list
+}
+
+/// The valuations of which each number is one of those given for its parameter.
+fn products(parameters: &[Parameter], values: impl Fn(&Parameter) -> Vec<i16>) -> Vec<Valuation> {
+    let mut list = vec![[0; MOST_PARAMETERS]];
+    for (k, parameter) in parameters.iter().enumerate() {
+        let values = values(parameter);
+        let with = |v: Valuation| values.iter().map(move |&x| put(v, k, i64::from(x)));
+        list = list.into_iter().flat_map(with).collect();
+    }
+    list
+}
+
+/// A valuation with number k replaced.
+fn put(mut v: Valuation, k: usize, x: i64) -> Valuation {
+    v[k] = x;
+    v
+}
+
+/// That many random valuations.
+pub fn some(random: &mut Random, parameters: &[Parameter], count: usize) -> Vec<Valuation> {
+    (0..count).map(|_| valuation(random, parameters)).collect()
+}
+
+/// Numbers of which at least one is no value of its parameter: just past an end, far from it, and
+/// equal to a value in the low 8, 16 or 32 bits only.
+pub fn beyond(random: &mut Random, parameters: &[Parameter]) -> Vec<Valuation> {
+    let mut list = Vec::new();
+    for k in 0..MOST_PARAMETERS {
+        for x in past(parameters.get(k)) {
+            list.push(put(valuation(random, parameters), k, x));
+        }
+        let [i, j] = [random.below(MOST_PARAMETERS), random.below(MOST_PARAMETERS)];
+        let far = put(valuation(random, parameters), i, i64::MAX - k as i64);
+        list.push(put(far, j, i64::MIN + k as i64));
+    }
+    list
+}
+
+/// Numbers past the range of a parameter, or other than 0 where there is none.
+fn past(parameter: Option<&Parameter>) -> Vec<i64> {
+    let (low, high) = match parameter {
+        Some(p) => (i64::from(p.lowest), i64::from(p.highest)),
+        None => (0, 0),
+    };
+    vec![
+        low - 1,
+        high + 1,
+        low - (1 << 16),
+        high + (1 << 16),
+        low - (1 << 32),
+        high + (1 << 32),
+        low + 256,
+        i64::MIN,
+        i64::MAX,
+    ]
+}
