@@ -1,10 +1,12 @@
-// Links the archive of the proved search, which `rt staticlib search_c` writes.
+// Links the archives of the proved search and of Sweep, which `rt staticlib search_c` and `rt staticlib capi` write.
 use std::path::Path;
 
 fn main() {
     let bench = std::env::var("CARGO_MANIFEST_DIR").expect("cargo names the folder of the package");
     let folder = Path::new(&bench).join("../target/staticlib");
-    println!("cargo:rerun-if-changed={}", folder.join("libsearch_c.a").display());
     println!("cargo:rustc-link-search=native={}", folder.display());
-    println!("cargo:rustc-link-lib=static=search_c");
+    for name in ["search_c", "capi"] {
+        println!("cargo:rerun-if-changed={}", folder.join(format!("lib{name}.a")).display());
+        println!("cargo:rustc-link-lib=static={name}");
+    }
 }

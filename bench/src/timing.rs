@@ -1,0 +1,26 @@
+// Times of calls, in microseconds.
+use std::hint::black_box;
+use std::time::Instant;
+
+// The mean time of some calls of f.
+pub fn time(calls: usize, f: impl Fn() -> i64) -> f64 {
+    let start = Instant::now();
+    for _ in 0..calls {
+        black_box(f());
+    }
+    start.elapsed().as_secs_f64() * 1e6 / calls as f64
+}
+
+// Lowers the least time of f so far by one more round, of as many calls as fill the span.
+pub fn round(least: &mut f64, span: f64, f: impl Fn() -> i64) {
+    let calls = (span / least.max(0.01)).clamp(1.0, 1000.0) as usize;
+    *least = least.min(time(calls, f));
+}
+
+pub fn mean(times: &[f64]) -> f64 {
+    times.iter().sum::<f64>() / times.len() as f64
+}
+
+pub fn worst(times: &[f64]) -> f64 {
+    times.iter().copied().fold(0.0, f64::max)
+}
