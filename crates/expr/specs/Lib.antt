@@ -6,6 +6,7 @@ pub mod Interval
 pub mod IntervalLaws
 pub mod Laws
 pub mod Limit
+pub mod Once
 pub mod SearchLaws
 pub mod Three
 pub mod Valuations

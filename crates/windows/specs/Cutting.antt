@@ -1,0 +1,195 @@
+-- The cutting of the ranges (paper 01, "Cutting the ranges"), for any number of parameters and clocks.
+use mathlib.Core.List.{List, [], _∷_, _++_, map}
+use mathlib.Core.Bool.{Bool, true, false}
+use mathlib.Core.Option.{Option}
+use mathlib.Core.Option as option
+use Prim.Native.Nat.{ℕ, zero, suc, _/_, _%_, _^_}
+use lib.Dec.{eqb, ltb}
+use lib.IntN.{ℤ, pos}
+use lib.ListN.{length}
+use Rattle.dbm.specs.Matrix.{Matrix, delayed, resetM}
+use Rattle.expr.specs.Affine.{Affine, opposite, Judged, fine, wide}
+use Rattle.expr.specs.Limit.{Limit, none, limit, sumB, tighterB, Question, yes′, no′, ask, wide′}
+use Rattle.expr.specs.Three.{limitOf, rangeList}
+use Rattle.expr.specs.Valuations.{first}
+use Rattle.expr.specs.declared.ranges.Range.{Range}
+use Rattle.sheet.specs.declared.Guard.{Guard}
+use Rattle.sheet.specs.declared.Sheet.{Sheet}
+use Rattle.timed.specs.Runs.{invariants, guardsOf, routeOf, transitionAt}
+
+-- a matrix of bounds
+abbrev pub Bounds : Type 0
+Bounds = Matrix (Limit Affine)
+
+abbrev pub pick : {A : Type 0} → Bool → A → A → A
+pick true a b = a
+pick false a b = b
+
+-- zero, not strict
+abbrev pub zeroB : Limit Affine
+zeroB = limit false (record { constant = pos 0; coefs = [] })
+
+-- all entries zero, not strict
+unfoldable pub startB : Bounds
+startB i j = zeroB
+
+-- a zone (paper: piece): its inequalities and its matrix
+pub record Zone : Type 0 where
+  pub ineqs : List Affine
+  pub bounds : Bounds
+
+-- ---- one guard (paper: limit) on one matrix: what the rules ask, in order, knowing nothing of inequalities
+
+-- the part is cut; it stays, with a matrix; a number leaves the range (refusal 9); or an expression is asked ≥ 0
+pub data Tree : Type 0 where
+  cut : Tree
+  keep : Bounds → Tree
+  wideTree : Tree
+  asks : Affine → (Bool → Tree) → Tree
+
+-- a sum, then what follows
+unfoldable pub summed : Judged (Limit Affine) → (Limit Affine → Tree) → Tree
+summed (fine b) f = f b
+summed wide f = wideTree
+
+-- a test of "tighter", then what follows
+unfoldable pub tested : Question → (Bool → Tree) → Tree
+tested yes′ f = f true
+tested no′ f = f false
+tested (ask e) f = asks e f
+tested wide′ f = wideTree
+
+-- a place in a matrix
+pub record Place : Type 0 where
+  pub row : ℕ
+  pub column : ℕ
+
+-- the matrix with one entry put in
+unfoldable pub putEntry : Place → Limit Affine → Bounds → Bounds
+putEntry p b m i j = pick (eqb i (p .row)) (pick (eqb j (p .column)) b (m i j)) (m i j)
+
+-- n places of row k, from column l on
+unfoldable pub rowFrom : ℕ → ℕ → ℕ → List Place
+rowFrom k l zero = []
+rowFrom k l (suc n) = record { row = k; column = l } ∷ rowFrom k (suc l) n
+
+-- n rows of w + 1 places, from row k on
+unfoldable pub rowsFrom : ℕ → ℕ → ℕ → List Place
+rowsFrom w k zero = []
+rowsFrom w k (suc n) = rowFrom k 0 (suc w) ++ rowsFrom w (suc k) n
+
+-- the places of clock 0 and w clocks, in row order
+unfoldable pub places : ℕ → List Place
+places w = rowsFrom w 0 (suc w)
+
+-- rule (3): in row order, (k, l) takes (k, i) + e + (j, l) where that is tighter, old entries read throughout
+unfoldable pub pushed : ℕ → ℕ → Limit Affine → Bounds → List Place → Bounds → Tree
+pushed i j e old [] new = keep new
+pushed i j e old (p ∷ ps) new =
+    summed (sumB (old (p .row) i) e) (λ s.
+    summed (sumB s (old j (p .column))) (λ t.
+    tested (tighterB t (old (p .row) (p .column))) (λ b.
+    pushed i j e old ps (pick b (putEntry p t new) new))))
+
+-- the three rules for a guard i - j with the bound e: (1) cut if e + (j, i) is tighter than zero, not strict; (2) the part stays if e isn't
+-- tighter than (i, j); (3) else pushed
+unfoldable pub guardTree : ℕ → ℕ → ℕ → Limit Affine → Bounds → Tree
+guardTree w i j e m =
+    summed (sumB e (m j i)) (λ back.
+    tested (tighterB back zeroB) (λ void.
+    pick void cut
+    (tested (tighterB e (m i j)) (λ tight.
+    pick tight (pushed i j e m (places w) m) (keep m)))))
+
+-- ---- zones listed in order, or a refusal
+
+-- the zones so far; or refusal 7, 8 or 9 at a visit (moves made)
+pub data Listing : Type 0 where
+  listed : List Zone → Listing
+  refused : ℕ → ℕ → Listing
+
+-- how many zones a limit may list, and how many inequalities a zone may have
+abbrev pub ZONES : ℕ
+ZONES = 32
+
+abbrev pub INEQS : ℕ
+INEQS = 24
+
+-- no valuation of the ranges that meets the inequalities satisfies e as well
+unfoldable pub never : List Range → List Affine → Affine → Bool
+never rs is e = isNone (first rs (is ++ (e ∷ [])))
+  where
+    isNone : Option (List ℤ) → Bool
+    isNone option.none = true
+    isNone (option.some v) = false
+
+-- a zone is listed, unless it would be the 33rd
+unfoldable pub listZone : ℕ → Zone → List Zone → Listing
+listZone visit z zs = pick (ltb (length zs) ZONES) (listed (zs ++ (z ∷ []))) (refused 7 visit)
+
+-- the tree worked on a zone's inequalities, what it keeps being listed after what was listed so far. A test is settled if none or all of the
+-- zone's valuations satisfy it, and nothing is added; otherwise it splits: the yes part gains the inequality, the no part its opposite, and the
+-- yes part's whole outcome stands before the no part's. A refusal sticks.
+unfoldable pub worked : List Range → ℕ → Tree → List Affine → Listing → Listing
+worked rs visit cut is (listed zs) = listed zs
+worked rs visit (keep m) is (listed zs) = listZone visit (record { ineqs = is; bounds = m }) zs
+worked rs visit wideTree is (listed zs) = refused 9 visit
+worked rs visit (asks e f) is (listed zs) =
+    pick (never rs is e) (worked rs visit (f false) is (listed zs))
+    (pick (never rs is (opposite e)) (worked rs visit (f true) is (listed zs))
+    (pick (ltb (length is) INEQS)
+    (worked rs visit (f false) (is ++ (opposite e ∷ [])) (worked rs visit (f true) (is ++ (e ∷ [])) (listed zs)))
+    (refused 8 visit)))
+worked rs visit cut is (refused n k) = refused n k
+worked rs visit (keep m) is (refused n k) = refused n k
+worked rs visit wideTree is (refused n k) = refused n k
+worked rs visit (asks e f) is (refused n k) = refused n k
+
+-- ---- the whole route
+
+-- one guard over all zones in order
+unfoldable pub guardZones : List Range → ℕ → ℕ → Guard → List Zone → Listing → Listing
+guardZones rs visit w g [] o = o
+guardZones rs visit w g (z ∷ zs) o =
+    guardZones rs visit w g zs (worked rs visit (guardTree w (g .left) (g .right) (limitOf (g .bound)) (z .bounds)) (z .ineqs) o)
+
+-- what follows a listing that is not refused
+abbrev pub andThen : Listing → (List Zone → Listing) → Listing
+andThen (listed zs) f = f zs
+andThen (refused n k) f = refused n k
+
+-- guards in file order, each over all zones, each with a listing of its own
+unfoldable pub guardsZones : List Range → ℕ → ℕ → List Guard → List Zone → Listing
+guardsZones rs visit w [] zs = listed zs
+guardsZones rs visit w (g ∷ gs) zs = andThen (guardZones rs visit w g zs (listed [])) (guardsZones rs visit w gs)
+
+-- a step on every zone's matrix
+unfoldable pub onBounds : (Bounds → Bounds) → List Zone → List Zone
+onBounds f zs = map (λ z. record { ineqs = z .ineqs; bounds = f (z .bounds) }) zs
+
+-- resets in rising order, of clocks 1 to n: bit i - 1 for clock i
+unfoldable pub resetBounds : ℕ → ℕ → ℕ → Bounds → Bounds
+resetBounds w bits zero m = m
+resetBounds w bits (suc i) m =
+    let before = resetBounds w bits i m in
+    pick (eqb (bits / 2 ^ i % 2) 1) (resetM w (suc i) before) before
+
+-- a stay: a wait, then the location's invariants
+unfoldable pub stayZones : Sheet → ℕ → ℕ → List Zone → Listing
+stayZones s visit l zs = guardsZones (rangeList (s .ranges)) visit (s .clocks) (invariants s l) (onBounds (delayed (s .clocks) none) zs)
+
+-- a transition: its guards, which belong to the visit before it, then its resets
+unfoldable pub moveZones : Sheet → ℕ → ℕ → List Zone → Listing
+moveZones s visit n zs =
+    andThen (guardsZones (rangeList (s .ranges)) visit (s .clocks) (guardsOf s n) zs)
+    (λ ks. listed (onBounds (resetBounds (s .clocks) (transitionAt s n .resets) (s .clocks)) ks))
+
+-- from location l along the rest of a route
+unfoldable pub cutRoute : Sheet → ℕ → ℕ → List ℕ → List Zone → Listing
+cutRoute s visit l [] zs = stayZones s visit l zs
+cutRoute s visit l (n ∷ ns) zs =
+    andThen (stayZones s visit l zs) (λ ks. andThen (moveZones s visit n ks) (cutRoute s (suc visit) (transitionAt s n .to) ns))
+
+-- the zones of a sheet in order, or refusal 7, 8 or 9, the first met: from one zone without inequalities, all entries zero, not strict
+unfoldable pub zonesOf : Sheet → Listing
+zonesOf s = cutRoute s 0 0 (routeOf s) (record { ineqs = []; bounds = startB } ∷ [])

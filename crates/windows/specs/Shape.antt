@@ -1,0 +1,254 @@
+-- The shape of what is listed: at most 32 zones, each of at most 24 inequalities, and past the sheet's clocks zero, not strict.
+use mathlib.Core.Path.{_≡_, refl, sym, ap, subst, _∙_}
+use mathlib.Core.Logic.{_⊎_, inl, inr}
+use mathlib.Core.List.{List, [], _∷_, _++_, List·Memᴰ, List·Memᴰ·not-nil, List·Memᴰ·cases-cons}
+use mathlib.Core.Bool.{Bool, true, false}
+use Prim.Native.Nat.{ℕ, zero, suc, _+_, _≤_, _<_, _/_, _%_, _^_}
+use native.Mathlib.Omega.{arith}
+use borrow.Author.Tests.{ltb-true, eqb-true}
+use lib.Dec.{eqb, ltb}
+use lib.ListN.{length, length-append}
+use Rattle.dbm.specs.Matrix.{delayed, resetM}
+use Rattle.dbm.specs.Entries.{Outside, delayed-outside, reset-outside}
+use Rattle.expr.specs.Affine.{Affine, opposite, Judged, fine, wide}
+use Rattle.expr.specs.Limit.{Limit, none, sumB, tighterB, Question, yes′, no′, ask, wide′}
+use Rattle.expr.specs.Three.{limitOf, rangeList}
+use Rattle.expr.specs.declared.ranges.Range.{Range}
+use Rattle.sheet.specs.declared.Guard.{Guard}
+use Rattle.sheet.specs.declared.Sheet.{Sheet}
+use Rattle.timed.specs.Runs.{invariants, guardsOf, routeOf, transitionAt}
+use Rattle.windows.specs.Agree.{listed-same, not-listed, worked-refused, guards-refused, listed-first}
+use Rattle.windows.specs.Cutting.{Bounds, pick, zeroB, startB, Zone, Tree, cut, keep, wideTree, asks, summed, tested, Place, putEntry, rowFrom, rowsFrom, places, pushed, guardTree, Listing, listed, refused, INEQS, ZONES, never, listZone, worked, guardZones, guardsZones, andThen, onBounds, resetBounds, stayZones, moveZones, cutRoute, zonesOf}
+
+-- past clock 0 and w clocks the matrix is zero, not strict
+abbrev pub Blank : ℕ → Bounds → Type 0
+Blank w m = (i j : ℕ) → Outside w i j → m i j ≡ zeroB
+
+pub record Shaped (w : ℕ) (z : Zone) : Type 0 where
+  pub few : length (z .ineqs) ≤ INEQS
+  pub blank : Blank w (z .bounds)
+
+-- ---- the statement
+abbrev pub ZonesShaped : Type 0
+ZonesShaped = (s : Sheet) (zs : List Zone) → zonesOf s ≡ listed zs → (length zs ≤ ZONES) × ((z : Zone) → List·Memᴰ z zs → Shaped (s .clocks) z)
+
+-- ---- its proof
+abbrev AllShaped : ℕ → List Zone → Type 0
+AllShaped w [] = Unit {0}
+AllShaped w (z ∷ zs) = Shaped w z × AllShaped w zs
+
+abbrev Right : ℕ → List Zone → Type 0
+Right w zs = (length zs ≤ ZONES) × AllShaped w zs
+
+shaped-more : (w : ℕ) (zs : List Zone) (z : Zone) → AllShaped w zs → Shaped w z → AllShaped w (zs ++ (z ∷ []))
+shaped-more w [] z a h = (h, tt)
+shaped-more w (y ∷ zs) z a h = (a .0, shaped-more w zs z (a .1) h)
+
+shaped-one : (w : ℕ) (zs : List Zone) → AllShaped w zs → (z : Zone) → List·Memᴰ z zs → Shaped w z
+shaped-one w [] a z i = absurd (List·Memᴰ·not-nil i)
+shaped-one w (y ∷ zs) a z i = by (List·Memᴰ·cases-cons i) (shaped-one w zs (a .1) z)
+  where
+    by : (z ≡ y) ⊎ List·Memᴰ z zs → (List·Memᴰ z zs → Shaped w z) → Shaped w z
+    by (inl e) ih = subst (Shaped w) (sym e) (a .0)
+    by (inr k) ih = ih k
+
+-- ---- trees
+-- every matrix that the tree keeps is blank past the clocks
+abbrev Leaves : ℕ → Tree → Type 0
+Leaves w cut = Unit {0}
+Leaves w (keep m) = Blank w m
+Leaves w wideTree = Unit {0}
+Leaves w (asks e f) = (b : Bool) → Leaves w (f b)
+
+summed-leaves : (w : ℕ) (j : Judged (Limit Affine)) (f : Limit Affine → Tree) → ((c : Limit Affine) → Leaves w (f c)) → Leaves w (summed j f)
+unfolding summed
+summed-leaves w (fine c) f h = h c
+summed-leaves w wide f h = tt
+
+tested-leaves : (w : ℕ) (q : Question) (f : Bool → Tree) → ((b : Bool) → Leaves w (f b)) → Leaves w (tested q f)
+unfolding tested
+tested-leaves w yes′ f h = h true
+tested-leaves w no′ f h = h false
+tested-leaves w (ask e) f h = h
+tested-leaves w wide′ f h = tt
+
+-- the places are of clock 0 and the clocks
+abbrev Placed : ℕ → List Place → Type 0
+Placed w [] = Unit {0}
+Placed w (p ∷ ps) = (p .row ≤ w) × (p .column ≤ w) × Placed w ps
+
+placed-append : (w : ℕ) (ps qs : List Place) → Placed w ps → Placed w qs → Placed w (ps ++ qs)
+placed-append w [] qs h k = k
+placed-append w (p ∷ ps) qs h k = (h .0, h .1, placed-append w ps qs (h .2) k)
+
+row-placed : (w k l n : ℕ) → k ≤ w → l + n ≤ suc w → Placed w (rowFrom k l n)
+unfolding rowFrom
+row-placed w k l zero a b = tt
+row-placed w k l (suc n) a b = (a, omega arith, row-placed w k (suc l) n a (omega arith))
+
+rows-placed : (w k n : ℕ) → k + n ≤ suc w → Placed w (rowsFrom w k n)
+unfolding rowsFrom
+rows-placed w k zero a = tt
+rows-placed w k (suc n) a = placed-append w (rowFrom k 0 (suc w)) (rowsFrom w (suc k) n) (row-placed w k 0 (suc w) (omega arith) (omega arith)) (rows-placed w (suc k) n (omega arith))
+
+put-blank : (w : ℕ) (p : Place) (t : Limit Affine) (m : Bounds) → p .row ≤ w → p .column ≤ w → Blank w m → Blank w (putEntry p t m)
+unfolding putEntry
+put-blank w p t m a b h i j o = by (eqb i (p .row)) (eqb j (p .column)) refl refl o
+  where
+    by : (x y : Bool) → eqb i (p .row) ≡ x → eqb j (p .column) ≡ y → Outside w i j → pick x (pick y t (m i j)) (m i j) ≡ zeroB
+    by false y e g o = h i j o
+    by true false e g o = h i j o
+    by true true e g (inl q) = let d = eqb-true i (p .row) e in absurd (omega arith)
+    by true true e g (inr q) = let d = eqb-true j (p .column) g in absurd (omega arith)
+
+pick-blank : (w : ℕ) (b : Bool) (x y : Bounds) → Blank w x → Blank w y → Blank w (pick b x y)
+pick-blank w true x y h k = h
+pick-blank w false x y h k = k
+
+pushed-leaves : (w i j : ℕ) (e : Limit Affine) (old : Bounds) (ps : List Place) (new : Bounds) → Placed w ps → Blank w new → Leaves w (pushed i j e old ps new)
+unfolding pushed
+pushed-leaves w i j e old [] new h k = k
+pushed-leaves w i j e old (p ∷ ps) new h k =
+    summed-leaves w (sumB (old (p .row) i) e) _ (λ s.
+    summed-leaves w (sumB s (old j (p .column))) _ (λ t.
+    tested-leaves w (tighterB t (old (p .row) (p .column))) _ (λ b.
+    pushed-leaves w i j e old ps (pick b (putEntry p t new) new) (h .2) (pick-blank w b (putEntry p t new) new (put-blank w p t new (h .0) (h .1) k) k))))
+
+guard-leaves : (w i j : ℕ) (e : Limit Affine) (m : Bounds) → Blank w m → Leaves w (guardTree w i j e m)
+unfolding guardTree places
+guard-leaves w i j e m h =
+    summed-leaves w (sumB e (m j i)) _ (λ back.
+    tested-leaves w (tighterB back zeroB) _ (λ b. void-or b))
+  where
+    stay-or : (b : Bool) → Leaves w (pick b (pushed i j e m (rowsFrom w 0 (suc w)) m) (keep m))
+    stay-or true = pushed-leaves w i j e m (rowsFrom w 0 (suc w)) m (rows-placed w 0 (suc w) (omega arith)) h
+    stay-or false = h
+
+    void-or : (b : Bool) → Leaves w (pick b cut (tested (tighterB e (m i j)) (λ tight. pick tight (pushed i j e m (rowsFrom w 0 (suc w)) m) (keep m))))
+    void-or true = tt
+    void-or false = tested-leaves w (tighterB e (m i j)) _ stay-or
+
+-- ---- a tree worked
+module _ (rs : List Range) (visit w : ℕ) where
+  abbrev Keeps : Tree → Type 0
+  Keeps t = (is : List Affine) (zs zs′ : List Zone) → length is ≤ INEQS → Right w zs → worked rs visit t is (listed zs) ≡ listed zs′ → Right w zs′
+
+  list-right : (is : List Affine) (m : Bounds) (zs zs′ : List Zone) → length is ≤ INEQS → Blank w m → Right w zs → (b : Bool) → ltb (length zs) ZONES ≡ b
+      → pick b (listed (zs ++ (record { ineqs = is; bounds = m } ∷ []))) (refused 7 visit) ≡ listed zs′ → Right w zs′
+  list-right is m zs zs′ l h r false e q = absurd (not-listed q)
+  list-right is m zs zs′ l h r true e q =
+      let a = ltb-true (length zs) ZONES e in
+      let c = length-append zs (record { ineqs = is; bounds = m } ∷ []) in
+      subst (Right w) (listed-same q) (omega arith, shaped-more w zs (record { ineqs = is; bounds = m }) (r .1) (record { few = l; blank = h }))
+
+  module _ (e : Affine) (f : Bool → Tree) (ih : (b : Bool) → Keeps (f b)) (is : List Affine) (zs zs′ : List Zone) (l : length is ≤ INEQS) (r : Right w zs) where
+    abbrev yes-half : Listing
+    yes-half = worked rs visit (f true) (is ++ (e ∷ [])) (listed zs)
+
+    abbrev no-half : Listing → Listing
+    no-half o = worked rs visit (f false) (is ++ (opposite e ∷ [])) o
+
+    split-right : (o : Listing) → yes-half ≡ o → length is < INEQS → no-half o ≡ listed zs′ → Right w zs′
+    split-right (refused n k) o h q = absurd (not-listed (sym (worked-refused rs visit (f false) (is ++ (opposite e ∷ [])) n k) ∙ q))
+    split-right (listed zs₁) o h q =
+        let a : length (is ++ (e ∷ [])) ≤ INEQS = omega (arith, length-append is (e ∷ [])) in
+        let b : length (is ++ (opposite e ∷ [])) ≤ INEQS = omega (arith, length-append is (opposite e ∷ [])) in
+        ih false (is ++ (opposite e ∷ [])) zs₁ zs′ b (ih true (is ++ (e ∷ [])) zs zs₁ a r o) q
+
+    room-right : (b : Bool) → ltb (length is) INEQS ≡ b → pick b (no-half yes-half) (refused 8 visit) ≡ listed zs′ → Right w zs′
+    room-right true k q = split-right yes-half refl (ltb-true (length is) INEQS k) q
+    room-right false k q = absurd (not-listed q)
+
+    all-right : (b : Bool) → pick b (worked rs visit (f true) is (listed zs)) (pick (ltb (length is) INEQS) (no-half yes-half) (refused 8 visit)) ≡ listed zs′ → Right w zs′
+    all-right true q = ih true is zs zs′ l r q
+    all-right false q = room-right (ltb (length is) INEQS) refl q
+
+    none-right : (b : Bool)
+        → pick b (worked rs visit (f false) is (listed zs))
+        (pick (never rs is (opposite e)) (worked rs visit (f true) is (listed zs)) (pick (ltb (length is) INEQS) (no-half yes-half) (refused 8 visit))) ≡ listed zs′
+        → Right w zs′
+    none-right true q = ih false is zs zs′ l r q
+    none-right false q = all-right (never rs is (opposite e)) q
+
+  tree-keeps : (t : Tree) → Leaves w t → Keeps t
+  unfolding worked listZone
+  tree-keeps cut h is zs zs′ l r q = subst (Right w) (listed-same q) r
+  tree-keeps (keep m) h is zs zs′ l r q = list-right is m zs zs′ l h r (ltb (length zs) ZONES) refl q
+  tree-keeps wideTree h is zs zs′ l r q = absurd (not-listed q)
+  tree-keeps (asks e f) h is zs zs′ l r q = none-right e f (λ b. tree-keeps (f b) (h b)) is zs zs′ l r (never rs is e) q
+
+  -- ---- guards
+  guard-right : (g : Guard) (zs os zs′ : List Zone) → AllShaped w zs → Right w os → guardZones rs visit w g zs (listed os) ≡ listed zs′ → Right w zs′
+  unfolding guardZones
+  guard-right g [] os zs′ a r q = subst (Right w) (listed-same q) r
+  guard-right g (z ∷ zs) os zs′ a r q = by (worked rs visit tree (z .ineqs) (listed os)) refl q (λ os₁. guard-right g zs os₁ zs′ (a .1))
+    where
+      tree : Tree
+      tree = guardTree w (g .left) (g .right) (limitOf (g .bound)) (z .bounds)
+
+      by : (o : Listing) → worked rs visit tree (z .ineqs) (listed os) ≡ o → guardZones rs visit w g zs o ≡ listed zs′
+          → ((os₁ : List Zone) → Right w os₁ → guardZones rs visit w g zs (listed os₁) ≡ listed zs′ → Right w zs′) → Right w zs′
+      by (refused n k) e q ih = absurd (not-listed (sym (guards-refused rs visit w g zs n k) ∙ q))
+      by (listed os₁) e q ih =
+          ih os₁ (tree-keeps tree (guard-leaves w (g .left) (g .right) (limitOf (g .bound)) (z .bounds) (a .0 .blank)) (z .ineqs) os os₁ (a .0 .few) r e) q
+
+  guards-right : (gs : List Guard) (zs zs′ : List Zone) → Right w zs → guardsZones rs visit w gs zs ≡ listed zs′ → Right w zs′
+  unfolding guardsZones
+  guards-right [] zs zs′ r q = subst (Right w) (listed-same q) r
+  guards-right (g ∷ gs) zs zs′ r q =
+      let (zs₁, a, b) = listed-first (guardZones rs visit w g zs (listed [])) (guardsZones rs visit w gs) zs′ q in
+      guards-right gs zs₁ zs′ (guard-right g zs [] zs₁ (r .1) (omega arith, tt) a) b
+
+-- ---- steps on every zone's matrix, and the route
+on-shaped : (w : ℕ) (f : Bounds → Bounds) → ((m : Bounds) → Blank w m → Blank w (f m)) → (zs : List Zone) → AllShaped w zs → AllShaped w (onBounds f zs)
+unfolding onBounds
+on-shaped w f h [] a = tt
+on-shaped w f h (z ∷ zs) a = (record { few = a .0 .few; blank = h (z .bounds) (a .0 .blank) }, on-shaped w f h zs (a .1))
+
+on-length : (f : Bounds → Bounds) (zs : List Zone) → length (onBounds f zs) ≡ length zs
+unfolding onBounds
+on-length f [] = refl
+on-length f (z ∷ zs) = ap suc (on-length f zs)
+
+on-right : (w : ℕ) (f : Bounds → Bounds) → ((m : Bounds) → Blank w m → Blank w (f m)) → (zs : List Zone) → Right w zs → Right w (onBounds f zs)
+on-right w f h zs r = (subst (λ (n : ℕ). n ≤ ZONES) (sym (on-length f zs)) (r .0), on-shaped w f h zs (r .1))
+
+resets-blank : (w bits n : ℕ) (m : Bounds) → Blank w m → Blank w (resetBounds w bits n m)
+unfolding resetBounds
+resets-blank w bits zero m h = h
+resets-blank w bits (suc k) m h = by (eqb (bits / 2 ^ k % 2) 1) (resets-blank w bits k m h)
+  where
+    by : (b : Bool) → Blank w (resetBounds w bits k m) → Blank w (pick b (resetM w (suc k) (resetBounds w bits k m)) (resetBounds w bits k m))
+    by true ih = λ i j o. reset-outside w (suc k) (resetBounds w bits k m) i j o ∙ ih i j o
+    by false ih = ih
+
+module _ (s : Sheet) where
+  stay-right : (visit l : ℕ) (zs zs′ : List Zone) → Right (s .clocks) zs → stayZones s visit l zs ≡ listed zs′ → Right (s .clocks) zs′
+  unfolding stayZones
+  stay-right visit l zs zs′ r q =
+      guards-right (rangeList (s .ranges)) visit (s .clocks) (invariants s l) (onBounds (delayed (s .clocks) none) zs) zs′
+      (on-right (s .clocks) (delayed (s .clocks) none) (λ m h i j o. delayed-outside (s .clocks) none m i j o ∙ h i j o) zs r) q
+
+  move-right : (visit n : ℕ) (zs zs′ : List Zone) → Right (s .clocks) zs → moveZones s visit n zs ≡ listed zs′ → Right (s .clocks) zs′
+  unfolding moveZones
+  move-right visit n zs zs′ r q =
+      let resets = transitionAt s n .resets in
+      let (zs₁, a, b) = listed-first (guardsZones (rangeList (s .ranges)) visit (s .clocks) (guardsOf s n) zs) (λ ks. listed (onBounds (resetBounds (s .clocks) resets (s .clocks)) ks)) zs′ q in
+      subst (Right (s .clocks)) (listed-same b)
+      (on-right (s .clocks) (resetBounds (s .clocks) resets (s .clocks)) (resets-blank (s .clocks) resets (s .clocks)) zs₁
+      (guards-right (rangeList (s .ranges)) visit (s .clocks) (guardsOf s n) zs zs₁ r a))
+
+  route-right : (ns : List ℕ) (visit l : ℕ) (zs zs′ : List Zone) → Right (s .clocks) zs → cutRoute s visit l ns zs ≡ listed zs′ → Right (s .clocks) zs′
+  unfolding cutRoute
+  route-right [] visit l zs zs′ r q = stay-right visit l zs zs′ r q
+  route-right (n ∷ ns) visit l zs zs′ r q =
+      let (zs₁, a, b) = listed-first (stayZones s visit l zs) (λ ks. andThen (moveZones s visit n ks) (cutRoute s (suc visit) (transitionAt s n .to) ns)) zs′ q in
+      let (zs₂, c, d) = listed-first (moveZones s visit n zs₁) (cutRoute s (suc visit) (transitionAt s n .to) ns) zs′ b in
+      route-right ns (suc visit) (transitionAt s n .to) zs₂ zs′ (move-right visit n zs₁ zs₂ (stay-right visit l zs zs₁ r a) c) d
+
+pub zones-shaped : ZonesShaped
+unfolding zonesOf startB
+zones-shaped s zs q =
+    let r = route-right s (routeOf s) 0 0 (record { ineqs = []; bounds = startB } ∷ []) zs
+    (omega arith, (record { few = omega arith; blank = λ i j o. refl }, tt)) q in
+    (r .0, shaped-one (s .clocks) zs (r .1))
