@@ -46,7 +46,7 @@ fn with_row(h: u64, row: Row) -> u64 {
 }
 
 // The digest of a matrix.
-pub fn digest(rows: [Row; 5]) -> u64 {
+pub(crate) fn digest(rows: [Row; 5]) -> u64 {
     let mut mix = 0;
     for i in 0..5 {
         mix = with_row(mix, rows[i]);

@@ -39,7 +39,7 @@ fn signed(n: u64) -> i64 {
 }
 
 // The number with sign of the eight bytes from a place on.
-pub fn number(b: [u8; 24], at: usize) -> i64
+pub(crate) fn number(b: [u8; 24], at: usize) -> i64
     requires { ⌜ at ≤ 16 ⌝ }
 {
     let one = four(two(b[at], b[at + 1]), two(b[at + 2], b[at + 3]));
