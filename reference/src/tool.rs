@@ -3,8 +3,20 @@
 use std::path::Path;
 use std::process::ExitCode;
 
-/// The exit code of a tool of that name; an error's message is written out.
-pub fn exit_code(name: &str, done: Result<(), String>) -> ExitCode {
+/// A step of a tool on the folder of stored results.
+type Step = fn(&Path) -> Result<(), String>;
+
+/// What the command's words ask of the tool of that name: `--list`, `--check FOLDER`, or `FOLDER`, which
+/// writes. An error's message is written out.
+pub fn run(name: &str, list: fn() -> Result<(), String>, check: Step, write: Step) -> ExitCode {
+    let args: Vec<String> = std::env::args().skip(1).collect();
+    let words: Vec<&str> = args.iter().map(String::as_str).collect();
+    let done = match words[..] {
+        ["--list"] => list(),
+        ["--check", folder] => check(Path::new(folder)),
+        [folder] if !folder.starts_with('-') => write(Path::new(folder)),
+        _ => Err(format!("use: {name} [--check] FOLDER, or --list")),
+    };
     match done {
         Ok(()) => ExitCode::SUCCESS,
         Err(message) => {

@@ -6,7 +6,7 @@
 //! belong to which family.
 
 use reference::sheet::Refusal;
-use reference::tool::{exit_code, get, get_text, put, same, text_lines};
+use reference::tool::{get, get_text, put, run, same, text_lines};
 use reference::vectors::{families, limits, lines, store, stored, Family, LIMITS};
 use std::path::Path;
 use std::process::ExitCode;
@@ -16,15 +16,7 @@ const FILES: &str = "data/sheets.bin";
 const RESULTS: &str = "stdout";
 
 fn main() -> ExitCode {
-    let args: Vec<String> = std::env::args().skip(1).collect();
-    let words: Vec<&str> = args.iter().map(String::as_str).collect();
-    let done = match words[..] {
-        ["--list"] => list(),
-        ["--check", folder] => check(Path::new(folder)),
-        [folder] if !folder.starts_with('-') => write(Path::new(folder)),
-        _ => Err("use: vectors_sheet [--check] FOLDER, or --list".to_string()),
-    };
-    exit_code("vectors_sheet", done)
+    run("vectors_sheet", list, check, write)
 }
 
 /// Prints each family with its first and last line of the results.

@@ -7,7 +7,7 @@
 use reference::sweep::sweep;
 use reference::sweeps::paper::{self, Reply};
 use reference::sweeps::{families, lines, store, stored, Family, Record, PAPER};
-use reference::tool::{exit_code, get, get_text, put, same, text_lines};
+use reference::tool::{get, get_text, put, run, same, text_lines};
 use std::path::Path;
 use std::process::ExitCode;
 
@@ -16,15 +16,7 @@ const RECORDS: &str = "data/sweeps.bin";
 const RESULTS: &str = "stdout";
 
 fn main() -> ExitCode {
-    let args: Vec<String> = std::env::args().skip(1).collect();
-    let words: Vec<&str> = args.iter().map(String::as_str).collect();
-    let done = match words[..] {
-        ["--list"] => list(),
-        ["--check", folder] => check(Path::new(folder)),
-        [folder] if !folder.starts_with('-') => write(Path::new(folder)),
-        _ => Err("use: vectors_sweep [--check] FOLDER, or --list".to_string()),
-    };
-    exit_code("vectors_sweep", done)
+    run("vectors_sweep", list, check, write)
 }
 
 /// Prints each family with its first and last line of the results and how often each answer comes.
