@@ -17,8 +17,8 @@ use Rattle.expr.specs.declared.ranges.Range.{Range}
 use Rattle.sheet.specs.declared.Guard.{Guard}
 use Rattle.sheet.specs.declared.Sheet.{Sheet}
 use Rattle.timed.specs.Runs.{invariants, guardsOf, routeOf, transitionAt}
-use Rattle.windows.specs.Agree.{listed-same, not-listed, worked-refused, guards-refused, listed-first}
-use Rattle.windows.specs.Cutting.{Bounds, pick, zeroB, startB, Zone, Tree, cut, keep, wideTree, asks, summed, tested, Place, putEntry, rowFrom, rowsFrom, places, pushed, guardTree, Listing, listed, refused, INEQS, ZONES, never, listZone, worked, guardZones, guardsZones, andThen, onBounds, resetBounds, stayZones, moveZones, cutRoute, zonesOf}
+use Rattle.cutting.specs.Agree.{listed-same, not-listed, worked-refused, guards-refused, listed-first}
+use Rattle.cutting.specs.Cutting.{Bounds, pick, zeroB, startB, Zone, Tree, cut, keep, wideTree, asks, summed, tested, Place, putEntry, rowFrom, rowsFrom, places, pushed, guardTree, Listing, listed, refused, INEQS, ZONES, never, listZone, worked, guardZones, guardsZones, andThen, onBounds, resetBounds, stayZones, moveZones, cutRoute, zonesOf}
 
 -- past clock 0 and w clocks the matrix is zero, not strict
 abbrev pub Blank : ℕ → Bounds → Type 0

@@ -17,9 +17,9 @@ use Rattle.sheet.specs.WellFormed.{WellFormed}
 use Rattle.sweep.specs.Proofs.{void-iff-no-run, entries-tightest}
 use Rattle.sweep.specs.Walk.{sweepAt}
 use Rattle.timed.specs.Runs.{Run, Tightest}
-use Rattle.windows.specs.Cutting.{Zone, pick, listed, zonesOf}
-use Rattle.windows.specs.Held.{holds, at, found, listOf}
-use Rattle.windows.specs.Agree.{found-sweep}
+use Rattle.cutting.specs.Cutting.{Zone, pick, listed, zonesOf}
+use Rattle.cutting.specs.Held.{holds, at, found, listOf}
+use Rattle.cutting.specs.Agree.{found-sweep}
 
 -- some zone of the list holds v
 pub record HeldBy (v : List ℤ) (zs : List Zone) : Type 0 where

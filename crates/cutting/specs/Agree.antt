@@ -25,9 +25,9 @@ use Rattle.sheet.specs.declared.Sheet.{Sheet}
 use Rattle.sweep.specs.Walk.{guardStep, guardSteps, pickM, resetSteps, stay, move, walk, sweepAt}
 use Rattle.sweep.specs.Walk as sweep
 use Rattle.timed.specs.Runs.{invariants, guardsOf, routeOf, transitionAt}
-use Rattle.windows.specs.Cutting.{Bounds, pick, startB, Zone, Tree, cut, keep, wideTree, asks, guardTree, Listing, listed, refused, INEQS, ZONES, never, listZone, worked, guardZones, andThen, guardsZones, onBounds, resetBounds, stayZones, moveZones, cutRoute, zonesOf}
-use Rattle.windows.specs.Held.{holds, at, found, listOf}
-use Rattle.windows.specs.Comes.{Comes, guard-comes}
+use Rattle.cutting.specs.Cutting.{Bounds, pick, startB, Zone, Tree, cut, keep, wideTree, asks, guardTree, Listing, listed, refused, INEQS, ZONES, never, listZone, worked, guardZones, andThen, guardsZones, onBounds, resetBounds, stayZones, moveZones, cutRoute, zonesOf}
+use Rattle.cutting.specs.Held.{holds, at, found, listOf}
+use Rattle.cutting.specs.Comes.{Comes, guard-comes}
 
 -- ---- lists
 append-nil : {A : Type 0} (xs : List A) → xs ++ [] ≡ xs

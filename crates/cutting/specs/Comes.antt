@@ -14,8 +14,8 @@ use Rattle.expr.specs.Affine.{Affine, value, dot, Judged, fine, wide}
 use Rattle.expr.specs.Limit.{Limit, atV, sumW, tighterW, zeroW, sumB, tighterB, Question, yes′, no′, ask, wide′}
 use Rattle.expr.specs.IntervalLaws.{and-left, and-right}
 use Rattle.expr.specs.Laws.{same-test, answer, sum-at, tighter-at}
-use Rattle.windows.specs.Cutting.{Bounds, pick, zeroB, Tree, cut, keep, wideTree, asks, summed, tested, Place, putEntry, rowFrom, rowsFrom, places, pushed, guardTree}
-use Rattle.windows.specs.Held.{at}
+use Rattle.cutting.specs.Cutting.{Bounds, pick, zeroB, Tree, cut, keep, wideTree, asks, summed, tested, Place, putEntry, rowFrom, rowsFrom, places, pushed, guardTree}
+use Rattle.cutting.specs.Held.{at}
 
 -- the path of v down the tree ends in r, unless it ends where a number leaves the range
 abbrev pub Comes : List ℤ → Tree → Outcome → Type 0

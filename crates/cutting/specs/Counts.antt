@@ -16,10 +16,10 @@ use Rattle.sheet.specs.WellFormed.{WellFormed}
 use Rattle.sweep.specs.Proofs.{void-iff-no-run}
 use Rattle.sweep.specs.Walk.{sweepAt}
 use Rattle.timed.specs.Runs.{Run}
-use Rattle.windows.specs.Agree.{found-sweep}
-use Rattle.windows.specs.Cutting.{Zone, pick, listed, zonesOf}
-use Rattle.windows.specs.Held.{holds, at, found, listOf}
-use Rattle.windows.specs.Theorems.{InRanges, found-held, held-iff-run}
+use Rattle.cutting.specs.Agree.{found-sweep}
+use Rattle.cutting.specs.Cutting.{Zone, pick, listed, zonesOf}
+use Rattle.cutting.specs.Held.{holds, at, found, listOf}
+use Rattle.cutting.specs.Theorems.{InRanges, found-held, held-iff-run}
 
 -- n of the listed valuations have P
 pub data Counted (P : List ℤ → Type 0) : List (List ℤ) → ℕ → Type 0 where

@@ -1,0 +1,1 @@
+// The cutting of a sheet's ranges into zones: the definitions and their theorems are in specs/.
