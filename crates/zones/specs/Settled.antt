@@ -1,0 +1,50 @@
+-- A test on a zone: settled if all or none of its valuations satisfy it; otherwise it splits the zone.
+use mathlib.Core.List.{List, [], _∷_, _++_, map}
+use mathlib.Core.Bool.{Bool, true, false}
+use mathlib.Core.Option.{Option}
+use mathlib.Core.Option as option
+use lib.Dec.{ltb}
+use lib.IntN.{ℤ}
+use lib.ListN.{take}
+use Rattle.expr.specs.Affine.{opposite, judge}
+use Rattle.expr.specs.Three.{affine, inequality, rangeList, OPPOSITE}
+use Rattle.expr.specs.Valuations.{first}
+use Rattle.expr.specs.declared.bound.Test.{Test}
+use Rattle.expr.specs.declared.bound.Test.the-variants.{Yes, No, Ask, Wide as TestWide}
+use Rattle.expr.specs.declared.number.Expr.{Expr}
+use Rattle.expr.specs.declared.number.Inequality.{Inequality}
+use Rattle.expr.specs.declared.number.Inequality.the-variants.{Is, Wide}
+use Rattle.expr.specs.declared.ranges.Ranges.{Ranges}
+use Rattle.zones.specs.Listed.{pick, zeroExpr}
+use Rattle.zones.specs.declared.settle.Verdict.{Verdict}
+use Rattle.zones.specs.declared.zone.Zone.{Zone}
+
+abbrev pub exprIn : Inequality → Expr
+exprIn (Is e) = e
+exprIn Wide = zeroExpr
+
+-- the opposite of e ≥ 0; no test's opposite is wide
+unfoldable pub oppositeC : Expr → Expr
+oppositeC e = exprIn (inequality (judge OPPOSITE (opposite (affine e))))
+
+abbrev pub isNone : Option (List ℤ) → Bool
+isNone option.none = true
+isNone (option.some v) = false
+
+-- no valuation of the zone satisfies e
+unfoldable pub neverC : Ranges → Zone → Expr → Bool
+neverC b z e = isNone (first (rangeList b) (map affine (take (z .count) (z .ineqs) ++ (e ∷ []))))
+
+-- the verdict on e ≥ 0
+unfoldable pub onC : Ranges → Zone → Expr → Verdict
+onC b z e =
+    pick (neverC b z e) (record { kind = 0; test = e })
+    (pick (neverC b z (oppositeC e)) (record { kind = 1; test = e })
+    (pick (ltb (z .count) 24) (record { kind = 3; test = e }) (record { kind = 8; test = e })))
+
+-- the verdict on a test
+abbrev pub settledC : Ranges → Zone → Test → Verdict
+settledC b z Yes = record { kind = 1; test = zeroExpr }
+settledC b z No = record { kind = 0; test = zeroExpr }
+settledC b z (Ask e) = onC b z e
+settledC b z TestWide = record { kind = 9; test = zeroExpr }

@@ -1,0 +1,165 @@
+// A part of a zone on its way through the tests of a guard.
+use crate::rule;
+use crate::rule::Rule;
+use crate::settle;
+use crate::settle::Verdict;
+use crate::zone;
+use crate::zone::Zone;
+use expr::Bound;
+use expr::Expr;
+use expr::Ranges;
+ghost use mathlib.Core.Path.{_≡_};
+ghost use Prim.Native.Nat.{_<_};
+ghost use Rattle.zones.specs.Parts.{standing, putC, pushedC, answeredC, forwardC, Live, Ran, yesC, noC};
+
+// A part: the test that comes next (27: none); whether it goes on (0), is cut (1), is kept (2), splits by the test (3), or is refused (8, 9);
+// and its zone, whose matrix is the new one.
+pub struct Part {
+    pub phase: usize,
+    pub halt: usize,
+    pub test: Expr,
+    pub zone: Zone,
+}
+
+// The part at a phase, going on or halted.
+fn at(p: Part, phase: usize, halt: usize) -> Part
+    ensures { λ r. ⌜ r ≡ standing p phase halt ⌝ }
+{
+    let zone = p.zone;
+    let test = p.test;
+    Part {
+        phase,
+        halt,
+        test,
+        zone,
+    }
+}
+
+// The part with an entry put in.
+fn put(p: Part, x: usize, b: Bound) -> Part
+    requires { ⌜ x < 25 ⌝ }
+    ensures { λ r. ⌜ r ≡ putC p x b ⌝ }
+{
+    let mut zone = p.zone;
+    let test = p.test;
+    zone.bounds[x] = b;
+    Part {
+        phase: p.phase,
+        halt: p.halt,
+        test,
+        zone,
+    }
+}
+
+// The part after the test of the entry x: the entry is put in, or not; after the last one the part is kept.
+fn pushed(r: Rule, p: Part, x: usize, yes: bool) -> Part
+    requires { ⌜ (r .left < 5) × ((r .right < 5) × (x < 25)) ⌝ }
+    ensures { λ q. ⌜ q ≡ pushedC r p x yes ⌝ }
+{
+    let mut q = p;
+    if yes {
+        let next = put(p, x, rule::via_bound(r, x));
+        q = next;
+    }
+    if x < 24 {
+        return at(q, x + 3, 0);
+    }
+    at(q, 27, 2)
+}
+
+// The part after the answer to its test.
+fn answered(r: Rule, p: Part, yes: bool) -> Part
+    requires { ⌜ (r .left < 5) × ((r .right < 5) × (p .phase < 27)) ⌝ }
+    ensures { λ q. ⌜ q ≡ answeredC r p yes ⌝ }
+{
+    if p.phase < 1 {
+        if yes {
+            return at(p, 27, 1);
+        }
+        return at(p, 1, 0);
+    }
+    if p.phase < 2 {
+        if yes {
+            return at(p, 2, 0);
+        }
+        return at(p, 27, 2);
+    }
+    pushed(r, p, p.phase - 2, yes)
+}
+
+// A part that stops at its test.
+fn halted(p: Part, v: Verdict) -> Part
+    ensures { λ q. ⌜ q ≡ record { phase = p .phase; halt = v .kind; test = v .test; zone = p .zone } ⌝ }
+{
+    let zone = p.zone;
+    let test = v.test;
+    Part {
+        phase: p.phase,
+        halt: v.kind,
+        test,
+        zone,
+    }
+}
+
+// The part after its test, if that is settled; else it stops there.
+fn forward(b: Ranges, r: Rule, p: Part) -> Part
+    requires { ⌜ (r .left < 5) × ((r .right < 5) × (p .phase < 27)) ⌝ }
+    ensures { λ q. ⌜ q ≡ forwardC b r p ⌝ }
+{
+    let zone = p.zone;
+    let v = settle::settled(b, zone, rule::asked(r, p.phase));
+    if v.kind < 1 {
+        return answered(r, p, false);
+    }
+    if v.kind < 2 {
+        return answered(r, p, true);
+    }
+    halted(p, v)
+}
+
+// The part where it stops.
+pub(crate) fn run(b: Ranges, r: Rule, p: Part) -> Part
+    requires { ⌜ (r .left < 5) × ((r .right < 5) × Live p) ⌝ }
+    ensures { λ q. ⌜ Ran b r p q ⌝ }
+{
+    let mut q = p;
+    while q.halt < 1 {
+        let next = forward(b, r, q);
+        q = next;
+    }
+    q
+}
+
+// The yes part of a split.
+pub(crate) fn yes_part(r: Rule, p: Part) -> Part
+    requires { ⌜ (r .left < 5) × ((r .right < 5) × ((p .phase < 27) × (p .zone .count < 24))) ⌝ }
+    ensures { λ q. ⌜ q ≡ yesC r p ⌝ }
+{
+    let zone = p.zone;
+    let test = p.test;
+    let more = zone::with_inequality(zone, test);
+    let part = Part {
+        phase: p.phase,
+        halt: 0,
+        test,
+        zone: more,
+    };
+    answered(r, part, true)
+}
+
+// Its no part.
+pub(crate) fn no_part(r: Rule, p: Part) -> Part
+    requires { ⌜ (r .left < 5) × ((r .right < 5) × ((p .phase < 27) × (p .zone .count < 24))) ⌝ }
+    ensures { λ q. ⌜ q ≡ noC r p ⌝ }
+{
+    let zone = p.zone;
+    let test = p.test;
+    let more = zone::with_inequality(zone, settle::opposite(test));
+    let part = Part {
+        phase: p.phase,
+        halt: 0,
+        test,
+        zone: more,
+    };
+    answered(r, part, false)
+}

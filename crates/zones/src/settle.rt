@@ -1,0 +1,105 @@
+// A test on a zone: settled if all or none of its valuations (paper: settings) satisfy it; otherwise it splits the zone.
+use crate::zone::Zone;
+use expr::Expr;
+use expr::Inequality;
+use expr::Ranges;
+use expr::Solution;
+use expr::System;
+use expr::Test;
+ghost use mathlib.Core.Path.{_≡_};
+ghost use mathlib.Core.List.{[], _∷_, _++_, map};
+ghost use lib.ListN.{take};
+ghost use Prim.Native.Nat.{min};
+ghost use Rattle.expr.specs.Three.{exprs, affine};
+ghost use Rattle.zones.specs.Settled.{oppositeC, neverC, onC, settledC};
+
+// The verdict on a test: no (0), yes (1), a split by the test (3), a 25th inequality (8), a wide number (9).
+pub struct Verdict {
+    pub kind: usize,
+    pub test: Expr,
+}
+
+// The opposite of e ≥ 0.
+pub(crate) fn opposite(e: Expr) -> Expr
+    ensures { λ r. ⌜ r ≡ oppositeC e ⌝ }
+{
+    let judged = e.opposite();
+    match judged {
+        Inequality::Is(expr) => expr,
+        Inequality::Wide => Expr::ZERO,
+    }
+}
+
+// n, or most where n is more.
+pub(crate) fn at_most(n: usize, most: usize) -> usize
+    ensures { λ r. ⌜ r ≡ min n most ⌝ }
+{
+    if n < most {
+        return n;
+    }
+    most
+}
+
+// The zone's inequalities and one more.
+fn system(zone: Zone, e: Expr) -> System
+    ensures { λ r. ⌜ exprs r ≡ map affine (take (zone .count) (zone .ineqs) ++ (e ∷ [])) ⌝ }
+{
+    let n = at_most(zone.count, 24);
+    let mut list = [Expr::ZERO; 25];
+    let mut i = 0;
+    while i < n {
+        let x = zone.ineqs[i];
+        list[i] = x;
+        i += 1;
+    }
+    list[n] = e;
+    System { count: n + 1, list }
+}
+
+// Whether no valuation of the zone satisfies e.
+fn never(b: Ranges, zone: Zone, e: Expr) -> bool
+    ensures { λ r. ⌜ r ≡ neverC b zone e ⌝ }
+{
+    let found = expr::first(b, system(zone, e));
+    match found {
+        Solution::Found(_) => false,
+        Solution::Nothing => true,
+    }
+}
+
+// The verdict on e ≥ 0.
+fn on(b: Ranges, zone: Zone, e: Expr) -> Verdict
+    ensures { λ r. ⌜ r ≡ onC b zone e ⌝ }
+{
+    if never(b, zone, e) {
+        return Verdict { kind: 0, test: e };
+    }
+    if never(b, zone, opposite(e)) {
+        return Verdict { kind: 1, test: e };
+    }
+    if zone.count < 24 {
+        return Verdict { kind: 3, test: e };
+    }
+    Verdict { kind: 8, test: e }
+}
+
+// The verdict on a test.
+pub(crate) fn settled(b: Ranges, zone: Zone, test: Test) -> Verdict
+    ensures { λ r. ⌜ r ≡ settledC b zone test ⌝ }
+{
+    match test {
+        Test::Yes => Verdict {
+            kind: 1,
+            test: Expr::ZERO,
+        },
+        Test::No => Verdict {
+            kind: 0,
+            test: Expr::ZERO,
+        },
+        Test::Ask(e) => on(b, zone, e),
+        Test::Wide => Verdict {
+            kind: 9,
+            test: Expr::ZERO,
+        },
+    }
+}
