@@ -10,6 +10,8 @@ use expr::Expr;
 use expr::Ranges;
 ghost use mathlib.Core.Path.{_≡_};
 ghost use Prim.Native.Nat.{_<_};
+ghost use Rattle.zones.specs.Listed.{pick};
+ghost use Rattle.zones.specs.Rules.{viaC, viaBound};
 ghost use Rattle.zones.specs.Parts.{standing, putC, pushedC, answeredC, forwardC, Live, Ran, yesC, noC};
 
 // A part: the test that comes next (27: none); whether it goes on (0), is cut (1), is kept (2), splits by the test (3), or is refused (8, 9);
@@ -51,16 +53,23 @@ fn put(p: Part, x: usize, b: Bound) -> Part
     }
 }
 
+// The part with the entry x put in where it is tighter.
+fn entered(r: Rule, p: Part, x: usize, yes: bool) -> Part
+    requires { ⌜ (r .left < 5) × ((r .right < 5) × (x < 25)) ⌝ }
+    ensures { λ q. ⌜ q ≡ pick yes (putC p x (viaBound (viaC r x))) p ⌝ }
+{
+    if yes {
+        return put(p, x, rule::via_bound(r, x));
+    }
+    p
+}
+
 // The part after the test of the entry x: the entry is put in, or not; after the last one the part is kept.
 fn pushed(r: Rule, p: Part, x: usize, yes: bool) -> Part
     requires { ⌜ (r .left < 5) × ((r .right < 5) × (x < 25)) ⌝ }
     ensures { λ q. ⌜ q ≡ pushedC r p x yes ⌝ }
 {
-    let mut q = p;
-    if yes {
-        let next = put(p, x, rule::via_bound(r, x));
-        q = next;
-    }
+    let q = entered(r, p, x, yes);
     if x < 24 {
         return at(q, x + 3, 0);
     }

@@ -63,14 +63,15 @@ pub(crate) fn refused(out: Zones, number: usize) -> Zones
 pub(crate) fn listed(out: Zones, zone: Zone) -> Zones
     ensures { λ r. ⌜ r ≡ listC zone out ⌝ }
 {
-    if out.refusal == 0 {
-        let n = out.count;
-        if n < 32 {
-            let mut more = out;
-            more.list[n] = zone;
-            more.count = n + 1;
-            return more;
-        }
+    if 0 < out.refusal {
+        return out;
+    }
+    let n = out.count;
+    if n < 32 {
+        let mut more = out;
+        more.list[n] = zone;
+        more.count = n + 1;
+        return more;
     }
     refused(out, 7)
 }
