@@ -242,3 +242,49 @@ module _ (p : Part) (out : Zones) where
       pub ended-refused : 4 ≤ p .halt → refusedC (p .halt) out ≡ endedC p out
       unfolding endedC
       ended-refused l = rw (le-ltb (p .halt) 2 h, le-ltb (p .halt) 3 k, le-ltb (p .halt) 4 l) refl
+
+-- ---- one guard over zones
+module _ (b : Ranges) (clocks : ℕ) (g : Guard) (zs : Zones) where
+  pub guarded-refused : 0 < zs .refusal → zs ≡ guardedC b clocks g zs
+  unfolding guardedC
+  guarded-refused h = rw (lt-ltb 0 (zs .refusal) h) refl
+
+  module _ (h : zs .refusal ≤ 0) where
+    pub guarded-left : 4 < g .left → zs ≡ guardedC b clocks g zs
+    unfolding guardedC
+    guarded-left k = rw (le-ltb 0 (zs .refusal) h, lt-ltb 4 (g .left) k) refl
+
+    module _ (k : g .left ≤ 4) where
+      pub guarded-right : 4 < g .right → zs ≡ guardedC b clocks g zs
+      unfolding guardedC
+      guarded-right l = rw (le-ltb 0 (zs .refusal) h, le-ltb 4 (g .left) k, lt-ltb 4 (g .right) l) refl
+
+      pub guarded-all : g .right ≤ 4 → cutAll b clocks g (take (zs .count) (zs .list)) (noneAt (zs .visit)) ≡ guardedC b clocks g zs
+      unfolding guardedC
+      guarded-all l = rw (le-ltb 0 (zs .refusal) h, le-ltb 4 (g .left) k, le-ltb 4 (g .right) l) refl
+
+pub size-is : {A : Type 0} (n k most : ℕ) (xs : List A) → n ≡ min k most → length xs ≡ most → (n ≤ most) × (n ≡ length (take k xs))
+size-is n k most xs e l = (omega arith, rw (length-take k xs, l) e)
+
+nothing-left : (b : Ranges) (clocks : ℕ) (g : Guard) (out : Zones) → cutAll b clocks g [] out ≡ out
+unfolding cutAll
+nothing-left b clocks g out = refl
+
+module _ (b : Ranges) (clocks : ℕ) (g : Guard) (xs : List Zone) (k : ℕ) where
+  all-cons : (l : List Zone) (z : Zone) (rest : List Zone) (out : Zones) → l ≡ z ∷ rest → cutAll b clocks g l out ≡ cutAll b clocks g rest (cutC b (ruleC clocks g z) z out)
+  unfolding cutAll
+  all-cons l z rest out h = rw h refl
+
+  pub all-turn : (i : ℕ) (out next w : Zones) (d : Zone) (r : Rule) → i < length (take k xs) → cutAll b clocks g (drop i (take k xs)) out ≡ w
+      → r ≡ ruleC clocks g (getD xs i d) → next ≡ cutC b r (getD xs i d) out → cutAll b clocks g (drop (i + 1) (take k xs)) next ≡ w
+  all-turn i out next w d r h e er f =
+      let len : i < k = omega (arith, length-take k xs) in
+      let cons : drop i (take k xs) ≡ getD xs i d ∷ drop (suc i) (take k xs) =
+          drop-cons (take k xs) i d h ∙ ap (λ (z : Zone). z ∷ drop (suc i) (take k xs)) (getD-take k xs i d len) in
+      rw (add-one i, f, er) (sym (all-cons (drop i (take k xs)) (getD xs i d) (drop (suc i) (take k xs)) out cons) ∙ e)
+
+  pub all-done : (i : ℕ) (out w : Zones) → length (take k xs) ≤ i → cutAll b clocks g (drop i (take k xs)) out ≡ w → out ≡ w
+  all-done i out w h e = sym (at-end (drop i (take k xs)) (drop-of-length-le (take k xs) h)) ∙ e
+    where
+      at-end : (l : List Zone) → l ≡ [] → cutAll b clocks g l out ≡ out
+      at-end l q = rw q (nothing-left b clocks g out)

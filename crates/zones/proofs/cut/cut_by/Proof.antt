@@ -1,73 +1,76 @@
+-- The loop's invariant: what is left of the zones, after what was listed, comes to what all of them come to.
 use Rattle.zones.proofs.cut.cut_by.Statement.{statement}
 use Rattle.zones.proofs.cut.cut_by.Tie as tie
-use Rattle.zones.proofs.cut.cut_by.Reads as reads
-use Rattle.zones.proofs.cut.cut_by.Lts as lts
-use Rattle.zones.proofs.cut.cut_zone.Reads as cut-zone-reads
-use Rattle.zones.proofs.cut.rule.Reads as rule-reads
-use Rattle.zones.proofs.settle.at_most.Reads as at-most-reads
-use Rattle.zones.proofs.zone.none_at.Reads as none-at-reads
+use borrow.Author.Needs.{needs}
+use Prim.Native.Nat.{ℕ, _≤_, _-_, _<_}
+use native.Mathlib.Omega.{arith}
+use mathlib.Core.Path.{_≡_, refl, sym, ap, _∙_, subst}
+use lib.ListN.{length, take, drop, length-map}
+use Rattle.zones.specs.Guarded.{cutAll, ruleC}
+use Rattle.zones.specs.declared.zone.Zones.{Zones}
+use Rattle.zones.specs.declared.rule.Rule.{Rule}
+use Rattle.zones.proofs.Steps.{guarded-refused, guarded-left, guarded-right, guarded-all, size-is, all-turn, all-done}
 
 abbrev Inv-loop : tie.InvT-loop
-Inv-loop b clocks g zones n out₀ i₀ out i = ?
+Inv-loop b clocks g zones n out₀ i₀ out i = (n ≤ 32) × (n ≡ length (take (zones .count) (zones .list))) × (cutAll b clocks g (drop i (take (zones .count) (zones .list))) out ≡ cutAll b clocks g (take (zones .count) (zones .list)) out₀)
 
 abbrev μ-loop : tie.MeasureT-loop
-μ-loop b clocks g zones n out₀ i₀ out i = ?
+μ-loop b clocks g zones n out₀ i₀ out i = n - i
 
--- src/cut.rt:101:9
 returns : tie.Need-returns Inv-loop μ-loop
-returns c = ?
+returns c = guarded-refused (c .before .args .b) (c .before .args .clocks) (c .before .args .g) (c .before .args .t4) (c .if1 .taken)
 
--- src/cut.rt:104:9
 returns-2 : tie.Need-returns-2 Inv-loop μ-loop
-returns-2 c = ?
+returns-2 c = guarded-left (c .before .before .before .args .b) (c .before .before .before .args .clocks) (c .before .before .before .args .g) (c .before .before .before .args .t4) (c .before .before .if1 .left) (c .if2 .taken)
 
--- src/cut.rt:107:9
 returns-3 : tie.Need-returns-3 Inv-loop μ-loop
-returns-3 c = ?
+returns-3 c = guarded-right (c .before .before .before .before .before .args .b) (c .before .before .before .before .before .args .clocks) (c .before .before .before .before .before .args .g) (c .before .before .before .before .before .args .t4) (c .before .before .before .before .if1 .left) (c .before .before .if2 .left) (c .if3 .taken)
 
--- src/cut.rt:109:9
 at-most-requires : tie.Need-at-most-requires Inv-loop μ-loop
-at-most-requires c κs = ?
+at-most-requires c κs = search needs
 
--- src/cut.rt:110:9
 none-at-requires : tie.Need-none-at-requires Inv-loop μ-loop
-none-at-requires c κs = ?
+none-at-requires c κs = search needs
 
--- src/cut.rt:112:5
 loop-holds : tie.Need-loop-holds Inv-loop μ-loop
-loop-holds c = ?
+loop-holds c =
+    let l : length (c .before .before .before .before .before .before .before .args .t4 .list) ≡ 32 = simp length-map at (c .before .before .before .before .before .before .before .good .1 .1 .1 .0 .1 .1 .1 .1 .1 .0 .1 .0 .1) in
+    let h = size-is _ (c .before .before .before .before .before .before .before .args .t4 .count) 32 (c .before .before .before .before .before .before .before .args .t4 .list) (c .before .at-most .ensures) l in
+    (h .0, h .1, refl)
 
--- src/cut.rt:113:20
 mul-zone : tie.Need-mul-zone Inv-loop μ-loop
-mul-zone c = ?
+mul-zone c = omega (arith, c .before .loop .inv .0)
 
--- src/cut.rt:113:20
 element-copy-out-zone : tie.Need-element-copy-out-zone Inv-loop μ-loop
-element-copy-out-zone c = ?
+element-copy-out-zone c = omega (arith, c .before .loop .inv .0)
 
--- src/cut.rt:114:32
 rule-requires : tie.Need-rule-requires Inv-loop μ-loop
-rule-requires c κs = ?
+rule-requires c κs = search needs
 
--- src/cut.rt:114:13
 cut-zone-requires : tie.Need-cut-zone-requires Inv-loop μ-loop
-cut-zone-requires c κs = ?
+cut-zone-requires c κs =
+    let e = c .rule .ensures in
+    (subst (λ (r : Rule). r .left < 5) (sym e) (omega (arith, c .before .before .before .before .before .before .before .before .if2 .left)), subst (λ (r : Rule). r .right < 5) (sym e) (omega (arith, c .before .before .before .before .before .before .if3 .left)))
 
--- src/cut.rt:116:9
 add-i : tie.Need-add-i Inv-loop μ-loop
-add-i c = ?
+add-i c = omega (arith, c .before .before .before .before .loop .inv .0)
 
--- src/cut.rt:112:5
 loop-less : tie.Need-loop-less Inv-loop μ-loop
-loop-less c = ?
+loop-less c = omega (arith, c .before .before .before .loop-test .taken)
 
--- src/cut.rt:112:5
 loop-again : tie.Need-loop-again Inv-loop μ-loop
-loop-again c = ?
+loop-again c =
+    let a = c .before .before .before .before .before .before .before .before .before .before .before .before .args in
+    let v = c .before .before .before .before .loop .inv in
+    (v .0, v .1, all-turn (a .b) (a .clocks) (a .g) (a .t4 .list) (a .t4 .count) (c .before .before .before .before .loop .i) (c .before .before .before .before .loop .out) _ _ _ (c .before .rule .result) (omega (arith, c .before .before .before .loop-test .taken, v .1)) (v .2) (c .before .rule .ensures) (c .cut-zone .ensures))
 
--- src/cut.rt:97:1
 returns-4 : tie.Need-returns-4 Inv-loop μ-loop
-returns-4 c = ?
+returns-4 c =
+    let a = c .before .before .before .before .before .before .before .before .before .args in
+    let v = c .before .loop .inv in
+    all-done (a .b) (a .clocks) (a .g) (a .t4 .list) (a .t4 .count) (c .before .loop .i) (c .before .loop .out) _ (omega (arith, c .loop-test .left, v .1)) (v .2)
+    ∙ ap (λ (o : Zones). cutAll (a .b) (a .clocks) (a .g) (take (a .t4 .count) (a .t4 .list)) o) (c .before .before .none-at .ensures)
+    ∙ guarded-all (c .before .before .before .before .before .before .before .before .before .args .b) (c .before .before .before .before .before .before .before .before .before .args .clocks) (c .before .before .before .before .before .before .before .before .before .args .g) (c .before .before .before .before .before .before .before .before .before .args .t4) (c .before .before .before .before .before .before .before .before .if1 .left) (c .before .before .before .before .before .before .if2 .left) (c .before .before .before .before .if3 .left)
 
 pub cut-by-spec : {M : Type 1} → statement M
 cut-by-spec =
