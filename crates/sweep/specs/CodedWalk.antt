@@ -47,11 +47,11 @@ module _ (parameters : ℕ) {w B : ℕ} (four : w ≤ 4) (room : 2 * (B + 300100
       (λ m′ e. guards-coded gs (r .1) m′ (guardStep-visit v (r .0) h a e))
 
 -- ---- the code's locations and transitions, in range
-location-in : (s : Sheet) (l : ℕ) → l < 16 → locationC s l ≡ getD (s .location) l noLocation
+pub location-in : (s : Sheet) (l : ℕ) → l < 16 → locationC s l ≡ getD (s .location) l noLocation
 unfolding locationC
 location-in s l h = rw (lt-ltb l 16 h) refl
 
-transition-in : (s : Sheet) (n : ℕ) → n < 32 → transitionC s n ≡ transitionAt s n
+pub transition-in : (s : Sheet) (n : ℕ) → n < 32 → transitionC s n ≡ transitionAt s n
 unfolding transitionC
 transition-in s n h = rw (lt-ltb n 32 h) refl
 

@@ -1,7 +1,7 @@
 -- The cases of the code's steps, with the branches' tests.
 use mathlib.Core.Path.{_≡_, refl, sym, ap, subst, _∙_}
 use mathlib.Core.List.{List, [], _∷_, _++_, map}
-use mathlib.Core.Bool.{Bool, true, false}
+use mathlib.Core.Bool.{Bool, true, false, _&&_}
 use mathlib.Core.Option.{Option}
 use mathlib.Core.Option as option
 use Prim.Native.Nat.{ℕ, zero, suc, _+_, _-_, _*_, _/_, _%_, _≤_, _<_, min}
@@ -9,12 +9,13 @@ use native.Mathlib.Numerals.{add-one}
 use native.Mathlib.Omega.{arith}
 use borrow.Author.Tests.{lt-ltb, le-ltb, eq-eqb, ne-eqb, ltb-true, ltb-false}
 use lib.Dec.{ltb, eqb}
-use lib.IntN.{ℤ}
+use lib.IntN.{ℤ, pos, _+ℤ_}
+use lib.Signed.{leZ}
 use lib.ListN.{length, getD, set, take, drop, replicate, length-take, length-set, drop-of-length-le}
 use lib.Seq.{take-all, take-suc, take-suc-set, take-set-le, drop-cons, getD-take}
-use Rattle.expr.specs.Affine.{opposite, judge}
+use Rattle.expr.specs.Affine.{Affine, value, dot, opposite, judge}
 use Rattle.expr.specs.Three.{affine, inequality, rangeList, OPPOSITE, firstOf, exprs}
-use Rattle.expr.specs.Valuations.{first}
+use Rattle.expr.specs.Valuations.{first, satisfies, countIn, count, valuations}
 use Rattle.expr.specs.declared.bound.Bound.{Bound}
 use Rattle.expr.specs.declared.bound.BoundSum.{BoundSum}
 use Rattle.expr.specs.declared.bound.Test.{Test}
@@ -25,6 +26,7 @@ use Rattle.expr.specs.declared.ranges.Ranges.{Ranges}
 use Rattle.expr.specs.declared.search.Solution.{Solution}
 use Rattle.expr.specs.declared.search.Solution.the-variants.{Found, Nothing}
 use Rattle.expr.specs.declared.search.System.{System}
+use lib.IntN.{zero-*ℤ}
 use Rattle.sheet.specs.declared.Guard.{Guard}
 use Rattle.zones.specs.Guarded.{ruleC, cutC, cutAll, guardedC}
 use Rattle.zones.specs.Listed.{pick, zeroExpr, zeroBound, blankZone, noneAt, refusedC, listC, plusC}
@@ -288,3 +290,28 @@ module _ (b : Ranges) (clocks : ℕ) (g : Guard) (xs : List Zone) (k : ℕ) wher
     where
       at-end : (l : List Zone) → l ≡ [] → cutAll b clocks g l out ≡ out
       at-end l q = rw q (nothing-left b clocks g out)
+
+-- ---- 0 ≥ 0 is one more inequality that changes nothing
+dot-zeros : (n : ℕ) (v : List ℤ) → dot (replicate n (pos 0)) v ≡ pos 0
+unfolding dot
+dot-zeros zero v = refl
+dot-zeros (suc n) [] = refl
+dot-zeros (suc n) (x ∷ v) = rw (zero-*ℤ x, dot-zeros n v) refl
+
+zero-value : (v : List ℤ) → value (affine zeroExpr) v ≡ pos 0
+unfolding value
+zero-value v = ap (λ (x : ℤ). pos 0 +ℤ x) (dot-zeros 3 v)
+
+zero-satisfied : (xs : List Expr) (v : List ℤ) → satisfies (map affine (xs ++ (zeroExpr ∷ []))) v ≡ satisfies (map affine xs) v
+unfolding satisfies
+zero-satisfied [] v = rw (zero-value v) refl
+zero-satisfied (x ∷ xs) v = ap (λ (b : Bool). leZ (pos 0) (value (affine x) v) && b) (zero-satisfied xs v)
+
+count-zero : (xs : List Expr) (vs : List (List ℤ)) → countIn (satisfies (map affine (xs ++ (zeroExpr ∷ [])))) vs ≡ countIn (satisfies (map affine xs)) vs
+unfolding countIn
+count-zero xs [] = refl
+count-zero xs (v ∷ vs) = rw (zero-satisfied xs v, count-zero xs vs) refl
+
+pub held-is : (b : Ranges) (xs : List Expr) (n : ℕ) (es : List Affine) → es ≡ map affine (xs ++ (zeroExpr ∷ [])) → n ≡ count (rangeList b) es → n ≡ count (rangeList b) (map affine xs)
+unfolding count
+held-is b xs n es e h = h ∙ ap (count (rangeList b)) e ∙ count-zero xs (valuations (rangeList b))

@@ -6,5 +6,6 @@ mod settle;
 mod zone;
 
 pub use cut::cut_by;
+pub use settle::held;
 pub use zone::Zone;
 pub use zone::Zones;

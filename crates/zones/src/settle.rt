@@ -10,7 +10,8 @@ ghost use mathlib.Core.Path.{_≡_};
 ghost use mathlib.Core.List.{[], _∷_, _++_, map};
 ghost use lib.ListN.{take};
 ghost use Prim.Native.Nat.{min};
-ghost use Rattle.expr.specs.Three.{exprs, affine};
+ghost use Rattle.expr.specs.Three.{exprs, affine, rangeList};
+ghost use Rattle.expr.specs.Valuations.{count};
 ghost use Rattle.zones.specs.Settled.{oppositeC, neverC, onC, settledC};
 
 // The verdict on a test: no (0), yes (1), a split by the test (3), a 25th inequality (8), a wide number (9).
@@ -54,6 +55,13 @@ fn system(zone: Zone, e: Expr) -> System
     }
     list[n] = e;
     System { count: n + 1, list }
+}
+
+// How many valuations of the ranges a zone holds: those that meet all its inequalities.
+pub fn held(b: Ranges, zone: Zone) -> usize
+    ensures { λ n. ⌜ n ≡ count (rangeList b) (map affine (take (zone .count) (zone .ineqs))) ⌝ }
+{
+    expr::count(b, system(zone, Expr::ZERO))
 }
 
 // Whether no valuation of the zone satisfies e.

@@ -1,0 +1,25 @@
+use borrow.Author.Needs.{needs}
+use Rattle.windows.proofs.route.transition_at.Statement.{statement}
+use Rattle.windows.proofs.route.transition_at.Tie as tie
+use Rattle.windows.proofs.route.transition_at.Reads as reads
+use Rattle.windows.proofs.route.transition_at.Lts as lts
+use Rattle.windows.proofs.route.below.Reads as below-reads
+
+-- src/route.rt:157:9
+below-requires : tie.Need-below-requires
+below-requires c κs = search needs
+
+-- src/route.rt:158:5
+mul-result : tie.Need-mul-result
+mul-result c = ?
+
+-- src/route.rt:158:5
+element-copy-out-result : tie.Need-element-copy-out-result
+element-copy-out-result c = ?
+
+-- src/route.rt:154:1
+returns : tie.Need-returns
+returns c = ?
+
+pub transition-at-spec : {M : Type 1} → statement M
+transition-at-spec = tie.close (tie.spec below-requires mul-result element-copy-out-result returns)
