@@ -1,29 +1,33 @@
+-- The four steps are those of `delayedB`.
 use borrow.Author.Needs.{needs}
 use Rattle.windows.proofs.matrix.delayed.Statement.{statement}
 use Rattle.windows.proofs.matrix.delayed.Tie as tie
-use Rattle.windows.proofs.matrix.delayed.Reads as reads
-use Rattle.windows.proofs.matrix.delayed.Lts as lts
-use Rattle.windows.proofs.matrix.none_if.Reads as none-if-reads
+use mathlib.Core.Path.{_∙_, ap}
+use Rattle.expr.specs.declared.bound.Bound.{Bound}
+use mathlib.Core.List.{List}
+use Rattle.zones.specs.Walked.{delayedB, noneIf}
+use lib.Dec.{ltb}
 
--- src/matrix.rt:24:9
 none-if-requires : tie.Need-none-if-requires
 none-if-requires c κs = search needs
 
--- src/matrix.rt:25:9
 none-if-requires-2 : tie.Need-none-if-requires-2
 none-if-requires-2 c κs = search needs
 
--- src/matrix.rt:26:9
 none-if-requires-3 : tie.Need-none-if-requires-3
 none-if-requires-3 c κs = search needs
 
--- src/matrix.rt:27:5
 none-if-requires-4 : tie.Need-none-if-requires-4
 none-if-requires-4 c κs = search needs
 
--- src/matrix.rt:21:1
 returns : tie.Need-returns
-returns c = ?
+unfolding delayedB
+returns c =
+    let w = c .before .before .before .before .args .clocks in
+    c .none-if4 .ensures
+    ∙ ap (λ (m : List Bound). noneIf (ltb 3 w) 20 m) (c .before .none-if3 .ensures
+    ∙ ap (λ (m : List Bound). noneIf (ltb 2 w) 15 m) (c .before .before .none-if2 .ensures
+    ∙ ap (λ (m : List Bound). noneIf (ltb 1 w) 10 m) (c .before .before .before .none-if .ensures)))
 
 pub delayed-spec : {M : Type 1} → statement M
 delayed-spec =

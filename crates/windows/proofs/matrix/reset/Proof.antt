@@ -1,33 +1,37 @@
+-- The five steps are those of `resetB`.
 use borrow.Author.Needs.{needs}
 use Rattle.windows.proofs.matrix.reset.Statement.{statement}
 use Rattle.windows.proofs.matrix.reset.Tie as tie
-use Rattle.windows.proofs.matrix.reset.Reads as reads
-use Rattle.windows.proofs.matrix.reset.Lts as lts
-use Rattle.windows.proofs.matrix.reset_pair.Reads as reset-pair-reads
+use mathlib.Core.Path.{_∙_, ap}
+use Rattle.expr.specs.declared.bound.Bound.{Bound}
+use mathlib.Core.List.{List}
+use Rattle.zones.specs.Walked.{resetB, resetPair}
 
--- src/matrix.rt:53:9
 reset-pair-requires : tie.Need-reset-pair-requires
 reset-pair-requires c κs = search needs
 
--- src/matrix.rt:54:9
 reset-pair-requires-2 : tie.Need-reset-pair-requires-2
 reset-pair-requires-2 c κs = search needs
 
--- src/matrix.rt:55:9
 reset-pair-requires-3 : tie.Need-reset-pair-requires-3
 reset-pair-requires-3 c κs = search needs
 
--- src/matrix.rt:56:9
 reset-pair-requires-4 : tie.Need-reset-pair-requires-4
 reset-pair-requires-4 c κs = search needs
 
--- src/matrix.rt:57:5
 reset-pair-requires-5 : tie.Need-reset-pair-requires-5
 reset-pair-requires-5 c κs = search needs
 
--- src/matrix.rt:49:1
 returns : tie.Need-returns
-returns c = ?
+unfolding resetB
+returns c =
+    let w = c .before .before .before .before .before .args .clocks in
+    let r = c .before .before .before .before .before .args .r in
+    c .reset-pair5 .ensures
+    ∙ ap (λ (m : List Bound). resetPair w r 4 m) (c .before .reset-pair4 .ensures
+    ∙ ap (λ (m : List Bound). resetPair w r 3 m) (c .before .before .reset-pair3 .ensures
+    ∙ ap (λ (m : List Bound). resetPair w r 2 m) (c .before .before .before .reset-pair2 .ensures
+    ∙ ap (λ (m : List Bound). resetPair w r 1 m) (c .before .before .before .before .reset-pair .ensures))))
 
 pub reset-spec : {M : Type 1} → statement M
 reset-spec =

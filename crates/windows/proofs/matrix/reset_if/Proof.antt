@@ -1,25 +1,21 @@
+-- The branches are the cases of `resetIfB`.
 use borrow.Author.Needs.{needs}
 use Rattle.windows.proofs.matrix.reset_if.Statement.{statement}
 use Rattle.windows.proofs.matrix.reset_if.Tie as tie
-use Rattle.windows.proofs.matrix.reset_if.Reads as reads
-use Rattle.windows.proofs.matrix.reset_if.Lts as lts
-use Rattle.windows.proofs.matrix.reset.Reads as reset-reads
+use mathlib.Core.Path.{_∙_}
+use Rattle.windows.proofs.Steps.{if-past, if-reset, if-not}
 
--- src/matrix.rt:67:13
 returns : tie.Need-returns
-returns c = ?
+returns c = if-past (c .before .before .args .clocks) (c .before .before .args .r) (c .before .before .args .bit) _ (c .before .if1 .taken) (c .if2 .taken)
 
--- src/matrix.rt:69:9
 reset-requires : tie.Need-reset-requires
 reset-requires c κs = search needs
 
--- src/matrix.rt:69:9
 returns-2 : tie.Need-returns-2
-returns-2 c = ?
+returns-2 c = c .reset .ensures ∙ if-reset (c .before .before .before .args .clocks) (c .before .before .before .args .r) (c .before .before .before .args .bit) _ (c .before .before .if1 .taken) (c .before .if2 .left)
 
--- src/matrix.rt:61:1
 returns-3 : tie.Need-returns-3
-returns-3 c = ?
+returns-3 c = if-not (c .before .args .clocks) (c .before .args .r) (c .before .args .bit) _ (c .if1 .left)
 
 pub reset-if-spec : {M : Type 1} → statement M
 reset-if-spec = tie.close (tie.spec returns reset-requires returns-2 returns-3)

@@ -1,11 +1,12 @@
+-- The record is `blankWork`.
 use Rattle.windows.proofs.reply.blank.Statement.{statement}
 use Rattle.windows.proofs.reply.blank.Tie as tie
-use Rattle.windows.proofs.reply.blank.Reads as reads
-use Rattle.windows.proofs.reply.blank.Lts as lts
+use mathlib.Core.Path.{refl}
+use Rattle.windows.specs.Reply.{blankWork}
 
--- src/reply.rt:71:1
 returns : tie.Need-returns
-returns c = ?
+unfolding blankWork
+returns c = refl
 
 pub blank-spec : {M : Type 1} → statement M
 blank-spec = tie.close (tie.spec returns)

@@ -1,19 +1,16 @@
+-- The branches are the cases of `refusedBy`.
 use Rattle.windows.proofs.reply.refused.Statement.{statement}
 use Rattle.windows.proofs.reply.refused.Tie as tie
-use Rattle.windows.proofs.reply.refused.Reads as reads
-use Rattle.windows.proofs.reply.refused.Lts as lts
+use Rattle.windows.proofs.Steps.{seven, eight, nine}
 
--- src/reply.rt:85:9
 returns : tie.Need-returns
-returns c = ?
+returns c = seven (c .before .args .number) (c .before .args .visit) (c .if1 .taken)
 
--- src/reply.rt:88:9
 returns-2 : tie.Need-returns-2
-returns-2 c = ?
+returns-2 c = eight (c .before .before .args .number) (c .before .before .args .visit) (c .before .if1 .left) (c .if2 .taken)
 
--- src/reply.rt:81:1
 returns-3 : tie.Need-returns-3
-returns-3 c = ?
+returns-3 c = nine (c .before .before .args .number) (c .before .before .args .visit) (c .before .if1 .left) (c .if2 .left)
 
 pub refused-spec : {M : Type 1} → statement M
 refused-spec = tie.close (tie.spec returns returns-2 returns-3)

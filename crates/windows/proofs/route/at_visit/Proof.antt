@@ -1,15 +1,13 @@
+-- The branches are the cases of `atVisit`.
 use Rattle.windows.proofs.route.at_visit.Statement.{statement}
 use Rattle.windows.proofs.route.at_visit.Tie as tie
-use Rattle.windows.proofs.route.at_visit.Reads as reads
-use Rattle.windows.proofs.route.at_visit.Lts as lts
+use Rattle.windows.proofs.Steps.{visit-now, visit-before}
 
--- src/route.rt:96:9
 returns : tie.Need-returns
-returns c = ?
+returns c = visit-now (c .before .before .args .visit) (c .before .before .args .zones) (c .if1 .taken)
 
--- src/route.rt:90:1
 returns-2 : tie.Need-returns-2
-returns-2 c = ?
+returns-2 c = visit-before (c .before .before .args .visit) (c .before .before .args .zones) (c .if1 .left)
 
 pub at-visit-spec : {M : Type 1} → statement M
 at-visit-spec = tie.close (tie.spec returns returns-2)

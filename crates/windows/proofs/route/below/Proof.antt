@@ -1,15 +1,13 @@
+-- The branches are the cases of `at`.
 use Rattle.windows.proofs.route.below.Statement.{statement}
 use Rattle.windows.proofs.route.below.Tie as tie
-use Rattle.windows.proofs.route.below.Reads as reads
-use Rattle.windows.proofs.route.below.Lts as lts
+use Rattle.windows.proofs.Steps.{at-below, at-past}
 
--- src/route.rt:140:9
 returns : tie.Need-returns
-returns c = ?
+returns c = at-below _ _ (c .if1 .taken)
 
--- src/route.rt:136:1
 returns-2 : tie.Need-returns-2
-returns-2 c = ?
+returns-2 c = at-past _ _ (c .if1 .left)
 
 pub below-spec : {M : Type 1} → statement M
 below-spec = tie.close (tie.spec returns returns-2)

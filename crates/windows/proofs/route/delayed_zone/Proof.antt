@@ -1,17 +1,17 @@
+-- The step on the zone's matrix.
 use borrow.Author.Needs.{needs}
 use Rattle.windows.proofs.route.delayed_zone.Statement.{statement}
 use Rattle.windows.proofs.route.delayed_zone.Tie as tie
-use Rattle.windows.proofs.route.delayed_zone.Reads as reads
-use Rattle.windows.proofs.route.delayed_zone.Lts as lts
-use Rattle.windows.proofs.matrix.delayed.Reads as delayed-reads
+use mathlib.Core.Path.{ap}
+use Rattle.expr.specs.declared.bound.Bound.{Bound}
+use mathlib.Core.List.{List}
+use Rattle.zones.specs.Parts.{withBounds}
 
--- src/route.rt:35:9
 delayed-requires : tie.Need-delayed-requires
 delayed-requires c κs = search needs
 
--- src/route.rt:30:1
 returns : tie.Need-returns
-returns c = ?
+returns c = ap (λ (m : List Bound). withBounds (c .before .before .before .args .z) m) (c .delayed .ensures)
 
 pub delayed-zone-spec : {M : Type 1} → statement M
 delayed-zone-spec = tie.close (tie.spec delayed-requires returns)

@@ -1,51 +1,55 @@
+-- The loop's invariant: what is left of the guards takes the zones to where all of them take them.
 use Rattle.windows.proofs.route.guards_of.Statement.{statement}
 use Rattle.windows.proofs.route.guards_of.Tie as tie
-use Rattle.windows.proofs.route.guards_of.Reads as reads
-use Rattle.windows.proofs.route.guards_of.Lts as lts
-use Rattle.windows.proofs.route.at_most.Reads as at-most-reads
-use Rattle.zones.proofs.cut_by.Reads as cut-by-reads
+use borrow.Author.Needs.{needs}
+use Prim.Native.Nat.{ℕ, _≤_, _-_}
+use lib.ListN.{length, take, drop, length-map}
+use Rattle.windows.specs.Route.{guardsFor}
+use mathlib.Core.Path.{_≡_, refl}
+use native.Mathlib.Omega.{arith}
+use Rattle.windows.proofs.Steps.{size-is, guards-turn, guards-done}
 
 abbrev Inv-loop : tie.InvT-loop
-Inv-loop b clocks count guards n now₀ i₀ now i = ?
+Inv-loop b clocks count guards n now₀ i₀ now i = (n ≤ 6) × (n ≡ length (take count guards)) × (guardsFor b clocks (drop i (take count guards)) now ≡ guardsFor b clocks (take count guards) now₀)
 
 abbrev μ-loop : tie.MeasureT-loop
-μ-loop b clocks count guards n now₀ i₀ now i = ?
+μ-loop b clocks count guards n now₀ i₀ now i = n - i
 
--- src/route.rt:105:9
 at-most-requires : tie.Need-at-most-requires Inv-loop μ-loop
-at-most-requires c κs = ?
+at-most-requires c κs = search needs
 
--- src/route.rt:108:5
 loop-holds : tie.Need-loop-holds Inv-loop μ-loop
-loop-holds c = ?
+loop-holds c =
+    let a = c .before .args in
+    let l : length (a .t5) ≡ 6 = search needs in
+    let h = size-is _ (a .count) 6 (a .t5) (c .at-most .ensures) l in
+    (h .0, h .1, refl)
 
--- src/route.rt:109:17
 mul-g : tie.Need-mul-g Inv-loop μ-loop
-mul-g c = ?
+mul-g c = omega (arith, c .before .loop .inv .0)
 
--- src/route.rt:109:17
 array-copy-out-g : tie.Need-array-copy-out-g Inv-loop μ-loop
-array-copy-out-g c = ?
+array-copy-out-g c = omega (arith, c .before .loop .inv .0)
 
--- src/route.rt:110:13
 cut-by-requires : tie.Need-cut-by-requires Inv-loop μ-loop
-cut-by-requires c κs = ?
+cut-by-requires c κs = search needs
 
--- src/route.rt:112:9
 add-i : tie.Need-add-i Inv-loop μ-loop
-add-i c = ?
+add-i c = omega (arith, c .before .before .before .loop .inv .0)
 
--- src/route.rt:108:5
 loop-less : tie.Need-loop-less Inv-loop μ-loop
-loop-less c = ?
+loop-less c = omega (arith, c .before .before .loop-test .taken)
 
--- src/route.rt:108:5
 loop-again : tie.Need-loop-again Inv-loop μ-loop
-loop-again c = ?
+loop-again c =
+    let a = c .before .before .before .before .before .args in
+    let v = c .before .before .before .loop .inv in
+    (v .0, v .1, guards-turn (a .b) (a .clocks) (a .t5) (a .count) (c .before .before .before .loop .i) (c .before .before .before .loop .now) _ _ _ (omega (arith, c .before .before .loop-test .taken, v .1)) (v .2) (c .cut-by .ensures))
 
--- src/route.rt:102:1
 returns : tie.Need-returns Inv-loop μ-loop
-returns c = ?
+returns c =
+    let a = c .before .before .before .args in
+    guards-done (a .b) (a .clocks) (a .t5) (a .count) (c .before .loop .i) (c .before .loop .now) _ (omega (arith, c .loop-test .left, c .before .loop .inv .1)) (c .before .loop .inv .2)
 
 pub guards-of-spec : {M : Type 1} → statement M
 guards-of-spec =

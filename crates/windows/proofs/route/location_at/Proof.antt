@@ -1,25 +1,28 @@
+-- The index is below 16.
 use borrow.Author.Needs.{needs}
 use Rattle.windows.proofs.route.location_at.Statement.{statement}
 use Rattle.windows.proofs.route.location_at.Tie as tie
-use Rattle.windows.proofs.route.location_at.Reads as reads
-use Rattle.windows.proofs.route.location_at.Lts as lts
-use Rattle.windows.proofs.route.below.Reads as below-reads
+use Prim.Native.Nat.{ℕ, _<_}
+use lib.Dec.{lit<}
+use lib.ListN.{getD}
+use Rattle.sheet.specs.WellFormed.{noLocation}
+use Rattle.sweep.specs.Tables.{locationC}
+use mathlib.Core.Path.{ap, subst, sym}
+use native.Mathlib.Omega.{arith}
+use Rattle.windows.proofs.Steps.{at-fits}
 
--- src/route.rt:149:9
 below-requires : tie.Need-below-requires
 below-requires c κs = search needs
 
--- src/route.rt:150:5
 mul-result : tie.Need-mul-result
-mul-result c = ?
+mul-result c = let h = subst (λ (n : ℕ). n < 16) (sym (c .below .ensures)) (at-fits 16 (c .before .args .l) (lit< tt)) in omega arith
 
--- src/route.rt:150:5
 element-copy-out-result : tie.Need-element-copy-out-result
-element-copy-out-result c = ?
+element-copy-out-result c = subst (λ (n : ℕ). n < 16) (sym (c .below .ensures)) (at-fits 16 (c .before .args .l) (lit< tt))
 
--- src/route.rt:146:1
 returns : tie.Need-returns
-returns c = ?
+unfolding locationC
+returns c = ap (λ (n : ℕ). getD (c .before .before .args .t1 .location) n noLocation) (c .before .below .ensures)
 
 pub location-at-spec : {M : Type 1} → statement M
 location-at-spec = tie.close (tie.spec below-requires mul-result element-copy-out-result returns)

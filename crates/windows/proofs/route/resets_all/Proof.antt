@@ -1,59 +1,55 @@
+-- The loop's invariant: the first i zones are changed.
 use Rattle.windows.proofs.route.resets_all.Statement.{statement}
 use Rattle.windows.proofs.route.resets_all.Tie as tie
-use Rattle.windows.proofs.route.resets_all.Reads as reads
-use Rattle.windows.proofs.route.resets_all.Lts as lts
-use Rattle.windows.proofs.route.at_most.Reads as at-most-reads
-use Rattle.windows.proofs.route.resets_zone.Reads as resets-zone-reads
+use borrow.Author.Needs.{needs}
+use Prim.Native.Nat.{ℕ, _-_}
+use lib.ListN.{length, length-map}
+use Rattle.zones.specs.Walked.{resetsZone, resetsAll}
+use mathlib.Core.Path.{_≡_}
+use native.Mathlib.Omega.{arith}
+use Rattle.windows.proofs.Steps.{Changed, changed-starts, changed-long, changed-turn, changed-done}
 
 abbrev Inv-loop : tie.InvT-loop
-Inv-loop clocks bits n next₀ i₀ next i = ?
+Inv-loop clocks bits n next₀ i₀ next i = Changed (resetsZone clocks bits) n next₀ next i
 
 abbrev μ-loop : tie.MeasureT-loop
-μ-loop clocks bits n next₀ i₀ next i = ?
+μ-loop clocks bits n next₀ i₀ next i = n - i
 
--- src/route.rt:78:9
 at-most-requires : tie.Need-at-most-requires Inv-loop μ-loop
-at-most-requires c κs = ?
+at-most-requires c κs = search needs
 
--- src/route.rt:81:5
 loop-holds : tie.Need-loop-holds Inv-loop μ-loop
-loop-holds c = ?
+loop-holds c =
+    let l : length (c .before .args .zones .list) ≡ 32 = simp length-map at (c .before .good .0 .1 .1 .1 .1 .1 .0 .1 .0 .1) in
+    changed-starts (resetsZone (c .before .args .clocks) (c .before .args .bits)) _ (c .before .args .zones) (c .at-most .ensures) l
 
--- src/route.rt:82:17
 mul-z : tie.Need-mul-z Inv-loop μ-loop
-mul-z c = ?
+mul-z c = omega (arith, c .loop-test .taken, c .before .loop .inv .few)
 
--- src/route.rt:82:17
 element-copy-out-z : tie.Need-element-copy-out-z Inv-loop μ-loop
-element-copy-out-z c = ?
+element-copy-out-z c = omega (arith, c .loop-test .taken, c .before .loop .inv .few)
 
--- src/route.rt:83:24
 resets-zone-requires : tie.Need-resets-zone-requires Inv-loop μ-loop
-resets-zone-requires c κs = ?
+resets-zone-requires c κs = search needs
 
--- src/route.rt:83:9
 mul-t9 : tie.Need-mul-t9 Inv-loop μ-loop
-mul-t9 c = ?
+mul-t9 c = omega (arith, c .before .before .loop-test .taken, c .before .before .before .loop .inv .few)
 
--- src/route.rt:83:9
 element-set-from-next : tie.Need-element-set-from-next Inv-loop μ-loop
-element-set-from-next c = ?
+element-set-from-next c = omega (arith, c .before .before .loop-test .taken, c .before .before .before .loop .inv .few)
 
--- src/route.rt:84:9
 add-i : tie.Need-add-i Inv-loop μ-loop
-add-i c = ?
+add-i c = omega (arith, c .before .before .loop-test .taken, c .before .before .before .loop .inv .few)
 
--- src/route.rt:81:5
 loop-less : tie.Need-loop-less Inv-loop μ-loop
-loop-less c = ?
+loop-less c = omega (arith, c .before .before .loop-test .taken)
 
--- src/route.rt:81:5
 loop-again : tie.Need-loop-again Inv-loop μ-loop
-loop-again c = ?
+loop-again c = changed-turn (resetsZone (c .before .before .before .before .before .args .clocks) (c .before .before .before .before .before .args .bits)) _ (c .before .before .before .loop .i) (c .before .before .before .before .before .args .zones) (c .before .before .before .loop .next) _ (c .resets-zone .result) (c .before .before .before .loop .inv) (c .before .before .loop-test .taken) (c .resets-zone .ensures)
 
--- src/route.rt:75:1
 returns : tie.Need-returns Inv-loop μ-loop
-returns c = ?
+unfolding resetsAll
+returns c = changed-done (resetsZone (c .before .before .before .args .clocks) (c .before .before .before .args .bits)) _ (c .before .loop .i) (c .before .before .before .args .zones) (c .before .loop .next) (c .before .loop .inv) (c .loop-test .left)
 
 pub resets-all-spec : {M : Type 1} → statement M
 resets-all-spec =

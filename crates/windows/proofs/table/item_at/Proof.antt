@@ -1,13 +1,13 @@
 -- The zones are 32, so the two branches are the two cases of `getD`.
 use borrow.Author.Needs.{needs}
+use Rattle.windows.proofs.table.item_at.Statement.{statement}
+use Rattle.windows.proofs.table.item_at.Tie as tie
 use lib.ListN.{length, length-map, List·getD-eq-default}
-use mathlib.Core.Path.{_≡_, _∙_, sym}
+use mathlib.Core.Path.{_≡_, sym}
 use native.Mathlib.Omega.{arith}
 use Rattle.zones.specs.Listed.{blankZone}
 use Rattle.windows.specs.Reply.{itemOf}
 use Rattle.windows.proofs.Items.{any-default}
-use Rattle.windows.proofs.table.item_at.Statement.{statement}
-use Rattle.windows.proofs.table.item_at.Tie as tie
 
 mul-result : tie.Need-mul-result
 mul-result c = search needs
@@ -23,17 +23,13 @@ returns c =
     let h = c .before .if1 .taken in
     any-default (a .t1 .zones) (a .i) _ _ (omega arith)
 
-blank-requires : tie.Need-blank-requires
-blank-requires c κs = search needs
-
 returns-2 : tie.Need-returns-2
 unfolding itemOf
 returns-2 c =
-    let a = c .before .before .args in
-    let l : length (a .t1 .zones) ≡ 32 = simp length-map at (c .before .before .good .0 .1 .1 .1 .0 .1 .0 .1) in
-    let h = c .before .if1 .left in
-    c .blank .ensures ∙ sym (List·getD-eq-default (a .t1 .zones) blankZone (omega arith))
+    let a = c .before .args in
+    let l : length (a .t1 .zones) ≡ 32 = simp length-map at (c .before .good .0 .1 .1 .1 .0 .1 .0 .1) in
+    let h = c .if1 .left in
+    sym (List·getD-eq-default (a .t1 .zones) blankZone (omega arith))
 
 pub item-at-spec : {M : Type 1} → statement M
-item-at-spec =
-    tie.close (tie.spec mul-result element-copy-out-result returns blank-requires returns-2)
+item-at-spec = tie.close (tie.spec mul-result element-copy-out-result returns returns-2)

@@ -1,0 +1,40 @@
+-- Refused, or the zones with their counts.
+use borrow.Author.Needs.{needs}
+use Rattle.windows.proofs.reply.listed.Statement.{statement}
+use Rattle.windows.proofs.reply.listed.Tie as tie
+use mathlib.Core.Path.{_∙_, ap}
+use Rattle.windows.proofs.Steps.{listed-refused, listed-zones}
+use Rattle.windows.specs.Reply.{blankWork}
+
+refused-requires : tie.Need-refused-requires
+refused-requires c κs = search needs
+
+blank-requires : tie.Need-blank-requires
+blank-requires c κs = search needs
+
+returns : tie.Need-returns
+returns c = c .blank .ensures ∙ listed-refused (c .before .before .before .before .args .b) (c .before .before .before .before .args .zones) (c .before .refused .result) (c .before .before .if1 .taken) (c .before .refused .ensures)
+
+kept-requires : tie.Need-kept-requires
+kept-requires c κs = search needs
+
+held-requires : tie.Need-held-requires
+held-requires c κs = search needs
+
+less-requires : tie.Need-less-requires
+less-requires c κs = search needs
+
+returns-2 : tie.Need-returns-2
+returns-2 c = listed-zones (c .before .before .before .before .before .before .args .b) (c .before .before .before .before .before .before .args .zones) (c .before .before .before .kept .result) (c .before .before .held .result) (c .less .result) (c .before .before .before .before .if1 .left) (c .before .before .before .kept .ensures) (c .before .before .held .ensures) (c .less .ensures)
+
+pub listed-spec : {M : Type 1} → statement M
+listed-spec =
+    tie.close
+    (tie.spec
+    refused-requires
+    blank-requires
+    returns
+    kept-requires
+    held-requires
+    less-requires
+    returns-2)

@@ -1,0 +1,93 @@
+-- What the code replies for an accepted sheet is Windows' reply.
+use mathlib.Core.Path.{_≡_, refl, sym, ap, _∙_}
+use mathlib.Core.List.{List, [], _∷_}
+use mathlib.Core.Bool.{Bool, true, false}
+use Prim.Native.Nat.{ℕ, suc, _+_, _-_, _*_, _≤_, _<_}
+use native.Mathlib.Nat.{mul-le-mul}
+use native.Mathlib.Omega.{arith}
+use borrow.Author.Tests.{lt-ltb}
+use lib.Dec.{ltb}
+use lib.IntN.{ℤ, pos, negsuc, _+ℤ_, _-ℤ_}
+use lib.ListN.{length, take}
+use lib.Signed.{_≤ℤ_}
+use Rattle.cutting.specs.Counts.{keptOf, cutOf}
+use Rattle.cutting.specs.Cutting.{Listing, listed, refused, zonesOf}
+use Rattle.cutting.specs.Refusals.{Named, zones-named}
+use Rattle.expr.specs.SearchLaws.{widths, valuations-length}
+use Rattle.expr.specs.Affine.{Affine}
+use Rattle.expr.specs.Three.{rangeList}
+use Rattle.expr.specs.Valuations.{width, valuations, satisfies, pickN, countIn, count}
+use Rattle.expr.specs.declared.ranges.Range.{Range}
+use Rattle.expr.specs.declared.ranges.Ranges.{Ranges}
+use Rattle.integer.specs.Parts.{p, n, ≤-in}
+use Rattle.integer.specs.Split.{split, split-all}
+use Rattle.sheet.specs.declared.Sheet.{Sheet}
+use Rattle.sheet.specs.WellFormed.{WellFormed, RangeRight}
+use Rattle.windows.specs.Reply.{blankWork, refusedBy, listingWork, sheetWork}
+use Rattle.windows.specs.Work.{listedC}
+use Rattle.windows.specs.declared.reply.Answer.the-variants as answer
+use Rattle.windows.specs.declared.reply.Worked.{Worked}
+use Rattle.zones.specs.Coded.{coded, zonesIn}
+use Rattle.zones.specs.CodedRead.{keptC, kept-in}
+use Rattle.zones.specs.CodedWalk.{zones-coded}
+use Rattle.zones.specs.Listed.{pick}
+use Rattle.zones.specs.Walked.{zonesAll}
+use Rattle.zones.specs.declared.zone.Zones.{Zones}
+
+-- ---- counts
+count-few-in : (t : List ℤ → Bool) (vs : List (List ℤ)) → countIn t vs ≤ length vs
+unfolding countIn
+count-few-in t [] = omega arith
+count-few-in t (v ∷ vs) = by (t v) (count-few-in t vs)
+  where
+    by : (b : Bool) → countIn t vs ≤ length vs → pickN b (suc (countIn t vs)) (countIn t vs) ≤ suc (length vs)
+    by true h = omega arith
+    by false h = omega arith
+
+-- no count is more than the product of the widths
+pub count-few : (rs : List Range) (es : List Affine) → count rs es ≤ widths rs
+unfolding count
+count-few rs es = let l = count-few-in (satisfies es) (valuations rs) in let k = valuations-length rs in omega arith
+
+count-every : (vs : List (List ℤ)) → countIn (satisfies []) vs ≡ length vs
+unfolding countIn satisfies
+count-every [] = refl
+count-every (v ∷ vs) = ap suc (count-every vs)
+
+-- without inequalities it is that product
+pub count-all : (rs : List Range) → count rs [] ≡ widths rs
+unfolding count
+count-all rs = count-every (valuations rs) ∙ valuations-length rs
+
+-- ---- an accepted sheet has at most 64 × 64 × 64 valuations
+positive : (z : ℤ) (k : ℕ) → z ≤ℤ pos k → p z ≤ k
+unfolding p n
+positive (pos m) k h = let g : m + 0 ≤ k + 0 = ≤-in h in omega arith
+positive (negsuc m) k h = omega arith
+
+one-more : (a b : ℤ) → (b -ℤ a) ≤ℤ pos 63 → ((b +ℤ pos 1) -ℤ a) ≤ℤ pos 64
+one-more a b = rw (split a, split b) (simp split-all (omega arith))
+
+narrow : (a b : ℤ) → (b -ℤ a) ≤ℤ pos 63 → p ((b +ℤ pos 1) -ℤ a) ≤ 64
+narrow a b h = positive ((b +ℤ pos 1) -ℤ a) 64 (one-more a b h)
+
+width-few : (n i : ℕ) (r : Range) → RangeRight n i r → width r ≤ 64
+unfolding width
+width-few n i r h = narrow (r .low) (r .high) (h .width)
+
+pub widths-few : (s : Sheet) → WellFormed s → widths (rangeList (s .ranges)) ≤ 262144
+unfolding widths
+widths-few s f = product (width (s .ranges .p)) (width (s .ranges .q)) (width (s .ranges .r)) (width-few _ _ _ (f .p)) (width-few _ _ _ (f .q)) (width-few _ _ _ (f .r))
+  where
+    product : (a b c : ℕ) → a ≤ 64 → b ≤ 64 → c ≤ 64 → a * (b * (c * 1)) ≤ 262144
+    product a b c ha hb hc = let k = mul-le-mul ha (mul-le-mul hb hc) in omega arith
+
+-- ---- the reply
+listing-coded : (s : Sheet) (o : Listing) → Named o → listedC (s .ranges) (coded (s .moves) o) ≡ listingWork s o
+unfolding listedC coded listingWork
+listing-coded s (listed zs) h = rw (kept-in (s .ranges) zs, count-all (rangeList (s .ranges))) refl
+listing-coded s (refused n k) h = rw (lt-ltb 0 n (omega (arith, h .0))) refl
+
+pub work-coded : (s : Sheet) → WellFormed s → (zs : Zones) → zs ≡ zonesAll s → listedC (s .ranges) zs ≡ sheetWork s
+unfolding sheetWork
+work-coded s f zs e = ap (listedC (s .ranges)) (e ∙ zones-coded s f) ∙ listing-coded s (zonesOf s) (zones-named s)
