@@ -6,6 +6,7 @@
 #[cfg(test)]
 mod agree;
 pub mod bound;
+pub mod cuttings;
 pub mod digest;
 pub mod instants;
 pub mod listing;
