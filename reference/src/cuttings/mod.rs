@@ -10,6 +10,8 @@ pub mod drawn;
 pub mod edges;
 pub mod held;
 pub mod paper;
+#[cfg(test)]
+mod tests;
 
 use crate::bound::{Bound, Expr};
 use crate::random::Random;
@@ -214,7 +216,7 @@ pub fn stored(mut bytes: &[u8]) -> Option<Vec<Record>> {
 }
 
 #[cfg(test)]
-mod tests {
+mod stored_tests {
     use super::*;
 
     /// What is stored is found again, and a record that is not whole is told apart.

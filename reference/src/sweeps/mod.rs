@@ -83,7 +83,7 @@ fn papers(random: &mut Random) -> Vec<Record> {
 
 /// An upper guard p and a lower guard -q on one clock, of either relation, with p and q close to each
 /// other and to 0: met in the same visit or in two, with a reset of another clock between or not.
-fn meetings() -> Vec<Record> {
+pub fn meetings() -> Vec<Record> {
     let mut list = Vec::new();
     for n in 0..32 {
         let yes = |bit: u8| n >> bit & 1 == 1;
