@@ -49,7 +49,7 @@ pub(super) fn both_sides(count: i16) -> impl Iterator<Item = i16> {
 /// Those guards at the stays and moves of a route in turn, six at each, in locations of their own.
 fn in_turn(parameters: &[Parameter], guards: &[Guard]) -> Sheet {
     let mut places: Vec<Vec<Guard>> = guards.chunks(MOST_GUARDS).map(<[Guard]>::to_vec).collect();
-    if places.len() % 2 == 0 {
+    if places.len().is_multiple_of(2) {
         places.push(Vec::new());
     }
     let stays: Vec<Vec<Guard>> = places.iter().step_by(2).cloned().collect();

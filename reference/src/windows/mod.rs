@@ -4,10 +4,13 @@
 //! them in. Where a test is not settled, the zone is parted in two lists and the guard is worked anew
 //! on each part, from its first rule on: what was asked before is settled for the part as well.
 
-use crate::bound::{opposite, value, Bound, Expr, Test, Wide};
+mod part;
+
+use crate::bound::{Bound, Expr};
 use crate::sheet::{read, Guard, Refusal, Sheet};
 use crate::sweep::SIDE;
-use crate::valuations::{all, Valuation};
+use crate::valuations::all;
+use part::{Limit, Part, Stop};
 
 /// A matrix of bounds; entry (i, j) bounds clock i - clock j.
 pub type Bounds = [[Bound; SIDE]; SIDE];
@@ -90,85 +93,6 @@ pub fn cut(sheet: &Sheet, limits: Limits) -> Outcome {
     Ok(cutting.done())
 }
 
-/// A zone at work, with all the valuations that meet its inequalities.
-#[derive(Clone)]
-struct Part {
-    inequalities: Vec<Expr>,
-    valuations: Vec<Valuation>,
-    bounds: Bounds,
-}
-
-/// Why the rules of a guard are left before their end.
-enum Stop {
-    /// A test that some of the part's valuations satisfy and others do not.
-    Open(Expr),
-    Wide,
-}
-
-impl From<Wide> for Stop {
-    fn from(_: Wide) -> Stop {
-        Stop::Wide
-    }
-}
-
-impl Part {
-    /// The answer to a test, if all the valuations give the same one.
-    fn settled(&self, test: Test) -> Result<bool, Stop> {
-        let e = match test {
-            Test::Known(answer) => return Ok(answer),
-            Test::Asked(e) => e,
-        };
-        let mut answers = self.valuations.iter().map(|&v| value(e, v) >= 0);
-        let first = answers.next().expect("a part has a valuation");
-        if answers.all(|answer| answer == first) {
-            Ok(first)
-        } else {
-            Err(Stop::Open(e))
-        }
-    }
-
-    /// The yes part and the no part of an inequality.
-    fn parted(self, e: Expr) -> (Part, Part) {
-        let (satisfied, others) = self.valuations.iter().partition(|&&v| value(e, v) >= 0);
-        let with = |e: Expr, valuations: Vec<Valuation>| Part {
-            inequalities: [&self.inequalities[..], &[e]].concat(),
-            valuations,
-            bounds: self.bounds,
-        };
-        (with(e, satisfied), with(opposite(e), others))
-    }
-
-    /// The part's matrix after a guard i - j with the bound e, or nothing if the guard leaves none: rules
-    /// (1), (2) and (3) of the paper.
-    fn guarded(
-        &self,
-        cutting: &Cutting,
-        i: usize,
-        j: usize,
-        e: Bound,
-    ) -> Result<Option<Bounds>, Stop> {
-        let m = &self.bounds;
-        let sum = |a: Bound, b: Bound| a.sum(b, cutting.limits.number);
-        let tighter = |a: Bound, b: Bound| self.settled(a.tighter(b, cutting.limits.number)?);
-        if tighter(sum(e, m[j][i])?, Bound::ZERO)? {
-            return Ok(None);
-        }
-        if !tighter(e, m[i][j])? {
-            return Ok(Some(*m));
-        }
-        let mut next = *m;
-        for k in 0..=cutting.clocks {
-            for l in 0..=cutting.clocks {
-                let through = sum(sum(m[k][i], e)?, m[j][l])?;
-                if tighter(through, m[k][l])? {
-                    next[k][l] = through;
-                }
-            }
-        }
-        Ok(Some(next))
-    }
-}
-
 /// The work along a route: the zones so far in order, the moves made, and how many valuations are cut.
 struct Cutting {
     clocks: usize,
@@ -197,15 +121,10 @@ impl Cutting {
     /// One guard over all zones in order. The parts that are still to be worked wait in a pile, the next
     /// one on top; of an open test the yes part comes to lie above the no part.
     fn guard(&mut self, guard: &Guard) -> Result<(), Refusal> {
-        let (i, j) = (usize::from(guard.a), usize::from(guard.b));
-        let [p, q, r] = guard.coefficients.map(i64::from);
-        let e = Bound::At {
-            expr: [i64::from(guard.constant), p, q, r],
-            strict: guard.strict,
-        };
+        let limit = Limit::new(guard);
         let mut pile: Vec<Part> = self.parts.drain(..).rev().collect();
         while let Some(part) = pile.pop() {
-            match part.guarded(self, i, j, e) {
+            match part.guarded(self.clocks, &limit, self.limits.number) {
                 Ok(None) => self.cut += part.valuations.len(),
                 Ok(Some(bounds)) => self.list(Part { bounds, ..part })?,
                 Err(Stop::Wide) => return self.refused(9),
