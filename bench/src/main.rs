@@ -1,4 +1,7 @@
-// Measures the proved search against a plain scan, and proved Sweep against the reference's sweep.
+// Measures the proved search against a plain scan, proved Sweep against the reference's sweep, and, with the feature
+// "windows", proved Windows against a proved Sweep at every valuation.
+#[cfg(feature = "windows")]
+mod cuts;
 mod families;
 mod random;
 mod search;
@@ -7,13 +10,24 @@ mod sheets;
 mod sweep;
 mod system;
 mod timing;
+#[cfg(feature = "windows")]
+mod windows;
 
 fn main() {
     let has = |wanted: &str| std::env::args().any(|word| word == wanted);
-    if !has("--sweep") {
+    let all = !has("--sweep") && !has("--windows");
+    if all {
         search::run(has("--quick"));
         println!();
     }
-    sweep::run(has("--quick"));
+    if all || has("--sweep") {
+        sweep::run(has("--quick"));
+        println!();
+    }
+    #[cfg(feature = "windows")]
+    if all || has("--windows") {
+        windows::run(has("--quick"));
+        println!();
+    }
     println!("All answers agree.");
 }

@@ -5,8 +5,11 @@
 
 #[cfg(test)]
 mod agree;
+pub mod bound;
+pub mod cuttings;
 pub mod digest;
 pub mod instants;
+pub mod listing;
 #[cfg(test)]
 mod parts;
 pub mod planned;
@@ -16,6 +19,8 @@ pub mod sheet;
 pub mod sweep;
 pub mod sweeps;
 pub mod tool;
+pub mod valuations;
 pub mod vectors;
 pub mod weight;
+pub mod windows;
 pub mod writer;

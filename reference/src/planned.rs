@@ -39,18 +39,48 @@ pub fn random_shape(random: &mut Random, moves: usize, guards: usize, width: i16
     }
 }
 
+/// A way to draw a coefficient.
+type Draw = fn(&mut Random) -> i16;
+
 /// A sheet of that shape. One in three has a guard that the planned run may miss by a little.
 pub fn planned(random: &mut Random, shape: Shape) -> Planned {
-    let mut sheet = bare(random, shape);
+    let sheet = bare(random, shape);
     let valuation = valuation(random, &sheet.parameters);
+    around(random, shape, sheet, valuation, coefficient_of)
+}
+
+/// A sheet of that shape whose guards' bounds cross in the middle of the ranges, so that the ranges are
+/// cut in many zones: it is planned for the middle, and its ranges have at least half the shape's width.
+pub fn crossed(random: &mut Random, shape: Shape) -> Planned {
+    let mut sheet = bare(random, shape);
+    for parameter in &mut sheet.parameters {
+        let width = random.from_to(shape.width / 2, shape.width);
+        let lowest = random.from_to(-width, 3);
+        *parameter = range(lowest, lowest + width);
+    }
+    let mut valuation = [0; 3];
+    for (x, p) in valuation.iter_mut().zip(&sheet.parameters) {
+        *x = i64::from((p.lowest + p.highest) / 2);
+    }
+    around(random, shape, sheet, valuation, steep_coefficient)
+}
+
+/// The sheet with guards around a run at that valuation, their coefficients being drawn in that way.
+fn around(
+    random: &mut Random,
+    shape: Shape,
+    mut sheet: Sheet,
+    valuation: [i64; 3],
+    draw: Draw,
+) -> Planned {
     let seen = visits(random, &sheet);
     for k in 0..sheet.locations.len() {
         let values = at(&seen, |visit| visit.location == k);
-        sheet.locations[k].invariants = guards(random, shape, &values, valuation);
+        sheet.locations[k].invariants = guards(random, shape, &values, valuation, draw);
     }
     for k in 0..sheet.transitions.len() {
         let values = at(&seen, |visit| visit.transition == Some(k));
-        sheet.transitions[k].guards = guards(random, shape, &values, valuation);
+        sheet.transitions[k].guards = guards(random, shape, &values, valuation, draw);
     }
     if random.once_in(3) {
         tighten(random, &mut sheet);
@@ -170,15 +200,27 @@ fn at(seen: &[Visit], which: impl Fn(&Visit) -> bool) -> Vec<[i64; 5]> {
 }
 
 /// Up to the shape's count of guards that those clocks meet at that valuation.
-fn guards(random: &mut Random, shape: Shape, values: &[[i64; 5]], v: [i64; 3]) -> Vec<Guard> {
+fn guards(
+    random: &mut Random,
+    shape: Shape,
+    values: &[[i64; 5]],
+    v: [i64; 3],
+    draw: Draw,
+) -> Vec<Guard> {
     let count = random.below(shape.guards + 1);
     (0..count)
-        .filter_map(|_| guard(random, shape, values, v))
+        .filter_map(|_| guard(random, shape, values, v, draw))
         .collect()
 }
 
 /// A guard that those clocks meet at that valuation, unless its constant would be too large.
-fn guard(random: &mut Random, shape: Shape, values: &[[i64; 5]], v: [i64; 3]) -> Option<Guard> {
+fn guard(
+    random: &mut Random,
+    shape: Shape,
+    values: &[[i64; 5]],
+    v: [i64; 3],
+    draw: Draw,
+) -> Option<Guard> {
     let clock = 1 + random.below(usize::from(shape.clocks));
     let (a, b) = if random.once_in(2) {
         (clock, 0)
@@ -195,7 +237,7 @@ fn guard(random: &mut Random, shape: Shape, values: &[[i64; 5]], v: [i64; 3]) ->
     let least = (halves + 1).div_euclid(2) + spare;
     let mut coefficients = [0; 3];
     for coefficient in &mut coefficients[..shape.parameters] {
-        *coefficient = coefficient_of(random);
+        *coefficient = draw(random);
     }
     let constant = least - product(coefficients, v);
     if !(-1000..=1000).contains(&constant) {
@@ -213,6 +255,18 @@ fn coefficient_of(random: &mut Random) -> i16 {
         1..=3 => 0,
         4 | 5 => random.from_to(-3, 3),
         _ => random.from_to(-1, 1),
+    }
+}
+
+/// A coefficient, most often not 0.
+fn steep_coefficient(random: &mut Random) -> i16 {
+    match random.below(12) {
+        0 => random.from_to(-20, 20),
+        1 | 2 => 0,
+        3..=5 => random.from_to(-4, 4),
+        6 | 7 => random.from_to(-2, 2),
+        8 | 9 => 1,
+        _ => -1,
     }
 }
 

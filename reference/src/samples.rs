@@ -48,6 +48,27 @@ pub fn transition(from: u8, to: u8, resets: u8, guards: &[Guard]) -> Transition 
     }
 }
 
+/// The sheet with those parameters, clocks and invariants of locations whose route follows the path, a list
+/// of locations that starts with 0. Transition k is the route's k-th, with those resets and guards.
+pub fn along(
+    parameters: &[Parameter],
+    clocks: u8,
+    stays: &[Vec<Guard>],
+    path: &[u8],
+    moves: &[(u8, Vec<Guard>)],
+) -> Sheet {
+    let steps = path.windows(2).zip(moves);
+    Sheet {
+        parameters: parameters.to_vec(),
+        clocks,
+        locations: stays.iter().map(|list| location(list)).collect(),
+        transitions: steps
+            .map(|(ends, (resets, list))| transition(ends[0], ends[1], *resets, list))
+            .collect(),
+        route: (0..moves.len() as u8).collect(),
+    }
+}
+
 /// Sheet A of the paper. Its bodies of 5, 16, 17 and 2 bytes lie at 22, 27, 43 and 60.
 pub fn sheet_a() -> Sheet {
     Sheet {

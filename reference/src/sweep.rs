@@ -36,8 +36,9 @@ fn inside(sheet: &Sheet, v: [i64; 3]) -> Result<(), Refusal> {
     Ok(())
 }
 
-/// The matrix after the whole route, or nothing if a guard left none.
-fn walk(sheet: &Sheet, v: [i64; 3]) -> Option<Matrix> {
+/// The matrix of a sheet after the whole route at one of its valuations, or nothing if a guard left
+/// none.
+pub fn walk(sheet: &Sheet, v: [i64; 3]) -> Option<Matrix> {
     let clocks = usize::from(sheet.clocks);
     let mut m = ZEROS;
     let mut at = 0;

@@ -8,19 +8,16 @@
 //! digest of its matrix.
 
 pub mod paper;
-mod valuations;
 
 use crate::planned::{planned, random_shape, Planned, Shape};
 use crate::random::Random;
 use crate::samples::{at_most, biggest_sheet, location, random_sheet, range, transition, Size};
 use crate::sheet::{Sheet, MOST_CLOCKS, MOST_PARAMETERS, MOST_ROUTE};
 use crate::sweep::{sweep, Matrix, ZEROS};
+use crate::valuations::{all, beyond, corners, some, Valuation};
 use crate::vectors::{damage, limits};
 use crate::weight::Weight;
 use crate::writer;
-use valuations::{all, beyond, corners, some};
-
-pub use valuations::Valuation;
 
 /// The name of the family whose records are the cases of `paper`.
 pub const PAPER: &str = "results written by hand";
@@ -86,7 +83,7 @@ fn papers(random: &mut Random) -> Vec<Record> {
 
 /// An upper guard p and a lower guard -q on one clock, of either relation, with p and q close to each
 /// other and to 0: met in the same visit or in two, with a reset of another clock between or not.
-fn meetings() -> Vec<Record> {
+pub fn meetings() -> Vec<Record> {
     let mut list = Vec::new();
     for n in 0..32 {
         let yes = |bit: u8| n >> bit & 1 == 1;

@@ -101,24 +101,24 @@ fn file_case(name: &'static str, file: Vec<u8>, valuation: [i64; 3], result: Rep
 }
 
 /// Sheet A with 1 - 0 < p.
-fn sheet_a_strict() -> Sheet {
+pub(crate) fn sheet_a_strict() -> Sheet {
     let mut sheet = sheet_a();
     sheet.locations[0].invariants[0].strict = true;
     sheet
 }
 
 /// 1 - 0 <= p.
-fn up_p() -> Guard {
+pub(crate) fn up_p() -> Guard {
     at_most(1, 0, 0, [1, 0, 0])
 }
 
 /// 1 - 0 <= q.
-fn up_q() -> Guard {
+pub(crate) fn up_q() -> Guard {
     at_most(1, 0, 0, [0, 1, 0])
 }
 
 /// One clock, one location with those invariants, and an empty route.
-fn one_stay(parameters: &[Parameter], invariants: &[Guard]) -> Sheet {
+pub(crate) fn one_stay(parameters: &[Parameter], invariants: &[Guard]) -> Sheet {
     Sheet {
         parameters: parameters.to_vec(),
         clocks: 1,
@@ -129,7 +129,7 @@ fn one_stay(parameters: &[Parameter], invariants: &[Guard]) -> Sheet {
 }
 
 /// One clock, a location with those invariants, and a move with those guards to one without any.
-fn one_move(parameters: &[Parameter], invariants: &[Guard], guards: &[Guard]) -> Sheet {
+pub(crate) fn one_move(parameters: &[Parameter], invariants: &[Guard], guards: &[Guard]) -> Sheet {
     Sheet {
         parameters: parameters.to_vec(),
         clocks: 1,
@@ -141,7 +141,7 @@ fn one_move(parameters: &[Parameter], invariants: &[Guard], guards: &[Guard]) ->
 
 /// Two clocks: a stay that ends with that guard and clock 1 at least 3, a move that resets clock 2,
 /// and a stay that ends with clock 2 at most 2.
-fn two_clocks(first: Guard) -> Sheet {
+pub(crate) fn two_clocks(first: Guard) -> Sheet {
     Sheet {
         parameters: vec![],
         clocks: 2,

@@ -1,4 +1,4 @@
-//! Which valuations of a sheet's parameters are tried.
+//! Valuations of a sheet's parameters (the paper's settings), all of them or those that are tried.
 
 use crate::planned::valuation;
 use crate::random::Random;

@@ -1,0 +1,101 @@
+//! A zone at work: how a test is settled, and what one guard does.
+
+use super::Bounds;
+use crate::bound::{opposite, value, Bound, Expr, Test, Wide};
+use crate::sheet::Guard;
+use crate::valuations::Valuation;
+
+/// A zone at work, with all the valuations that meet its inequalities.
+pub(super) struct Part {
+    pub inequalities: Vec<Expr>,
+    pub valuations: Vec<Valuation>,
+    pub bounds: Bounds,
+}
+
+/// A guard i - j with the bound e.
+pub(super) struct Limit {
+    i: usize,
+    j: usize,
+    e: Bound,
+}
+
+impl Limit {
+    /// The guard as it stands in a sheet.
+    pub fn new(guard: &Guard) -> Limit {
+        let [p, q, r] = guard.coefficients.map(i64::from);
+        Limit {
+            i: usize::from(guard.a),
+            j: usize::from(guard.b),
+            e: Bound::At {
+                expr: [i64::from(guard.constant), p, q, r],
+                strict: guard.strict,
+            },
+        }
+    }
+}
+
+/// Why the rules of a guard are left before their end.
+pub(super) enum Stop {
+    /// A test that some of the part's valuations satisfy and others do not.
+    Open(Expr),
+    Wide,
+}
+
+impl From<Wide> for Stop {
+    fn from(_: Wide) -> Stop {
+        Stop::Wide
+    }
+}
+
+impl Part {
+    /// The answer to a test, if all the valuations give the same one.
+    fn settled(&self, test: Test) -> Result<bool, Stop> {
+        let e = match test {
+            Test::Known(answer) => return Ok(answer),
+            Test::Asked(e) => e,
+        };
+        let mut answers = self.valuations.iter().map(|&v| value(e, v) >= 0);
+        let first = answers.next().expect("a part has a valuation");
+        if answers.all(|answer| answer == first) {
+            Ok(first)
+        } else {
+            Err(Stop::Open(e))
+        }
+    }
+
+    /// The yes part and the no part of an inequality.
+    pub fn parted(self, e: Expr) -> (Part, Part) {
+        let (satisfied, others) = self.valuations.iter().partition(|&&v| value(e, v) >= 0);
+        let with = |e: Expr, valuations: Vec<Valuation>| Part {
+            inequalities: [&self.inequalities[..], &[e]].concat(),
+            valuations,
+            bounds: self.bounds,
+        };
+        (with(e, satisfied), with(opposite(e), others))
+    }
+
+    /// The part's matrix after a guard, or nothing if the guard leaves none: rules (1), (2) and (3) of the
+    /// paper. No number of a sum or a test may pass `most` in size.
+    pub fn guarded(&self, clocks: usize, limit: &Limit, most: i64) -> Result<Option<Bounds>, Stop> {
+        let &Limit { i, j, e } = limit;
+        let m = &self.bounds;
+        let sum = |a: Bound, b: Bound| a.sum(b, most);
+        let tighter = |a: Bound, b: Bound| self.settled(a.tighter(b, most)?);
+        if tighter(sum(e, m[j][i])?, Bound::ZERO)? {
+            return Ok(None);
+        }
+        if !tighter(e, m[i][j])? {
+            return Ok(Some(*m));
+        }
+        let mut next = *m;
+        for k in 0..=clocks {
+            for l in 0..=clocks {
+                let through = sum(sum(m[k][i], e)?, m[j][l])?;
+                if tighter(through, m[k][l])? {
+                    next[k][l] = through;
+                }
+            }
+        }
+        Ok(Some(next))
+    }
+}
