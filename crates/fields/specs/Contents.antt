@@ -4,12 +4,12 @@ use mathlib.Core.List.{List, []}
 use mathlib.Core.Bool.{Bool}
 use lib.ListN.{length, take, drop}
 use lib.Dec.{eqb}
-use Rattle.fields.specs.declared.Spot.{Spot}
+use Rattle.cursor.specs.declared.Spot.{Spot}
 use Rattle.fields.specs.declared.Contents.{Contents}
 use Rattle.fields.specs.declared.Refusal.{Refusal}
 use Rattle.fields.specs.declared.Refusal.the-variants.{Nothing, Size}
 use Rattle.fields.specs.declared.Refusal.the-variants as refusal
-use Rattle.fields.specs.Cursor.{pick, both, within, went, byteField, wordField}
+use Rattle.cursor.specs.Cursor.{pick, both, within, went, byteField, wordField}
 
 -- refusal 2 is for a file that is not so: 22 to 4,096 bytes
 unfoldable pub sized : List ℕ → Bool

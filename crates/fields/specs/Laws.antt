@@ -6,11 +6,11 @@ use mathlib.Core.Bool.{Bool, true, false}
 use native.Mathlib.Omega.{arith}
 use lib.Dec.{leb}
 use borrow.Author.Tests.{leb-true}
-use Rattle.fields.specs.declared.Spot.{Spot}
+use Rattle.cursor.specs.declared.Spot.{Spot}
 use Rattle.fields.specs.declared.Refusal.{Refusal}
 use Rattle.fields.specs.declared.Refusal.the-variants.{Nothing, Size, Contents, Body, Route}
 use Rattle.fields.specs.Refusals.{numberOf}
-use Rattle.fields.specs.Cursor.{pick, both, within, stop, judged, byteTaken, wordTaken, signedTaken, byteField, signedField, finished}
+use Rattle.cursor.specs.Cursor.{pick, both, within, stop, judged, byteTaken, wordTaken, signedTaken, byteField, signedField, finished}
 
 -- false is not true
 pub no : {A : Type 0} → false ≡ true → A

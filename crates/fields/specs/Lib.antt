@@ -1,4 +1,3 @@
-pub mod Cursor
 pub mod Contents
 pub mod Refusals
 pub mod Laws

@@ -2,12 +2,12 @@
 ghost use mathlib.Core.Path.{_≡_};
 ghost use Rattle.fields.specs.Contents.{sized, entryField, contentsOf};
 use super::Contents;
-use super::Spot;
-use super::cursor::byte_field;
-use super::cursor::left;
-use super::cursor::went;
-use super::cursor::within;
-use super::cursor::word_field;
+use cursor::Spot;
+use cursor::byte_field;
+use cursor::left;
+use cursor::went;
+use cursor::within;
+use cursor::word_field;
 
 // Whether the file has 22 to 4,096 bytes.
 pub fn sized(file: &[u8]) -> bool

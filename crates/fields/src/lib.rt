@@ -1,12 +1,11 @@
-// The bytes of a sheet file (paper 01, "The sheet file"): fields read one after another by a
-// cursor, the contents, and the part of the file that is a body.
+// The bytes of a sheet file (paper 01, "The sheet file"): the contents, and the part of the file that is a body.
 //
-// Every function is total, and its contract is an equation with a definition of specs/: Cursor for
-// the fields, Contents for the contents and the bodies' parts, Refusals for the numbers.
-pub mod cursor;
+// Every function is total, and its contract is an equation with a definition of specs/: Contents for the contents and the bodies' parts,
+// Refusals for the numbers.
 pub mod entries;
 mod parts;
 
+use cursor::Spot;
 ghost use mathlib.Core.Path.{_≡_};
 ghost use Rattle.fields.specs.Contents.{bodyOf, bodyRefusal};
 ghost use Rattle.fields.specs.Refusals.{numberOf, placeOf};
@@ -19,15 +18,6 @@ pub enum Refusal {
     Contents(usize),
     Body(usize),
     Route(usize),
-}
-
-// Where reading stands. If `ok`, `at` is the next byte, and the field read last is in `byte` or in
-// `word`; otherwise `at` is the place of the first wrong field, and nothing more is read.
-pub struct Spot {
-    pub ok: bool,
-    pub at: usize,
-    pub byte: u8,
-    pub word: u16,
 }
 
 // The contents: where reading them ended, and where bodies 1, 2 and 3 end. Body 1 starts at byte

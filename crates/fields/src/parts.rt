@@ -3,11 +3,11 @@ ghost use mathlib.Core.Path.{_≡_};
 ghost use mathlib.Core.List.{[]};
 ghost use Prim.Native.Nat.{_-_};
 ghost use lib.ListN.{take, drop};
-ghost use Rattle.fields.specs.Cursor.{pick};
+ghost use Rattle.cursor.specs.Cursor.{pick};
 ghost use Rattle.fields.specs.Contents.{isKind, startOf, endOf, hasBody};
 use super::Contents;
-use super::cursor::both;
-use super::cursor::within;
+use cursor::both;
+use cursor::within;
 use super::entries::contents_of;
 use super::entries::sized;
 

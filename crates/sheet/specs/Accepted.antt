@@ -9,7 +9,7 @@ use Rattle.fields.specs.declared.Contents.{Contents}
 use Rattle.fields.specs.declared.Refusal.{Refusal}
 use Rattle.fields.specs.declared.Refusal.the-variants.{Nothing, Size, Body, Route}
 use Rattle.fields.specs.declared.Refusal.the-variants as refusal
-use Rattle.fields.specs.Cursor.{pick, went, judged}
+use Rattle.cursor.specs.Cursor.{pick, went, judged}
 use Rattle.fields.specs.Contents.{sized, contentsOf}
 use Rattle.sheet.specs.declared.Sheet.{Sheet}
 use Rattle.sheet.specs.declared.SheetAt.{SheetAt}

@@ -7,8 +7,8 @@ use lib.ListN.{set, replicate}
 use lib.Dec.{ltb, leb}
 use Rattle.expr.specs.declared.ranges.Range.{Range}
 use Rattle.expr.specs.declared.ranges.Ranges.{Ranges}
-use Rattle.fields.specs.declared.Spot.{Spot}
-use Rattle.fields.specs.Cursor.{pick, both, within, judged, byteTaken, signedTaken, byteField, finished, turns}
+use Rattle.cursor.specs.declared.Spot.{Spot}
+use Rattle.cursor.specs.Cursor.{pick, both, within, judged, byteTaken, signedTaken, byteField, finished, turns}
 use Rattle.sheet.specs.declared.Location.{Location}
 use Rattle.sheet.specs.declared.Transition.{Transition}
 use Rattle.sheet.specs.declared.guards.GuardsAt.{GuardsAt}

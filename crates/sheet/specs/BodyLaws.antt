@@ -7,8 +7,8 @@ use native.Mathlib.Omega.{arith}
 use lib.ListN.{set, replicate}
 use lib.Dec.{ltb, leb}
 use borrow.Author.Tests.{ltb-true, leb-true}
-use Rattle.fields.specs.declared.Spot.{Spot}
-use Rattle.fields.specs.Cursor.{pick, both, within, byteTaken, signedTaken, byteField, signedField}
+use Rattle.cursor.specs.declared.Spot.{Spot}
+use Rattle.cursor.specs.Cursor.{pick, both, within, byteTaken, signedTaken, byteField, signedField}
 use Rattle.fields.specs.Laws.{both-true, within-true, judged-right, byteTaken-ok, signedTaken-ok, finished-ok, byteField-right, signedField-right}
 use Rattle.sheet.specs.declared.Location.{Location}
 use Rattle.sheet.specs.declared.Transition.{Transition}

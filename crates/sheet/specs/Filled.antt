@@ -9,7 +9,7 @@ use lib.ListN.{length, getD, set, replicate, length-set, length-replicate, getD-
 use lib.Seq.{getD-set-same, getD-set-other}
 use lib.Dec.{ltb, eqb}
 use borrow.Author.Tests.{ltb-true, ltb-false, lt-ltb, le-ltb, eqb-true, eqb-false}
-use Rattle.fields.specs.Cursor.{pick, turns}
+use Rattle.cursor.specs.Cursor.{pick, turns}
 
 -- a list of n places, of which the first `count` hold what R says and the others are blank; `d` is what is read past the end
 pub record Filled {B : Type 0} (n count : ℕ) (d blank : B) (R : B → Type 0) (l : List B) : Type 0 where

@@ -8,8 +8,8 @@ use native.Mathlib.Omega.{arith}
 use lib.ListN.{set}
 use lib.Dec.{ltb, leb, eqb}
 use borrow.Author.Tests.{ltb-true, leb-true, eqb-true, eqb-false}
-use Rattle.fields.specs.declared.Spot.{Spot}
-use Rattle.fields.specs.Cursor.{pick, both, byteTaken, byteField, signedField}
+use Rattle.cursor.specs.declared.Spot.{Spot}
+use Rattle.cursor.specs.Cursor.{pick, both, byteTaken, byteField, signedField}
 use Rattle.fields.specs.Laws.{no, both-true, judged-right, byteTaken-ok, byteField-right, signedField-right}
 use Rattle.sheet.specs.declared.Guard.{Guard}
 use Rattle.sheet.specs.declared.guards.GuardsAt.{GuardsAt}

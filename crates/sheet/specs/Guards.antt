@@ -9,8 +9,8 @@ use lib.Dec.{ltb, leb, eqb}
 use lib.IntN.{ℤ, pos, _-ℤ_}
 use Rattle.expr.specs.declared.number.Expr.{Expr}
 use Rattle.expr.specs.declared.bound.Bound.{Bound}
-use Rattle.fields.specs.declared.Spot.{Spot}
-use Rattle.fields.specs.Cursor.{pick, both, judged, byteTaken, byteField, signedField, turns}
+use Rattle.cursor.specs.declared.Spot.{Spot}
+use Rattle.cursor.specs.Cursor.{pick, both, judged, byteTaken, byteField, signedField, turns}
 use Rattle.sheet.specs.declared.Guard.{Guard}
 use Rattle.sheet.specs.declared.guards.GuardAt.{GuardAt}
 use Rattle.sheet.specs.declared.guards.GuardsAt.{GuardsAt}

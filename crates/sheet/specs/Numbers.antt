@@ -9,7 +9,7 @@ use lib.Signed.{_≤ℤ_}
 use borrow.Author.Tests.{ltb-true, ltb-false, lt-ltb, le-ltb}
 use mir.Syntax.{w16}
 use mir.Val.{toZ, sel}
-use Rattle.fields.specs.Cursor.{shifted}
+use Rattle.cursor.specs.Cursor.{shifted}
 use Rattle.sheet.specs.Guards.{signedOf}
 use Rattle.sheet.specs.WellFormed.{Small}
 

@@ -4,7 +4,7 @@ use mathlib.Core.List.{List, []}
 use mathlib.Core.Bool.{true, false}
 use lib.ListN.{getD}
 use lib.Dec.{ltb, eqb}
-use Rattle.fields.specs.Cursor.{pick, turns}
+use Rattle.cursor.specs.Cursor.{pick, turns}
 use Rattle.sheet.specs.declared.Transition.{Transition}
 use Rattle.sheet.specs.declared.route.Ends.{Ends}
 use Rattle.sheet.specs.declared.route.Link.{Link}

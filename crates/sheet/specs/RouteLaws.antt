@@ -7,7 +7,7 @@ use native.Mathlib.Omega.{arith}
 use lib.ListN.{getD}
 use lib.Dec.{ltb, eqb}
 use borrow.Author.Tests.{ltb-true, ltb-false, eqb-true, eqb-false}
-use Rattle.fields.specs.Cursor.{pick, turns}
+use Rattle.cursor.specs.Cursor.{pick, turns}
 use Rattle.fields.specs.Laws.{no}
 use Rattle.sheet.specs.declared.Transition.{Transition}
 use Rattle.sheet.specs.declared.route.Link.{Link}

@@ -30,15 +30,15 @@ use super::guards::blank_guards;
 use super::guards::guards_at;
 use expr::Range;
 use expr::Ranges;
-use fields::Spot;
-use fields::cursor::both;
-use fields::cursor::byte_field;
-use fields::cursor::finished;
-use fields::cursor::judged;
-use fields::cursor::signed_field;
-use fields::cursor::take_byte;
-use fields::cursor::take_signed;
-use fields::cursor::within;
+use cursor::Spot;
+use cursor::both;
+use cursor::byte_field;
+use cursor::finished;
+use cursor::judged;
+use cursor::signed_field;
+use cursor::take_byte;
+use cursor::take_signed;
+use cursor::within;
 
 // A parameter's range, and where reading stands after it.
 pub struct RangeAt {

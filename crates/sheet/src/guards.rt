@@ -17,12 +17,12 @@ ghost use Rattle.sheet.specs.Guards.{
 use super::Guard;
 use expr::Bound;
 use expr::Expr;
-use fields::Spot;
-use fields::cursor::both;
-use fields::cursor::byte_field;
-use fields::cursor::judged;
-use fields::cursor::signed_field;
-use fields::cursor::take_byte;
+use cursor::Spot;
+use cursor::both;
+use cursor::byte_field;
+use cursor::judged;
+use cursor::signed_field;
+use cursor::take_byte;
 
 // A guard, and where reading stands after it.
 pub struct GuardAt {

@@ -3,7 +3,7 @@ use Prim.Native.Nat.{_≤_, _-_}
 use mathlib.Core.Path.{_≡_, refl}
 use native.Mathlib.Omega.{arith}
 use native.Mathlib.Numerals.{add-one}
-use Rattle.fields.specs.Cursor.{turns}
+use Rattle.cursor.specs.Cursor.{turns}
 use Rattle.sheet.specs.Bodies.{locationStep, locationsRead}
 use borrow.Author.Needs.{needs}
 use Rattle.sheet.proofs.bodies.locations_read.Statement.{statement}

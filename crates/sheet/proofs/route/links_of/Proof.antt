@@ -3,7 +3,7 @@ use Prim.Native.Nat.{_≤_, _-_}
 use mathlib.Core.Path.{_≡_, refl}
 use native.Mathlib.Omega.{arith}
 use native.Mathlib.Numerals.{add-one}
-use Rattle.fields.specs.Cursor.{turns}
+use Rattle.cursor.specs.Cursor.{turns}
 use Rattle.sheet.specs.Route.{linkStep, linksOf}
 use Rattle.sheet.proofs.route.links_of.Statement.{statement}
 use Rattle.sheet.proofs.route.links_of.Tie as tie

@@ -1,9 +1,10 @@
-// The fields of a file, read by a cursor that stops at the first wrong one. Each function takes
-// where reading stands and returns where it stands then; a stopped cursor passes through.
+// The fields of a file (paper 01, "The sheet file"), read by a cursor that stops at the first wrong one. Each function takes where reading
+// stands and returns where it stands then; a stopped cursor passes through. Every function is total, and its contract is an equation with a
+// definition of specs/Cursor.
 ghost use mathlib.Core.Path.{_≡_};
 ghost use Prim.Native.Nat.{_+_, _-_, _*_};
 ghost use lib.ListN.{getD};
-ghost use Rattle.fields.specs.Cursor.{
+ghost use Rattle.cursor.specs.Cursor.{
   within,
   both,
   went,
@@ -19,7 +20,15 @@ ghost use Rattle.fields.specs.Cursor.{
   signedField,
   finished,
 };
-use super::Spot;
+
+// Where reading stands. If `ok`, `at` is the next byte, and the field read last is in `byte` or in
+// `word`; otherwise `at` is the place of the first wrong field, and nothing more is read.
+pub struct Spot {
+    pub ok: bool,
+    pub at: usize,
+    pub byte: u8,
+    pub word: u16,
+}
 
 // The byte at a place, and 0 past the end.
 fn byte_at(s: &[u8], at: usize) -> u8

@@ -1,9 +1,9 @@
 -- `cursor::shifted` meets its contract: the remainder by 65,536 takes 65,536 off once or not at all. Assumes nothing.
 use native.Mathlib.Omega.{arith}
-use Rattle.fields.specs.Cursor.{shifted}
+use Rattle.cursor.specs.Cursor.{shifted}
 use borrow.Author.Needs.{needs}
-use Rattle.fields.proofs.cursor.shifted.Statement.{statement}
-use Rattle.fields.proofs.cursor.shifted.Tie as tie
+use Rattle.cursor.proofs.shifted.Statement.{statement}
+use Rattle.cursor.proofs.shifted.Tie as tie
 
 add-result : tie.Need-add-result
 add-result c = search needs

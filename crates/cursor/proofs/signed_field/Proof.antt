@@ -1,8 +1,8 @@
 -- `cursor::signed_field` meets its contract: code and definition are one composition. Assumes nothing.
-use Rattle.fields.specs.Cursor.{signedField}
+use Rattle.cursor.specs.Cursor.{signedField}
 use borrow.Author.Needs.{needs}
-use Rattle.fields.proofs.cursor.signed_field.Statement.{statement}
-use Rattle.fields.proofs.cursor.signed_field.Tie as tie
+use Rattle.cursor.proofs.signed_field.Statement.{statement}
+use Rattle.cursor.proofs.signed_field.Tie as tie
 
 take-signed-requires : tie.Need-take-signed-requires
 take-signed-requires c κs = search needs

@@ -1,8 +1,8 @@
 -- `cursor::take_signed` meets its contract: the two bytes are taken, and shifted unless the body stopped early. Assumes nothing.
-use Rattle.fields.specs.Cursor.{signedTaken}
+use Rattle.cursor.specs.Cursor.{signedTaken}
 use borrow.Author.Needs.{needs}
-use Rattle.fields.proofs.cursor.take_signed.Statement.{statement}
-use Rattle.fields.proofs.cursor.take_signed.Tie as tie
+use Rattle.cursor.proofs.take_signed.Statement.{statement}
+use Rattle.cursor.proofs.take_signed.Tie as tie
 
 take-word-requires : tie.Need-take-word-requires
 take-word-requires c κs = search needs

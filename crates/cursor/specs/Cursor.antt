@@ -7,7 +7,7 @@ use mathlib.Core.List.{List}
 use mathlib.Core.Bool.{Bool, true, false}
 use lib.ListN.{getD}
 use lib.Dec.{ltb, leb}
-use Rattle.fields.specs.declared.Spot.{Spot}
+use Rattle.cursor.specs.declared.Spot.{Spot}
 
 -- the first if the test holds, else the second
 abbrev pub pick : {A : Type 0} → Bool → A → A → A

@@ -1,9 +1,9 @@
 -- `cursor::take_byte` meets its contract: the tests on the way pick the definition's case. Assumes nothing.
 use borrow.Author.Tests.{le-leb, lt-leb}
-use Rattle.fields.specs.Cursor.{byteTaken}
+use Rattle.cursor.specs.Cursor.{byteTaken}
 use borrow.Author.Needs.{needs}
-use Rattle.fields.proofs.cursor.take_byte.Statement.{statement}
-use Rattle.fields.proofs.cursor.take_byte.Tie as tie
+use Rattle.cursor.proofs.take_byte.Statement.{statement}
+use Rattle.cursor.proofs.take_byte.Tie as tie
 
 left-requires : tie.Need-left-requires
 left-requires c κs = search needs

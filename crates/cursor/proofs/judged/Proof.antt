@@ -1,8 +1,8 @@
 -- `cursor::judged` meets its contract: the tests on the way pick the definition's case. Assumes nothing.
-use Rattle.fields.specs.Cursor.{judged}
+use Rattle.cursor.specs.Cursor.{judged}
 use borrow.Author.Needs.{needs}
-use Rattle.fields.proofs.cursor.judged.Statement.{statement}
-use Rattle.fields.proofs.cursor.judged.Tie as tie
+use Rattle.cursor.proofs.judged.Statement.{statement}
+use Rattle.cursor.proofs.judged.Tie as tie
 
 stop-requires : tie.Need-stop-requires
 stop-requires c κs = search needs

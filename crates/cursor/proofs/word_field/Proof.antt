@@ -1,8 +1,8 @@
 -- `cursor::word_field` meets its contract: code and definition are one composition. Assumes nothing.
-use Rattle.fields.specs.Cursor.{wordField}
+use Rattle.cursor.specs.Cursor.{wordField}
 use borrow.Author.Needs.{needs}
-use Rattle.fields.proofs.cursor.word_field.Statement.{statement}
-use Rattle.fields.proofs.cursor.word_field.Tie as tie
+use Rattle.cursor.proofs.word_field.Statement.{statement}
+use Rattle.cursor.proofs.word_field.Tie as tie
 
 take-word-requires : tie.Need-take-word-requires
 take-word-requires c κs = search needs

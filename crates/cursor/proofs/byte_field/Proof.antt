@@ -1,8 +1,8 @@
 -- `cursor::byte_field` meets its contract: code and definition are one composition. Assumes nothing.
-use Rattle.fields.specs.Cursor.{byteField}
+use Rattle.cursor.specs.Cursor.{byteField}
 use borrow.Author.Needs.{needs}
-use Rattle.fields.proofs.cursor.byte_field.Statement.{statement}
-use Rattle.fields.proofs.cursor.byte_field.Tie as tie
+use Rattle.cursor.proofs.byte_field.Statement.{statement}
+use Rattle.cursor.proofs.byte_field.Tie as tie
 
 take-byte-requires : tie.Need-take-byte-requires
 take-byte-requires c κs = search needs

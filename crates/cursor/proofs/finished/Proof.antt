@@ -1,9 +1,9 @@
 -- `cursor::finished` meets its contract: the tests on the way pick the definition's case. Assumes nothing.
 use borrow.Author.Tests.{lt-ltb, le-ltb}
-use Rattle.fields.specs.Cursor.{finished}
+use Rattle.cursor.specs.Cursor.{finished}
 use borrow.Author.Needs.{needs}
-use Rattle.fields.proofs.cursor.finished.Statement.{statement}
-use Rattle.fields.proofs.cursor.finished.Tie as tie
+use Rattle.cursor.proofs.finished.Statement.{statement}
+use Rattle.cursor.proofs.finished.Tie as tie
 
 stop-requires : tie.Need-stop-requires
 stop-requires c κs = search needs
