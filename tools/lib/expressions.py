@@ -11,12 +11,16 @@ def value(numbers, setting):
 
 
 def in_words(numbers, names):
-    """Such as 2p - q + 5; the constant comes first where that saves a leading minus."""
-    terms = [(k, name) for k, name in zip(numbers[1:], names) if k]
+    """Such as 2p - q + 5. Terms with a plus come first, and so does the constant if no other has one."""
+    terms = positive_first([(k, name) for k, name in zip(numbers[1:], names) if k])
     constant = [(numbers[0], "")] if numbers[0] else []
     if terms and terms[0][0] < 0 < numbers[0]:
         return joined(constant + terms)
     return joined(terms + constant)
+
+
+def positive_first(terms):
+    return sorted(terms, key=lambda term: term[0] < 0)
 
 
 def joined(terms):
