@@ -122,9 +122,9 @@ def panel_titles(ranges, names):
 
 
 def scales(ranges, names):
-    """The two axes; a strip's second one has a single value and no name."""
-    (low, high), (low_up, high_up) = ranges[0], ranges[1] if len(ranges) > 1 else (0, 0)
-    room, least, most = (200, 2, 16) if len(ranges) == 3 else (480, 7, 40)
+    """The two axes; a strip's second one has a single value and no name. Many panels are smaller."""
+    (low, high), (low_up, high_up), (low_panel, high_panel) = settings.three(ranges)
+    room, least, most = (480, 7, 40) if len(ranges) < 3 else (200 if high_panel - low_panel < 16 else 130, 2, 16)
     cell = max(least, min(most, room // (high - low + 1)))
     cell_up = max(least, min(most, room // (high_up - low_up + 1)))
     name_up = names.allowance[1] if len(ranges) > 1 else ""

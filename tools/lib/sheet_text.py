@@ -10,8 +10,8 @@ from sheet_file import (Limit, Move, Sheet, MOST_ALLOWANCES, MOST_BYTES, MOST_LI
 
 KINDS = {"allowance": MOST_ALLOWANCES, "watch": MOST_WATCHES, "stage": MOST_STAGES, "move": MOST_MOVES}
 PLURALS = {"allowance": "allowances", "watch": "watches", "stage": "stages", "move": "moves"}
-KEYWORDS = (*KINDS, "route", "when", "resets")
-LINE_WORDS = "'allowance', 'watch', 'stage', 'move' or 'route'"
+LINE_WORDS = (*KINDS, "route")
+KEYWORDS = (*LINE_WORDS, "when", "resets")
 # a relation as (the watch is bounded from above, strict)
 RELATIONS = {"<=": (True, False), "≤": (True, False), "<": (True, True),
              ">=": (False, False), "≥": (False, False), ">": (False, True)}
@@ -99,6 +99,8 @@ def sentences(text):
         tokens = tokens_of(row.removesuffix("\r"), number)
         if len(tokens) == 1:
             continue
+        if going_on and tokens[0].text in LINE_WORDS:
+            raise tokens[0].found("the list to go on after the ',' of the line before")
         if going_on:
             lines[-1][-1:] = tokens
         else:
@@ -146,7 +148,7 @@ def declared(lines, end):
         elif keyword.text == "route":
             raise keyword.error("a second route; expected one line 'route'")
         else:
-            raise keyword.found(f"a line that starts with {LINE_WORDS}")
+            raise keyword.found("a line that starts with " + ", ".join(LINE_WORDS))
     for kind in ("watch", "stage"):
         if not found[kind]:
             raise end.error(f"the text ends without a {kind}; expected at least one line '{kind}'")
