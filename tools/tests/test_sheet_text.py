@@ -1,5 +1,6 @@
 """The text form: round trips, the forms that are accepted, and what is said of wrong texts."""
 
+import random
 import re
 import tempfile
 import unittest
@@ -181,6 +182,20 @@ class Wrong(unittest.TestCase):
             self.assertEqual((why.line, why.column), (line, column), f"{text!r}: {why}")
             self.assertIn(words, why.message)
             self.assertIn("expected", why.message)
+
+    def test_damaged_texts_are_good_or_have_a_fault_in_the_text(self):
+        draw = random.Random(1)
+        words = ["p", "v", "when", "resets", "route", ",", ":", "->", "<", "..", "-", "2", "1001", "\n", "#", "é", "@", " "]
+        whole = (SHEETS / "week.txt").read_text(encoding="utf-8")
+        for _ in range(1500):
+            at = draw.randrange(len(whole))
+            text = whole[:at] + draw.choice(words) + whole[at + draw.randrange(12):]
+            try:
+                sheet_text.parse(text)
+            except sheet_text.TextError as why:
+                lines = text.split("\n")
+                self.assertIn(why.line, range(1, len(lines) + 1))
+                self.assertIn(why.column, range(1, len(lines[why.line - 1]) + 2))
 
     def test_bytes_that_are_not_utf_8(self):
         with self.assertRaises(sheet_text.TextError) as caught:
