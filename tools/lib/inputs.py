@@ -5,6 +5,7 @@ from pathlib import Path
 
 import sheet_file
 import sheet_text
+from tokens import TextError, decode
 
 
 class Fault(Exception):
@@ -19,8 +20,8 @@ def read_bytes(path):
 def text_sheet(data, name):
     """The sheet and the names of a text; a fault shows its line with a mark under the column."""
     try:
-        return sheet_text.parse(sheet_text.decode(data))
-    except sheet_text.TextError as why:
+        return sheet_text.parse(decode(data))
+    except TextError as why:
         raise Fault(f"{name}:{why}" + marked_line(data, why)) from why
 
 

@@ -26,14 +26,14 @@ def bounds_words(piece, watches, words, everything):
 
 
 def bound_words(bound, i, j, watches, words):
-    """Entry (i, j): watch i - watch j, where watch 0 is left out, and a bound below 0 - w becomes one above w."""
+    """Entry (i, j), which bounds watch i - watch j from above. For 0 - w it is said of w, from below."""
+    what = difference(i, j, watches)
     below = i == 0 and j > 0
     if bound is None:
-        return f"{difference(i, j, watches)}: no bound" if i and j else \
-            f"{difference(i, j, watches)}: no bound {'below' if below else 'above'}"
+        return f"{what}: no bound{'' if i and j else ' below' if below else ' above'}"
     numbers = negated(bound.numbers) if below else bound.numbers
     relation = (">" if below else "<") if bound.strict else ("≥" if below else "≤")
-    return f"{difference(i, j, watches)} {relation} {words(numbers)}"
+    return f"{what} {relation} {words(numbers)}"
 
 
 def difference(i, j, watches):

@@ -10,6 +10,7 @@ import sheet_file
 import sheet_text
 from sheet_file import Limit
 from stored import DOCS, NAMES, ROOT, SHEETS, records, sheet, tool
+from tokens import TextError, decode
 
 # the stored records of Windows that are the paper's rows, by their place among the records
 PAPER_ROWS = {0: "a", 1: "a-strict", 2: "p-then-q", 3: "q-then-p", 4: "no-limits", 5: "below-zero", 6: "from-minus-p",
@@ -40,7 +41,8 @@ class RoundTrips(unittest.TestCase):
             self.assertEqual((SHEETS / f"{name}.sheet").read_bytes(), files[place], name)
 
     def test_every_readable_stored_sheet(self):
-        files = [*records(WINDOWS, 1), *records(ROOT / "crates" / "vectors_sheet" / "data" / "sheets.bin", 0)]
+        """All records of Windows, and every fourth of the reader's, of which many are damaged."""
+        files = [*records(WINDOWS, 1), *list(records(ROOT / "crates" / "vectors_sheet" / "data" / "sheets.bin", 0))[::4]]
         readable = 0
         for number, file in enumerate(files):
             try:
@@ -48,7 +50,7 @@ class RoundTrips(unittest.TestCase):
                 readable += 1
             except sheet_file.Refused:
                 pass
-        self.assertGreater(readable, 4500)
+        self.assertGreater(readable, 3000)
 
 
 def limit(text):
@@ -77,7 +79,7 @@ class Accepted(unittest.TestCase):
 
     def test_line_ends_comments_and_letters(self):
         data = "\ufeff# with a mark of byte order\r\n\r\n\twatch härtet_2-a # ß\r\nstage s\r\nroute # none".encode("utf-8")
-        whole, names = sheet_text.parse(sheet_text.decode(data))
+        whole, names = sheet_text.parse(decode(data))
         self.assertEqual((names.watch, whole.route), (("härtet_2-a",), ()))
 
     def test_line_that_ends_in_a_comma_goes_on(self):
@@ -162,7 +164,8 @@ WRONG = [
     # route
     (HEAD + "route m\n", 6, 7, "no move is called 'm'; expected a line 'move' that declares it"),
     (HEAD + "move m: a -> b\nroute m m\n", 7, 9, "found 'm'; expected ',' and another move"),
-    (HEAD + "move m: a -> b\nroute m, m\n", 7, 10, "move 'm' starts in stage 'a'; expected a move from stage 'b', where the route has"),
+    (HEAD + "move m: a -> b\nroute m, m\n", 7, 10,
+     "move 'm' starts in stage 'a'; expected a move from stage 'b', where the route has arrived"),
     (HEAD + "move m: b -> a\nroute m\n", 7, 7, "expected a move from stage 'a', where the route starts"),
     (HEAD + "move m: a -> a\nroute " + ", ".join(["m"] * 33), 7, 103, "one route move too many; expected at most 32"),
     # counts
@@ -176,7 +179,7 @@ WRONG = [
 class Wrong(unittest.TestCase):
     def test_messages_with_line_and_column(self):
         for text, line, column, words in WRONG:
-            with self.subTest(text=text), self.assertRaises(sheet_text.TextError) as caught:
+            with self.subTest(text=text), self.assertRaises(TextError) as caught:
                 sheet_text.parse(text)
             why = caught.exception
             self.assertEqual((why.line, why.column), (line, column), f"{text!r}: {why}")
@@ -192,14 +195,14 @@ class Wrong(unittest.TestCase):
             text = whole[:at] + draw.choice(words) + whole[at + draw.randrange(12):]
             try:
                 sheet_text.parse(text)
-            except sheet_text.TextError as why:
+            except TextError as why:
                 lines = text.split("\n")
                 self.assertIn(why.line, range(1, len(lines) + 1))
                 self.assertIn(why.column, range(1, len(lines[why.line - 1]) + 2))
 
     def test_bytes_that_are_not_utf_8(self):
-        with self.assertRaises(sheet_text.TextError) as caught:
-            sheet_text.decode("watch w\n# ü".encode("utf-8") + b"\xff\n")
+        with self.assertRaises(TextError) as caught:
+            decode("watch w\n# ü".encode("utf-8") + b"\xff\n")
         self.assertEqual((caught.exception.line, caught.exception.column), (2, 4))
 
 
