@@ -86,5 +86,5 @@ def tokens_of(row, number):
 
 
 def judge_letters(token):
-    if not all(c.isalpha() or c in "0123456789_-" for c in token.text):
+    if not token.text.isascii() and not all(c.isalpha() or c in "0123456789_-" for c in token.text):
         raise token.found("a name of letters, the digits 0 to 9, - and _")
