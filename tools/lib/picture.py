@@ -1,0 +1,301 @@
+"""Pieces as a picture (SVG): one colour a piece, settings without a run hatched.
+
+One allowance gives a strip, two give a chart, three a chart for each value of the third, none a line of text.
+Each setting is a cell. The panel is hatched first and the pieces are laid over it, each as one path with a
+rectangle for every row of its cells.
+"""
+
+import textwrap
+from typing import NamedTuple
+from xml.sax.saxutils import escape
+
+import settings
+from wording import inequality_words, plural
+
+# Okabe and Ito's colours, which people with any colour vision can tell apart, and an indigo
+PALETTE = ("#56B4E9", "#E69F00", "#009E73", "#F0E442", "#0072B2", "#D55E00", "#CC79A7", "#332288")
+# what each next eight pieces are mixed with: a grey, and how much of it
+SHADES = ((0, 0.0), (255, 0.5), (0, 0.4), (255, 0.75))
+LETTER = 7  # the width of a letter, a little generous
+LINE = 17  # from one line of text to the next
+MARGIN = 16
+WIDEST = 1080  # of all panels side by side
+LEAST_WIDTH = 560
+NUMBERS = 22  # the height of the numbers below a panel
+NAME = 18  # the height of an allowance's name at its axis
+GAP = 14  # between panels
+HEAD = 20  # the height of a panel's own title
+NO_BREAK = "\u00a0"
+
+
+class Scale(NamedTuple):
+    """One axis: the allowance's name and range, and the size of a cell."""
+
+    name: str
+    low: int
+    high: int
+    cell: int
+
+    def length(self):
+        return (self.high - self.low + 1) * self.cell
+
+    def ticks(self, room):
+        """The values that get a number, if each needs that much room."""
+        step = next(s for s in (1, 2, 5, 10, 20, 50, 100) if s * self.cell >= room)
+        return range(self.low + -self.low % step, self.high + 1, step)
+
+
+class Panel(NamedTuple):
+    """One chart: where it stands, the room for its name across, its axes, and the cells of each piece as rows
+    (value up, low, high across)."""
+
+    x: int
+    y: int
+    room: int
+    across: Scale
+    up: Scale
+    rows: list
+
+
+def draw(found, ranges, names, title):
+    """The whole picture, as text."""
+    counts = [settings.count(piece, ranges) for piece in found.pieces]
+    heading = (f"{title}: {plural(len(found.pieces), 'piece')}, {plural(found.kept, 'setting')} with a run, "
+               f"{found.cut:,} without")
+    if not ranges:
+        line = f"{title}: the only setting has {'a run (piece 0)' if found.kept else 'no run'}"
+        return document(2 * MARGIN + LETTER * len(line), 2 * MARGIN + LINE, line, [words(MARGIN, MARGIN + 12, line)])
+    parts, width, bottom = charts(found, ranges, names)
+    width = max(width, LEAST_WIDTH, 2 * MARGIN + 9 * len(heading))
+    key, height = legend(found, counts, names, bottom + GAP, width)
+    top = [words(MARGIN, MARGIN + 10, heading, 'font-size="14" font-weight="bold"')]
+    return document(width, height, heading, top + parts + key)
+
+
+def document(width, height, title, parts):
+    """The frame round the parts."""
+    head = (f'<svg xmlns="http://www.w3.org/2000/svg" width="{width}" height="{height}" '
+            f'viewBox="0 0 {width} {height}" font-family="DejaVu Sans, Verdana, sans-serif" font-size="12" '
+            'fill="#222222">')
+    hatch = ('<defs><pattern id="cut" width="6" height="6" patternUnits="userSpaceOnUse" '
+             'patternTransform="rotate(45)"><rect width="6" height="6" fill="#ffffff"/>'
+             '<rect width="1.5" height="6" fill="#999999"/></pattern></defs>')
+    back = f'<rect width="{width}" height="{height}" fill="#ffffff"/>'
+    return "\n".join([head, f"<title>{escape(title)}</title>", hatch, back, *parts, "</svg>"]) + "\n"
+
+
+def words(x, y, text, style=""):
+    """A text whose baseline starts at x, y, unless the style says otherwise."""
+    return f'<text x="{x}" y="{y}"{" " + style if style else ""}>{escape(text)}</text>'
+
+
+# Charts
+
+
+def charts(found, ranges, names):
+    """All panels, the width they take, and where they end."""
+    across, up = scales(ranges, names)
+    titles = panel_titles(ranges, names)
+    head = HEAD if len(ranges) == 3 else 0
+    left = MARGIN + (NAME + LETTER * number_width(up) + 8 if len(ranges) > 1 else 0)
+    top = MARGIN + LINE + GAP
+    room = max(across.length(), *(LETTER * len(title) for title in titles.values()))
+    step_x, step_y = room + GAP, up.length() + head + (GAP if head else 0)
+    columns = columns_for(len(titles), step_x)
+    by_slice = rows_by_slice(found, ranges)
+    parts = []
+    for k, (value, title) in enumerate(titles.items()):
+        x, y = left + k % columns * step_x, top + k // columns * step_y + head
+        panel = Panel(x, y, room, across, up, [slices.get(value, []) for slices in by_slice])
+        parts += chart(panel, k % columns == 0 and len(ranges) > 1, k + columns >= len(titles))
+        parts.append(words(x, y - 6, title) if title else "")
+    bottom = top + -(-len(titles) // columns) * step_y + NUMBERS + NAME
+    return [part for part in parts if part], left + columns * step_x - GAP + MARGIN, bottom
+
+
+def panel_titles(ranges, names):
+    """A title for each value of the third allowance; without one there is a single panel and no title."""
+    if len(ranges) < 3:
+        return {0: ""}
+    low, high = ranges[2]
+    return {value: f"{names.allowance[2]} = {value}" for value in range(low, high + 1)}
+
+
+def scales(ranges, names):
+    """The two axes; a strip's second one has a single value and no name. Many panels are smaller."""
+    (low, high), (low_up, high_up), (low_panel, high_panel) = settings.three(ranges)
+    room, least, most = (480, 7, 40) if len(ranges) < 3 else (200 if high_panel - low_panel < 16 else 130, 2, 16)
+    cell = max(least, min(most, room // (high - low + 1)))
+    cell_up = max(least, min(most, room // (high_up - low_up + 1)))
+    name_up = names.allowance[1] if len(ranges) > 1 else ""
+    return Scale(names.allowance[0], low, high, cell), Scale(name_up, low_up, high_up, cell_up)
+
+
+def number_width(scale):
+    return max(len(str(scale.low)), len(str(scale.high)))
+
+
+def columns_for(count, pitch):
+    """Panels side by side, so that the rows are about equally long."""
+    most = max(1, min(count, WIDEST // pitch))
+    rows = -(-count // most)
+    return -(-count // rows)
+
+
+def rows_by_slice(found, ranges):
+    """For each piece, by the value of the third allowance: its rows (value up, low, high across)."""
+    pieces = []
+    for piece in found.pieces:
+        slices = {}
+        for q, r, low, high in settings.rows(piece, ranges):
+            slices.setdefault(r, []).append((q, low, high))
+        pieces.append(slices)
+    return pieces
+
+
+def chart(panel, numbers_up, numbers_across):
+    """One panel: the hatched box, the pieces with their numbers, lines between cells, and the axes."""
+    width, height = panel.across.length(), panel.up.length()
+    box = f'x="{panel.x}" y="{panel.y}" width="{width}" height="{height}"'
+    parts = [f'<rect class="cut" {box} fill="url(#cut)"/>']
+    parts += [cells(panel, number, rows) for number, rows in enumerate(panel.rows) if rows]
+    parts += cell_lines(panel)
+    parts += [label(panel, number, rows) for number, rows in enumerate(panel.rows)]
+    parts.append(f'<rect {box} fill="none" stroke="#222222"/>')
+    if numbers_across:
+        parts += axis_across(panel)
+    if numbers_up:
+        parts += axis_up(panel)
+    return [part for part in parts if part]
+
+
+def cells(panel, number, rows):
+    """The cells of one piece."""
+    path = "".join(f"M{x} {y}h{width}v{panel.up.cell}h-{width}z"
+                   for x, y, width in (row_place(panel, row) for row in rows))
+    return f'<path class="piece" data-piece="{number}" fill="{colour(number)}" shape-rendering="crispEdges" d="{path}"/>'
+
+
+def row_place(panel, row):
+    """Where a row of cells starts, its upper left corner, and how wide it is."""
+    value, low, high = row
+    return (panel.x + (low - panel.across.low) * panel.across.cell,
+            panel.y + (panel.up.high - value) * panel.up.cell, (high - low + 1) * panel.across.cell)
+
+
+def cell_lines(panel):
+    """Thin white lines between cells that are big enough for them."""
+    if min(panel.across.cell, panel.up.cell) < 7:
+        return []
+    right, bottom = panel.x + panel.across.length(), panel.y + panel.up.length()
+    path = "".join(f"M{x} {panel.y}V{bottom}" for x in range(panel.x + panel.across.cell, right, panel.across.cell))
+    path += "".join(f"M{panel.x} {y}H{right}" for y in range(panel.y + panel.up.cell, bottom, panel.up.cell))
+    return [f'<path fill="none" stroke="#ffffff" stroke-opacity="0.5" stroke-width="0.6" d="{path}"/>'] if path else []
+
+
+def label(panel, number, rows):
+    """The piece's number, as near to its middle as there is room for it."""
+    wide = -(-(LETTER * len(str(number)) + 4) // panel.across.cell)
+    tall = -(-14 // panel.up.cell)
+    places = [place for k in range(len(rows) - tall + 1) for place in [label_place(rows[k:k + tall], wide)] if place]
+    if not places:
+        return None
+    x, y = middle(rows)
+    value_across, value_up = min(((min(max(x, low), high), up) for low, high, up in places),
+                                 key=lambda place: (place[0] - x) ** 2 + (place[1] - y) ** 2)
+    at_x = panel.x + (value_across - panel.across.low + 0.5) * panel.across.cell
+    at_y = panel.y + (panel.up.high - value_up + 0.5) * panel.up.cell + 4
+    return words(f"{at_x:.5g}", f"{at_y:.5g}", str(number), f'text-anchor="middle" fill="{ink(number)}"')
+
+
+def label_place(rows, wide):
+    """Where the middle of a label so wide may stand in these rows: the least and the most across, and up."""
+    low, high = max(row[1] for row in rows), min(row[2] for row in rows)
+    one_by_one = rows[-1][0] - rows[0][0] == len(rows) - 1
+    if not one_by_one or high - low + 1 < wide:
+        return None
+    return low + (wide - 1) / 2, high - (wide - 1) / 2, (rows[0][0] + rows[-1][0]) / 2
+
+
+def middle(rows):
+    """The mean of all cells: across and up."""
+    total = sum(high - low + 1 for _, low, high in rows)
+    across = sum((low + high) / 2 * (high - low + 1) for _, low, high in rows)
+    up = sum(value * (high - low + 1) for value, low, high in rows)
+    return across / total, up / total
+
+
+def axis_across(panel):
+    """Numbers and name below a panel."""
+    bottom = panel.y + panel.up.length()
+    parts = []
+    for value in panel.across.ticks(LETTER * number_width(panel.across) + 6):
+        x = panel.x + (value - panel.across.low + 0.5) * panel.across.cell
+        parts.append(f'<path stroke="#222222" d="M{x:g} {bottom}v4"/>')
+        parts.append(words(f"{x:g}", bottom + 16, str(value), 'text-anchor="middle"'))
+    name = fitted(panel.across.name, panel.room)
+    x = panel.x + panel.across.length() / 2
+    return parts + [words(f"{x:g}", bottom + NUMBERS + 12, name, 'text-anchor="middle" font-style="italic"')]
+
+
+def axis_up(panel):
+    """Numbers and name left of a panel."""
+    parts = []
+    for value in panel.up.ticks(16):
+        y = panel.y + (panel.up.high - value + 0.5) * panel.up.cell
+        parts.append(f'<path stroke="#222222" d="M{panel.x} {y:g}h-4"/>')
+        parts.append(words(panel.x - 6, f"{y + 4:g}", str(value), 'text-anchor="end"'))
+    x, y = MARGIN + 10, panel.y + panel.up.length() / 2
+    style = f'text-anchor="middle" font-style="italic" transform="rotate(-90 {x} {y:g})"'
+    return parts + [words(x, f"{y:g}", fitted(panel.up.name, max(panel.up.length(), 60)), style)]
+
+
+def fitted(name, room):
+    """A name that is cut where it would be longer than its room. The unit is added if it fits."""
+    if len(name) * LETTER > room:
+        return name[:max(1, room // LETTER - 1)] + "…"
+    whole = f"{name} (minutes)"
+    return whole if len(whole) * LETTER <= room else name
+
+
+# Legend and colours
+
+
+def legend(found, counts, names, top, width):
+    """What the colours mean, a line or more for each piece, and where that ends."""
+    entries = [(colour(number), key_text(number, piece, count, names))
+               for number, (piece, count) in enumerate(zip(found.pieces, counts))]
+    if found.cut:
+        entries.append(("url(#cut)", f"no run, {plural(found.cut, 'setting')}"))
+    parts = []
+    y = top
+    for fill, text in entries:
+        parts.append(f'<rect class="key" x="{MARGIN}" y="{y}" width="13" height="13" fill="{fill}" stroke="#222222"/>')
+        for line in textwrap.wrap(text, (width - 2 * MARGIN - 22) // LETTER, break_on_hyphens=False):
+            parts.append(words(MARGIN + 22, y + 11, line.replace(NO_BREAK, " ")))
+            y += LINE
+        y += 4
+    return parts, y + MARGIN
+
+
+def key_text(number, piece, count, names):
+    """A piece with its inequalities, which are not parted at the end of a line."""
+    conditions = (inequality_words(e, names.allowance).replace(" ", NO_BREAK) for e in piece.inequalities)
+    return f"piece {number}, {plural(count, 'setting')}: {', '.join(conditions) or 'all settings'}"
+
+
+def colour(number):
+    """The colour of a piece: the palette, and then the palette mixed with white or black."""
+    grey, part = SHADES[number // len(PALETTE) % len(SHADES)]
+    mixed = (round(c * (1 - part) + grey * part) for c in channels(PALETTE[number % len(PALETTE)]))
+    return "#" + "".join(f"{c:02x}" for c in mixed)
+
+
+def channels(code):
+    return [int(code[k:k + 2], 16) for k in (1, 3, 5)]
+
+
+def ink(number):
+    """Black or white, whichever is easier to read on the piece's colour."""
+    red, green, blue = channels(colour(number))
+    return "#000000" if 299 * red + 587 * green + 114 * blue > 110_000 else "#ffffff"

@@ -1,0 +1,130 @@
+"""Pictures: well-formed, one colour a piece, and as many coloured cells as settings."""
+
+import itertools
+import re
+import unittest
+import xml.etree.ElementTree as ElementTree
+
+import picture
+import settings
+from stored import DOCS, NAMES, PICTURES, found, sheet
+
+SVG = "{http://www.w3.org/2000/svg}"
+ROW = re.compile(r"M(\d+) (\d+)h(\d+)v(\d+)h-(\d+)z")
+
+
+def root(name):
+    """The picture of a stored sheet, as a tree."""
+    whole, names = sheet(name)
+    return ElementTree.fromstring(picture.draw(found(name), whole.ranges, names, name))
+
+
+def brute_counts(name):
+    """How many settings each piece holds, by trying each."""
+    ranges = [*sheet(name)[0].ranges, (0, 0), (0, 0)][:3]
+    pieces = [piece.inequalities for piece in found(name).pieces]
+    counts = [0] * len(pieces)
+    for x, y, z in itertools.product(*(range(low, high + 1) for low, high in ranges)):
+        for number, inequalities in enumerate(pieces):
+            for constant, p, q, r in inequalities:
+                if constant + p * x + q * y + r * z < 0:
+                    break
+            else:
+                counts[number] += 1
+    return counts
+
+
+def coloured(tree, across, up):
+    """The corners of all coloured cells, by piece; the path of a piece is rows of cells and nothing else."""
+    cells = {}
+    for path in tree.iter(f"{SVG}path"):
+        if path.get("class") != "piece":
+            continue
+        rows = [tuple(map(int, row)) for row in ROW.findall(path.get("d"))]
+        assert "".join(f"M{x} {y}h{w}v{h}h-{b}z" for x, y, w, h, b in rows) == path.get("d")
+        for x, y, width, height, back in rows:
+            assert (height, width % across, back) == (up, 0, width)
+            cells.setdefault(int(path.get("data-piece")), []).extend((k, y) for k in range(x, x + width, across))
+    return cells
+
+
+class Pictures(unittest.TestCase):
+    def test_coloured_cells(self):
+        for name in NAMES:
+            whole, names = sheet(name)
+            tree = root(name)
+            if not whole.ranges:
+                continue
+            across, up = picture.scales(whole.ranges, names)
+            cells = coloured(tree, across.cell, up.cell)
+            counts = brute_counts(name)
+            self.assertEqual([len(cells.get(number, [])) for number in range(len(counts))], counts, name)
+            everything = [cell for piece in cells.values() for cell in piece]
+            self.assertEqual(len(set(everything)), found(name).kept, f"{name}: a cell with two colours")
+            self.hatched(tree, name, across, up, everything)
+
+    def hatched(self, tree, name, across, up, cells):
+        """The hatched boxes have a cell for each setting, and every coloured cell lies in one of them."""
+        boxes = [tuple(int(box.get(key)) for key in ("x", "y", "width", "height"))
+                 for box in tree.iter(f"{SVG}rect") if box.get("class") == "cut"]
+        area = sum(width // across.cell * (height // up.cell) for _, _, width, height in boxes)
+        self.assertEqual(area, settings.count_all(sheet(name)[0].ranges), name)
+        inside = {(x, y) for left, top, width, height in boxes
+                  for x in range(left, left + width, across.cell) for y in range(top, top + height, up.cell)}
+        self.assertEqual(len(inside), area, f"{name}: panels overlap")
+        self.assertLessEqual(set(cells), inside)
+
+    def test_places_of_cells(self):
+        """Sheet A: settings 0 to 2 are hatched and 3 to 10 coloured, left to right."""
+        across, up = picture.scales(*self.ranges_and_names("a"))
+        (box,) = [rect for rect in root("a").iter(f"{SVG}rect") if rect.get("class") == "cut"]
+        cells = coloured(root("a"), across.cell, up.cell)[0]
+        left = int(box.get("x"))
+        self.assertEqual(sorted((x - left) // across.cell for x, _ in cells), list(range(3, 11)))
+        # p at most q lies above the diagonal, and up is up
+        across, up = picture.scales(*self.ranges_and_names("p-then-q"))
+        (box,) = [rect for rect in root("p-then-q").iter(f"{SVG}rect") if rect.get("class") == "cut"]
+        left, bottom = int(box.get("x")), int(box.get("y")) + int(box.get("height"))
+        for x, y in coloured(root("p-then-q"), across.cell, up.cell)[1]:
+            self.assertLessEqual((x - left) // across.cell, (bottom - y) // up.cell - 1)
+
+    def ranges_and_names(self, name):
+        whole, names = sheet(name)
+        return whole.ranges, names
+
+    def test_colours_and_legend(self):
+        self.assertEqual(len({picture.colour(number) for number in range(32)}), 32)
+        for name in NAMES:
+            if not sheet(name)[0].ranges:
+                continue
+            tree = root(name)
+            fills = {path.get("data-piece"): path.get("fill") for path in tree.iter(f"{SVG}path") if path.get("class")}
+            self.assertEqual(len(set(fills.values())), len(fills))
+            keys = [rect for rect in tree.iter(f"{SVG}rect") if rect.get("class") == "key"]
+            self.assertEqual(len(keys), len(found(name).pieces) + (found(name).cut > 0), name)
+            self.assertLessEqual(set(fills.values()), {key.get("fill") for key in keys})
+
+    def test_words_of_the_pictures(self):
+        words = [text.text for text in root("week").iter(f"{SVG}text")]
+        for wanted in ("pot = 28", "pot = 39", "green (minutes)", "hard (minutes)", "no run, 10,272 settings", "90", "220"):
+            self.assertIn(wanted, words)
+        self.assertIn("p (minutes)", [text.text for text in root("a").iter(f"{SVG}text")])
+        for name, wanted in (("no-limits", "no-limits: the only setting has a run (piece 0)"),
+                             ("never", "never: the only setting has no run")):
+            self.assertEqual([text.text for text in root(name).iter(f"{SVG}text")], [wanted])
+
+    def test_nothing_lies_outside(self):
+        for name in NAMES:
+            tree = root(name)
+            width, height = int(tree.get("width")), int(tree.get("height"))
+            for text in tree.iter(f"{SVG}text"):
+                self.assertTrue(0 <= float(text.get("x")) < width and 0 < float(text.get("y")) < height, name)
+
+    def test_stored_pictures_are_well_formed(self):
+        for name in PICTURES:
+            self.assertEqual(ElementTree.parse(DOCS / f"{name}.svg").getroot().tag, f"{SVG}svg")
+
+    def test_names_that_are_marks_in_xml(self):
+        whole, names = sheet("a")
+        tree = ElementTree.fromstring(picture.draw(found("a"), whole.ranges, names, "<a&b>"))
+        self.assertIn("<a&b>: 1 piece", tree.find(f"{SVG}title").text)
