@@ -1,4 +1,6 @@
 -- What is read first: Reply, which is what Windows answers and leaves in the table. Route and Work are what the code does.
+pub mod Agreement
 pub mod Reply
 pub mod Route
+pub mod Table
 pub mod Work
