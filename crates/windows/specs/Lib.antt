@@ -1,5 +1,7 @@
 -- What is read first: Reply, which is what Windows answers and leaves in the table. Route and Work are what the code does.
 pub mod Agreement
+pub mod Grounds
+pub mod Numbered
 pub mod Reply
 pub mod Route
 pub mod Table
