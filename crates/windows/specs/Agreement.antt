@@ -4,42 +4,37 @@
 -- under them. A piece that holds them has, with them put in, Sweep's matrix in all 25 entries, and each entry of clock 0 and the sheet's clocks is
 -- the tightest bound on that difference over the end states of all runs.
 use mathlib.Core.Path.{_≡_, refl, sym, ap, subst, _∙_}
-use mathlib.Core.Logic.{_↔_, _⊎_, inl, inr}
-use mathlib.Core.List.{List, [], _∷_, map, List·Memᴰ, List·Memᴰ·head, List·Memᴰ·tail, List·Memᴰ·not-nil, List·Memᴰ·cases-cons}
-use mathlib.Core.Bool.{Bool, true, false, _&&_}
-use Prim.Native.Nat.{ℕ, zero, suc, _≤_, _<_}
+use mathlib.Core.Logic.{_↔_, _⊎_}
+use mathlib.Core.List.{List, [], _∷_, map}
+use mathlib.Core.Bool.{Bool, true, false}
+use Prim.Native.Nat.{ℕ, _≤_, _<_}
 use native.Mathlib.Omega.{arith}
 use lib.IntN.{ℤ}
 use lib.ListN.{length, getD, take}
 use lib.Signed.{leZ}
-use Rattle.cutting.specs.Cutting.{listed, zonesOf}
 use Rattle.cutting.specs.Cutting as cutting
 use Rattle.cutting.specs.Held.{holds, at}
 use Rattle.cutting.specs.Theorems.{HeldBy, InRanges, zones-apart, matrices-agree, zones-tightest, held-iff-run}
 use Rattle.dbm.specs.Matrix.{Matrix, kept}
-use Rattle.expr.specs.IntervalLaws.{In, Inside, and-left, and-right}
+use Rattle.expr.specs.IntervalLaws.{In, and-left, and-right}
 use Rattle.expr.specs.Limit.{Limit, atV}
-use Rattle.expr.specs.Three.{affine, limitOf, rangeList}
+use Rattle.expr.specs.Three.{affine, limitOf}
 use Rattle.expr.specs.Valuations.{satisfies}
 use Rattle.expr.specs.declared.ranges.Range.{Range}
 use Rattle.fields.specs.declared.Refusal.the-variants.{Nothing}
 use Rattle.integer.specs.Order.{leZ-true}
 use Rattle.sheet.specs.Accepted.{read-well-formed}
 use Rattle.sheet.specs.File.{readOf}
-use Rattle.sheet.specs.WellFormed.{WellFormed}
-use Rattle.sheet.specs.declared.Reading.{Reading}
 use Rattle.sheet.specs.declared.Sheet.{Sheet}
 use Rattle.sweep.specs.Coded.{row, in-row, up-to-4, weighed-of}
 use Rattle.sweep.specs.Reply.{rowRecord, blankReply, swept, inRange, sheetReply, readingReply, replyOf}
-use Rattle.sweep.specs.Tables as tables
-use Rattle.sweep.specs.Theorems.{Asked, entryAt, Right, sweep-right}
+use Rattle.sweep.specs.Theorems.{Asked, entryAt, sweep-right}
 use Rattle.sweep.specs.Walk.{sweepAt}
 use Rattle.sweep.specs.declared.reply.Answer.the-variants as sweepAnswer
 use Rattle.sweep.specs.declared.reply.Reply.{Reply}
 use Rattle.timed.specs.Runs.{Run, Tightest}
-use Rattle.windows.specs.Table.{Lists, tableOf, pieceAt, Behind, lists-behind, noZone, pieces-are, piece-is}
+use Rattle.windows.specs.Table.{Lists, pieceAt, Behind, lists-behind, noZone, member, place-of, pieces-are, piece-is}
 use Rattle.windows.specs.declared.reply.Counts.{Counts}
-use Rattle.zones.specs.Coded.{zoneOf}
 use Rattle.zones.specs.CodedRead.{holds-coded, entry-coded}
 use Rattle.zones.specs.Rules.{entryC}
 use Rattle.zones.specs.declared.zone.Zone.{Zone}
@@ -136,20 +131,6 @@ reply-entry {file} {p} {q} {r} a m e i j hi hj = sym (ap (λ (x : Reply). entryA
     whole = rw (a .read, a .p-in, a .q-in, a .r-in, e) refl
 
 -- ---- Windows' side
-member : (zs : List cutting.Zone) (i : ℕ) → i < length zs → List·Memᴰ (getD zs i noZone) zs
-member [] i h = absurd (omega arith)
-member (z ∷ zs) zero h = List·Memᴰ·head refl
-member (z ∷ zs) (suc i) h = List·Memᴰ·tail (member zs i (omega arith))
-
-place-of : (zs : List cutting.Zone) (z : cutting.Zone) → List·Memᴰ z zs → (i : ℕ) × (i < length zs) × (getD zs i noZone ≡ z)
-place-of [] z m = absurd (List·Memᴰ·not-nil m)
-place-of (y ∷ zs) z m = by (List·Memᴰ·cases-cons m) (place-of zs z)
-  where
-    by : (z ≡ y) ⊎ List·Memᴰ z zs → (List·Memᴰ z zs → (i : ℕ) × (i < length zs) × (getD zs i noZone ≡ z))
-        → (i : ℕ) × (i < length (y ∷ zs)) × (getD (y ∷ zs) i noZone ≡ z)
-    by (inl e) ih = (0, omega arith, sym e)
-    by (inr k) ih = let (i, h, e) = ih k in (suc i, omega arith, e)
-
 module _ {file : List ℕ} {n : ℕ} {c : Counts} (b : Behind file n c) (p q r : ℤ) where
   abbrev zoneAt : ℕ → cutting.Zone
   zoneAt i = getD (b .zones) i noZone

@@ -1,17 +1,16 @@
 -- Windows' grounds (paper 01, "When no piece is given"): each answer is given exactly if there is ground for it, and there are no other answers.
 use mathlib.Core.Path.{_≡_, refl, sym, ap, subst, _∙_}
-use mathlib.Core.Logic.{_↔_, _⊎_, inl, inr}
+use mathlib.Core.Logic.{_↔_, inl, inr}
 use mathlib.Core.List.{List}
 use mathlib.Core.Bool.{Bool, true, false}
 use Prim.Native.Nat.{ℕ, _≤_, _<_}
 use native.Mathlib.Omega.{arith}
 use borrow.Author.Tests.{ltb-true, ltb-false, lt-ltb, le-ltb}
-use lib.Dec.{ltb, eqb}
+use lib.Dec.{ltb}
 use Rattle.cutting.specs.Cutting.{Listing, listed, refused, zonesOf}
 use Rattle.cutting.specs.Cutting as cutting
 use Rattle.fields.specs.declared.Refusal.{Refusal}
 use Rattle.fields.specs.declared.Refusal.the-variants.{Nothing, Size, Contents, Body, Route}
-use Rattle.sheet.specs.declared.Reading.{Reading}
 use Rattle.sheet.specs.declared.Sheet.{Sheet}
 use Rattle.sheet.specs.File.{readOf}
 use Rattle.windows.specs.Numbered.{SevenToNine, zones-numbered}
@@ -19,7 +18,6 @@ use Rattle.windows.specs.Reply.{refusedBy, blankWork, listingWork, sheet
 use Rattle.windows.specs.Table.{countsOf}
 use Rattle.windows.specs.declared.reply.Answer.{Answer}
 use Rattle.windows.specs.declared.reply.Answer.the-variants as answer
-use Rattle.windows.specs.declared.reply.Counts.{Counts}
 use Rattle.windows.specs.declared.reply.Worked.{Worked}
 use Rattle.zones.specs.Listed.{pick}
 

@@ -1,33 +1,30 @@
 -- The table after the call, and what stands behind an answer that lists zones (paper 01, "The lent table of pieces gets the pieces in order"): the
 -- zones of the cutting in order, and blank places past them; with a refusal it is all blank.
-use mathlib.Core.Path.{_≡_, refl, sym, ap, subst, _∙_}
-use mathlib.Core.List.{List, [], _∷_, _++_, map, List·Memᴰ, List·Memᴰ·head, List·Memᴰ·tail}
+use mathlib.Core.Path.{_≡_, refl, sym, ap, _∙_}
+use mathlib.Core.Logic.{_⊎_, inl, inr}
+use mathlib.Core.List.{List, [], _∷_, _++_, map, List·Memᴰ, List·Memᴰ·head, List·Memᴰ·tail, List·Memᴰ·not-nil, List·Memᴰ·cases-cons}
 use mathlib.Core.Bool.{Bool, true, false}
-use Prim.Native.Nat.{ℕ, zero, suc, _+_, _-_, _≤_, _<_}
+use Prim.Native.Nat.{ℕ, zero, suc, _-_, _≤_, _<_}
 use native.Mathlib.Omega.{arith}
-use borrow.Author.Tests.{ltb-true, ltb-false, lt-ltb, eqb-true, eqb-false}
+use borrow.Author.Tests.{ltb-true, ltb-false}
 use lib.Dec.{ltb, eqb}
-use lib.ListN.{length, getD, replicate, take, length-append, length-replicate, getD-replicate, replicate-append-replicate, List·getD-append, List·getD-eq-default}
-use lib.Seq.{getD-append-seam, ext-getD}
+use lib.ListN.{length, getD, replicate, length-append, List·getD-append}
+use lib.Seq.{getD-append-seam}
 use Rattle.cutting.specs.Counts.{keptOf, cutOf}
 use Rattle.cutting.specs.Cutting.{Listing, listed, refused, startB, zonesOf}
 use Rattle.cutting.specs.Cutting as cutting
 use Rattle.cutting.specs.Shape.{zones-shaped}
-use Rattle.dbm.specs.Entries.{Outside}
-use Rattle.expr.specs.Three.{exprOf, boundOf, rangeList}
+use Rattle.expr.specs.Three.{rangeList}
 use Rattle.fields.specs.declared.Refusal.{Refusal}
 use Rattle.fields.specs.declared.Refusal.the-variants.{Nothing, Size, Contents, Body, Route}
-use Rattle.sheet.specs.declared.Reading.{Reading}
 use Rattle.sheet.specs.declared.Sheet.{Sheet}
 use Rattle.sheet.specs.File.{readOf}
-use Rattle.windows.specs.Reply.{refusedBy, blankWork, listingWork, sheetWork, readingWork, workOf, itemOf, itemsOf}
-use Rattle.windows.specs.declared.reply.Answer.{Answer}
+use Rattle.windows.specs.Reply.{blankWork, listingWork, sheetWork, readingWork, workOf, itemOf, itemsOf}
 use Rattle.windows.specs.declared.reply.Answer.the-variants as answer
 use Rattle.windows.specs.declared.reply.Counts.{Counts}
 use Rattle.windows.specs.declared.reply.Worked.{Worked}
-use Rattle.zones.specs.Coded.{zoneOf, zonesIn, entry-at}
-use Rattle.zones.specs.Listed.{pick, zeroExpr, zeroBound, blankZone}
-use Rattle.zones.specs.Rules.{entryC}
+use Rattle.zones.specs.Coded.{zoneOf, zonesIn}
+use Rattle.zones.specs.Listed.{pick, blankZone}
 use Rattle.zones.specs.declared.zone.Zone.{Zone}
 
 -- Windows lists its zones: with a table of n places it does not refuse the file
@@ -86,12 +83,12 @@ lists-behind file n c e = by (ltb n 32) refl e
         record { room = ltb-false n 32 h; read = r; zones = zs; listing = l; counts = d; stored = rw h w }
 
 -- ---- places of the table
-items-length : (work : Worked) (n : ℕ) → length (itemsOf work n) ≡ n
+pub items-length : (work : Worked) (n : ℕ) → length (itemsOf work n) ≡ n
 unfolding itemsOf
 items-length work zero = refl
 items-length work (suc n) = let a = length-append (itemsOf work n) (itemOf work n ∷ []) in let b = items-length work n in omega arith
 
-items-at : (work : Worked) (n i : ℕ) → i < n → getD (itemsOf work n) i blankZone ≡ itemOf work i
+pub items-at : (work : Worked) (n i : ℕ) → i < n → getD (itemsOf work n) i blankZone ≡ itemOf work i
 unfolding itemsOf
 items-at work zero i h = absurd (omega arith)
 items-at work (suc n) i h = by (ltb i n) refl (items-at work n i)
@@ -111,17 +108,17 @@ items-at work (suc n) i h = by (ltb i n) refl (items-at work n i)
 
 -- a zone of the list, or a blank past it
 module _ {A B : Type 0} (f : A → B) (blank : B) where
-  in-list : (l : List A) (r : List B) (d : A) (i : ℕ) → i < length l → getD (map f l ++ r) i blank ≡ f (getD l i d)
+  pub in-list : (l : List A) (r : List B) (d : A) (i : ℕ) → i < length l → getD (map f l ++ r) i blank ≡ f (getD l i d)
   in-list [] r d i h = absurd (omega arith)
   in-list (x ∷ l) r d zero h = refl
   in-list (x ∷ l) r d (suc i) h = in-list l r d i (omega arith)
 
-  blanks : (k i : ℕ) → getD (replicate k blank) i blank ≡ blank
+  pub blanks : (k i : ℕ) → getD (replicate k blank) i blank ≡ blank
   blanks zero i = refl
   blanks (suc k) zero = refl
   blanks (suc k) (suc i) = blanks k i
 
-  past-list : (l : List A) (k i : ℕ) → length l ≤ i → getD (map f l ++ replicate k blank) i blank ≡ blank
+  pub past-list : (l : List A) (k i : ℕ) → length l ≤ i → getD (map f l ++ replicate k blank) i blank ≡ blank
   past-list [] k i h = blanks k i
   past-list (x ∷ l) k zero h = absurd (omega arith)
   past-list (x ∷ l) k (suc i) h = past-list l k i (omega arith)
@@ -129,6 +126,21 @@ module _ {A B : Type 0} (f : A → B) (blank : B) where
 -- the zone that is read past the cutting's list
 abbrev pub noZone : cutting.Zone
 noZone = record { ineqs = []; bounds = startB }
+
+-- a place of the list has one of its zones, and each of them has a place
+pub member : (zs : List cutting.Zone) (i : ℕ) → i < length zs → List·Memᴰ (getD zs i noZone) zs
+member [] i h = absurd (omega arith)
+member (z ∷ zs) zero h = List·Memᴰ·head refl
+member (z ∷ zs) (suc i) h = List·Memᴰ·tail (member zs i (omega arith))
+
+pub place-of : (zs : List cutting.Zone) (z : cutting.Zone) → List·Memᴰ z zs → (i : ℕ) × (i < length zs) × (getD zs i noZone ≡ z)
+place-of [] z m = absurd (List·Memᴰ·not-nil m)
+place-of (y ∷ zs) z m = by (List·Memᴰ·cases-cons m) (place-of zs z)
+  where
+    by : (z ≡ y) ⊎ List·Memᴰ z zs → (List·Memᴰ z zs → (i : ℕ) × (i < length zs) × (getD zs i noZone ≡ z))
+        → (i : ℕ) × (i < length (y ∷ zs)) × (getD (y ∷ zs) i noZone ≡ z)
+    by (inl e) ih = (0, omega arith, sym e)
+    by (inr k) ih = let (i, h, e) = ih k in (suc i, omega arith, e)
 
 module _ {file : List ℕ} {n : ℕ} {c : Counts} (b : Behind file n c) where
   -- as many pieces as zones
