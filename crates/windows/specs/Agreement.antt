@@ -4,7 +4,7 @@
 -- under them. A piece that holds them has, with them put in, Sweep's matrix in all 25 entries, and each entry of clock 0 and the sheet's clocks is
 -- the tightest bound on that difference over the end states of all runs.
 use mathlib.Core.Path.{_≡_, refl, sym, ap, subst, _∙_}
-use mathlib.Core.Logic.{_↔_, _⊎_}
+use mathlib.Core.Logic.{_↔_, _⊎_, inl, inr}
 use mathlib.Core.List.{List, [], _∷_, map}
 use mathlib.Core.Bool.{Bool, true, false}
 use Prim.Native.Nat.{ℕ, _≤_, _<_}
@@ -105,6 +105,11 @@ module _ (file : List ℕ) (p q r : ℤ) (read : readOf file .refusal ≡ Nothin
   asked never-6 =
       asked-by (inRange (sheetOf file .ranges .p) p) (inRange (sheetOf file .ranges .q) q) (inRange (sheetOf file .ranges .r) r) refl refl refl
       (λ k e. never-6 k (ap (λ (x : Reply). x .answer) as-sheet ∙ e))
+
+-- what it answers by a run or void, 6 doesn't refuse
+pub answered-inside : (file : List ℕ) (p q r : ℤ) → IsRun file p q r ⊎ IsVoid file p q r → InRange file p q r
+answered-inside file p q r (inl e) k g = let z : _≡_ {A = ℕ} 0 1 = cc in omega arith
+answered-inside file p q r (inr e) k g = let z : _≡_ {A = ℕ} 0 1 = cc in omega arith
 
 range-in : (range : Range) (x : ℤ) → inRange range x ≡ true → In x range
 range-in range x h =

@@ -23,7 +23,7 @@ use Rattle.sheet.specs.File.{readOf}
 use Rattle.sweep.specs.Reply.{inRange}
 use Rattle.sweep.specs.Theorems.{Asked, sweep-right}
 use Rattle.timed.specs.Runs.{Run}
-use Rattle.windows.specs.Agreement.{sheetOf, InRange, IsRun, IsVoid, asked, asked-inside}
+use Rattle.windows.specs.Agreement.{sheetOf, InRange, answered-inside, asked, asked-inside}
 use Rattle.windows.specs.Table.{Lists, lists-behind}
 use Rattle.windows.specs.declared.reply.Counts.{Counts}
 
@@ -59,14 +59,9 @@ module _ (file : List ℕ) (read : readOf file .refusal ≡ Nothing) (p q r : �
   inside-asked : Inside (p ∷ q ∷ r ∷ []) (rangeList ranges) → Asked file p q r
   inside-asked (i, (j, (k, t))) = record { read = read; p-in = in-range (ranges .p) p i; q-in = in-range (ranges .q) q j; r-in = in-range (ranges .r) r k }
 
-  -- what Sweep answers by a run or void is not refused by 6
-  not-6 : IsRun file p q r ⊎ IsVoid file p q r → InRange file p q r
-  not-6 (inl e) k g = let z : _≡_ {A = ℕ} 0 1 = cc in omega arith
-  not-6 (inr e) k g = let z : _≡_ {A = ℕ} 0 1 = cc in omega arith
-
   counted-those : List·Memᴰ (p ∷ q ∷ r ∷ []) (valuationsOf file) ↔ InRange file p q r
   counted-those = (
-    λ m. not-6 (sweep-right file p q r (inside-asked (valuations-inside (rangeList ranges) (p ∷ q ∷ r ∷ []) m)) .answered),
+    λ m. answered-inside file p q r (sweep-right file p q r (inside-asked (valuations-inside (rangeList ranges) (p ∷ q ∷ r ∷ []) m)) .answered),
     λ i. valuations-all (rangeList ranges) (p ∷ q ∷ r ∷ []) (asked-inside (asked file p q r read i)),
   )
 

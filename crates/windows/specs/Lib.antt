@@ -7,4 +7,7 @@ pub mod Reply
 pub mod Route
 pub mod Stored
 pub mod Table
+pub mod Bytes
+pub mod Cases
 pub mod Work
+pub mod Yielded
