@@ -33,7 +33,7 @@ use Rattle.sweep.specs.Walk.{sweepAt}
 use Rattle.sweep.specs.declared.reply.Answer.the-variants as sweepAnswer
 use Rattle.sweep.specs.declared.reply.Reply.{Reply}
 use Rattle.timed.specs.Runs.{Run, Tightest}
-use Rattle.windows.specs.Table.{Lists, pieceAt, Behind, lists-behind, noZone, member, place-of, pieces-are, piece-is}
+use Rattle.windows.specs.Lent.{Lists, pieceAt, Behind, lists-behind, noZone, member, place-of, pieces-are, piece-is}
 use Rattle.windows.specs.declared.reply.Counts.{Counts}
 use Rattle.zones.specs.CodedRead.{holds-coded, entry-coded}
 use Rattle.zones.specs.Rules.{entryC}

@@ -1,19 +1,17 @@
 -- The proved rows of paper 01, "Sheets to try", in its order, as one table, and one theorem that the definitions yield every row: each sheet as
 -- the bytes of its file; what Windows answers with a table of 32 places, what is in it, and what Sweep answers, by computing; and with that, from
 -- the theorems, whether a run follows the route.
-use mathlib.Core.Path.{_≡_, refl}
-use mathlib.Core.Logic.{_↔_, inl, inr}
+use mathlib.Core.Path.{_≡_}
+use mathlib.Core.Logic.{_↔_}
 use mathlib.Core.List.{List, [], _∷_, map}
 use mathlib.Core.Bool.{true, false}
 use Prim.Native.Nat.{ℕ}
-use native.Mathlib.Omega.{arith}
 use lib.IntN.{ℤ, pos, _+ℤ_, _*ℤ_}
 use lib.ListN.{length, take}
 use lib.Signed.{_≤ℤ_}
-use Rattle.expr.specs.Cases.{intervals}
 use Rattle.expr.specs.Interval.{interval}
-use Rattle.expr.specs.IntervalLaws.{In, interval-exact}
-use Rattle.expr.specs.Limit.{Limit, none, limit}
+use Rattle.expr.specs.IntervalLaws.{In}
+use Rattle.expr.specs.Limit.{none}
 use Rattle.expr.specs.Three.{affine, rangeList, point}
 use Rattle.expr.specs.Valuations.{count}
 use Rattle.expr.specs.declared.bound.Bound.{Bound}
@@ -21,12 +19,11 @@ use Rattle.expr.specs.declared.number.Expr.{Expr}
 use Rattle.expr.specs.declared.number.Valuation.{Valuation}
 use Rattle.expr.specs.declared.ranges.Range.{Range}
 use Rattle.sweep.specs.Right.{AllOf}
-use Rattle.sweep.specs.Theorems.{entryAt, sweep-right}
 use Rattle.sheet.specs.declared.Sheet.{Sheet}
-use Rattle.timed.specs.Runs.{Run, Tightest}
-use Rattle.windows.specs.Agreement.{sheetOf, IsRun, IsVoid, asked}
+use Rattle.timed.specs.Runs.{Run}
+use Rattle.windows.specs.Agreement.{sheetOf, IsRun, IsVoid}
 use Rattle.windows.specs.Bytes.{minus, range, constant, withP, withPQ, atMost, under, standing, moving}
-use Rattle.windows.specs.Table.{Lists, tableOf, pieceAt, lists-behind}
+use Rattle.windows.specs.Lent.{Lists, table, pieceAt}
 use Rattle.windows.specs.declared.reply.Counts.{Counts}
 use Rattle.zones.specs.Rules.{entryC}
 use Rattle.zones.specs.declared.zone.Zone.{Zone}
@@ -75,7 +72,7 @@ countsIn r = record { pieces = length (r .pieces); kept = r .kept; cut = r .cut 
 
 pub record SheetYields (r : SheetRow) : Type 0 where
   pub lists : Lists (r .file) 32 (countsIn r)
-  pub pieces : map (pieceIn (sheetOf (r .file))) (take (length (r .pieces)) (tableOf (r .file) 32)) ≡ r .pieces
+  pub pieces : map (pieceIn (sheetOf (r .file))) (take (length (r .pieces)) (table (r .file) 32)) ≡ r .pieces
   pub entries : AllOf (λ e. entryC (pieceAt (r .file) 32 (e .piece) .bounds) (e .row) (e .column) ≡ e .bound) (r .entries)
   pub runs : AllOf (λ v. IsRun (r .file) (v .p) (v .q) (v .r) × Run (sheetOf (r .file)) (point v)) (r .runs)
   pub voids : AllOf (λ v. IsVoid (r .file) (v .p) (v .q) (v .r) × (Run (sheetOf (r .file)) (point v) → ⊥)) (r .voids)
@@ -227,10 +224,23 @@ rowApart =
       voids = at (pos 0) ∷ [];
     }
 
+-- and with 1 - 0 < 0: none
+abbrev pub rowNever : SheetRow
+rowNever =
+    record {
+      file = moving [] (under 1 0 (constant (pos 0)) ∷ []) (atMost 0 1 (constant (pos 0)) ∷ []);
+      pieces = [];
+      kept = 0;
+      cut = 1;
+      entries = [];
+      runs = [];
+      voids = at (pos 0) ∷ [];
+    }
+
 abbrev pub rows : List Row
 rows =
     sheet rowA ∷ sheet rowStrict ∷ sheet rowPQ ∷ sheet rowQP ∷ sheet rowFree ∷ sheet rowNone ∷ sheet rowBack ∷ inequality rowDown ∷ inequality rowUp
-    ∷ sheet rowTouch ∷ sheet rowApart ∷ []
+    ∷ sheet rowTouch ∷ sheet rowApart ∷ sheet rowNever ∷ []
 
 -- the statement
 abbrev pub ListedCases : Type 0

@@ -15,10 +15,9 @@ use Rattle.sheet.specs.declared.Sheet.{Sheet}
 use Rattle.sheet.specs.File.{readOf}
 use Rattle.windows.specs.Numbered.{SevenToNine, zones-numbered}
 use Rattle.windows.specs.Reply.{refusedBy, blankWork, listingWork, sheetWork, readingWork, workOf}
-use Rattle.windows.specs.Table.{countsOf}
+use Rattle.windows.specs.Lent.{countsOf}
 use Rattle.windows.specs.declared.reply.Answer.{Answer}
 use Rattle.windows.specs.declared.reply.Answer.the-variants as answer
-use Rattle.windows.specs.declared.reply.Worked.{Worked}
 use Rattle.zones.specs.Listed.{pick}
 
 -- what the cutting of the file's sheet comes to is the listing, the table having room (not 1) and the file being read (not 2 to 5)
@@ -80,19 +79,19 @@ module _ (file : List ℕ) (n : ℕ) where
   refused-answer (Body at) h = refl
   refused-answer (Route at) h = refl
 
-  with-room : 32 ≤ n → workOf file n ≡ readingWork (readOf file .refusal) s
+  with-room : 32 ≤ n → workOf file n .answer ≡ readingWork (readOf file .refusal) s .answer
   unfolding workOf
   with-room h = rw (le-ltb n 32 h) refl
 
   cut-answer : (o : Listing) → CutTo file n o → workOf file n .answer ≡ listingWork s o .answer
   unfolding readingWork sheetWork
-  cut-answer o (h, r, q) = ap (λ (w : Worked). w .answer) (with-room h) ∙ rw (r, q) refl
+  cut-answer o (h, r, q) = with-room h ∙ rw (r, q) refl
 
   ground-answer : (a : Answer) → Ground file n a → workOf file n .answer ≡ a
   unfolding workOf blankWork listingWork
   ground-answer answer.Small h = rw (lt-ltb n 32 h) refl
   ground-answer (answer.Refused r) (h, e, k) =
-      ap (λ (w : Worked). w .answer) (with-room h) ∙ ap (λ (x : Refusal). readingWork x s .answer) e ∙ refused-answer r k
+      with-room h ∙ ap (λ (x : Refusal). readingWork x s .answer) e ∙ refused-answer r k
   ground-answer (answer.Zones visit) g = cut-answer (refused 7 visit) g
   ground-answer (answer.Inequalities visit) g = cut-answer (refused 8 visit) g
   ground-answer (answer.Numbers visit) g = cut-answer (refused 9 visit) g

@@ -1,11 +1,10 @@
 -- Kept and cut of a reply (paper 01, "Kept is the number of settings with a run, cut of those without; together they are the product of the
 -- widths").
 use mathlib.Core.Path.{_≡_}
-use mathlib.Core.Logic.{_↔_, _⊎_, inl, inr}
+use mathlib.Core.Logic.{_↔_}
 use mathlib.Core.List.{List, [], _∷_, List·Memᴰ, List·Nodup}
 use mathlib.Core.Bool.{Bool, true, false, _&&_}
 use Prim.Native.Nat.{ℕ, _+_}
-use native.Mathlib.Omega.{arith}
 use lib.IntN.{ℤ}
 use lib.Signed.{leZ}
 use Rattle.cutting.specs.Counts.{Counted, kept-counts-runs, cut-counts-the-rest, kept-and-cut}
@@ -24,7 +23,7 @@ use Rattle.sweep.specs.Reply.{inRange}
 use Rattle.sweep.specs.Theorems.{Asked, sweep-right}
 use Rattle.timed.specs.Runs.{Run}
 use Rattle.windows.specs.Agreement.{sheetOf, InRange, answered-inside, asked, asked-inside}
-use Rattle.windows.specs.Table.{Lists, lists-behind}
+use Rattle.windows.specs.Lent.{Lists, lists-behind}
 use Rattle.windows.specs.declared.reply.Counts.{Counts}
 
 -- the valuations of the file's ranges

@@ -20,7 +20,7 @@ use Rattle.fields.specs.declared.Refusal.the-variants.{Nothing, Size, Contents,
 use Rattle.sheet.specs.declared.Sheet.{Sheet}
 use Rattle.sheet.specs.File.{readOf}
 use Rattle.windows.specs.Reply.{blankWork, listingWork, sheetWork, readingWork, workOf, itemOf}
-use Rattle.windows.specs.Table.{Lists, tableOf, pieceAt, Behind, lists-behind, noZone, member, items-length, items-at, in-list, blanks, past-list, pieces-are, few-pieces, piece-is, past-pieces}
+use Rattle.windows.specs.Lent.{Lists, table, pieceAt, Behind, lists-behind, noZone, member, items-length, items-at, in-list, blanks, past-list, pieces-are, few-pieces, piece-is, past-pieces}
 use Rattle.windows.specs.declared.reply.Answer.the-variants as answer
 use Rattle.windows.specs.declared.reply.Counts.{Counts}
 use Rattle.zones.specs.Coded.{zoneOf, entry-at}
@@ -31,10 +31,10 @@ use Rattle.zones.specs.declared.zone.Zone.{Zone}
 -- ---- the statements
 pub record Filled (file : List ℕ) (n : ℕ) (c : Counts) : Type 0 where
   -- the places that were lent, of which at most 32 are pieces
-  pub long : length (tableOf file n) ≡ n
+  pub long : length (table file n) ≡ n
   pub few : c .pieces ≤ 32
   -- the pieces are the zones that the cutting lists, in order
-  pub zones : (zs : List cutting.Zone) × (zonesOf (readOf file .sheet) ≡ listed zs) × (take (c .pieces) (tableOf file n) ≡ map zoneOf zs)
+  pub zones : (zs : List cutting.Zone) × (zonesOf (readOf file .sheet) ≡ listed zs) × (take (c .pieces) (table file n) ≡ map zoneOf zs)
   -- a piece is in use; it has at most 24 inequalities, and zeros past them; past the sheet's clocks its entries are zero, not strict
   pub used : (i : ℕ) → i < c .pieces → pieceAt file n i .used ≡ true
   pub ineqs : (i : ℕ) → i < c .pieces → pieceAt file n i .count ≤ 24
@@ -48,7 +48,7 @@ TableFilled = (file : List ℕ) (n : ℕ) (c : Counts) → Lists file n c → Fi
 
 -- an answer that lists no zones leaves every place blank
 abbrev pub RefusedBlank : Type 0
-RefusedBlank = (file : List ℕ) (n : ℕ) → ((c : Counts) → Lists file n c → ⊥) → tableOf file n ≡ replicate n blankZone
+RefusedBlank = (file : List ℕ) (n : ℕ) → ((c : Counts) → Lists file n c → ⊥) → table file n ≡ replicate n blankZone
 
 -- ---- the proofs
 module _ (w : ℕ) (z : cutting.Zone) (h : Shaped w z) where
@@ -77,19 +77,19 @@ module _ {file : List ℕ} {n : ℕ} {c : Counts} (b : Behind file n c) where
       let z = getD (b .zones) i noZone in
       subst P (sym (piece-is b i h)) (f z (zones-shaped (readOf file .sheet) (b .zones) (b .listing) .1 z (member (b .zones) i l)))
 
-  taken-pieces : take (c .pieces) (tableOf file n) ≡ map zoneOf (b .zones)
+  taken-pieces : take (c .pieces) (table file n) ≡ map zoneOf (b .zones)
   taken-pieces =
       let e = pieces-are b in
       let k = few-pieces b in
       let r = b .room in
-      let t : length (tableOf file n) ≡ n = items-length (workOf file n) n in
-      let g : c .pieces ≤ length (tableOf file n) = omega arith in
-      let l : length (take (c .pieces) (tableOf file n)) ≡ c .pieces = length-take-le (c .pieces) (tableOf file n) g in
-      ext-getD blankZone (take (c .pieces) (tableOf file n)) (map zoneOf (b .zones)) (l ∙ e ∙ sym (length-map (b .zones) zoneOf)) (λ i h.
+      let t : length (table file n) ≡ n = items-length file n n in
+      let g : c .pieces ≤ length (table file n) = omega arith in
+      let l : length (take (c .pieces) (table file n)) ≡ c .pieces = length-take-le (c .pieces) (table file n) g in
+      ext-getD blankZone (take (c .pieces) (table file n)) (map zoneOf (b .zones)) (l ∙ e ∙ sym (length-map (b .zones) zoneOf)) (λ i h.
       let i₁ : i < c .pieces = rw l at h in
       let i₂ : i < length (b .zones) = omega arith in
       let i₃ : i < length (map zoneOf (b .zones)) = rw (length-map (b .zones) zoneOf) i₂ in
-      getD-take (c .pieces) (tableOf file n) i blankZone i₁ ∙ piece-is b i i₁
+      getD-take (c .pieces) (table file n) i blankZone i₁ ∙ piece-is b i i₁
       ∙ sym (in-list zoneOf blankZone (b .zones) [] noZone i i₂) ∙ List·getD-append (map zoneOf (b .zones)) [] blankZone i i₃)
 
 pub table-filled : TableFilled
@@ -97,7 +97,7 @@ table-filled file n c lists =
     let b = lists-behind file n c lists in
     let w = readOf file .sheet .clocks in
     record {
-      long = items-length (workOf file n) n;
+      long = items-length file n n;
       few = few-pieces b;
       zones = (b .zones, b .listing, taken-pieces b);
       used = each-piece b (λ z. z .used ≡ true) (zone-used w);
@@ -133,8 +133,8 @@ work-blank file n h = by (ltb n 32) h
 pub refused-blank : RefusedBlank
 unfolding itemOf
 refused-blank file n h =
-    let l : length (tableOf file n) ≡ n = items-length (workOf file n) n in
-    ext-getD blankZone (tableOf file n) (replicate n blankZone) (l ∙ sym (length-replicate n blankZone)) (λ i g.
+    let l : length (table file n) ≡ n = items-length file n n in
+    ext-getD blankZone (table file n) (replicate n blankZone) (l ∙ sym (length-replicate n blankZone)) (λ i g.
     let k : i < n = rw l at g in
-    items-at (workOf file n) n i k ∙ ap (λ (x : List Zone). getD x i blankZone) (work-blank file n h)
+    items-at file n n i k ∙ ap (λ (x : List Zone). getD x i blankZone) (work-blank file n h)
     ∙ blanks zoneOf blankZone 32 i ∙ sym (getD-replicate n i blankZone blankZone k))

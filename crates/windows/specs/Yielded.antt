@@ -1,7 +1,7 @@
 -- The proof of Cases: every row by computing, and from Sweep's answers to runs.
-use mathlib.Core.Path.{_≡_, refl, sym, ap, subst, _∙_}
+use mathlib.Core.Path.{_≡_, refl, subst}
 use mathlib.Core.Logic.{_↔_, inl, inr}
-use mathlib.Core.List.{List, [], _∷_, map}
+use mathlib.Core.List.{List, [], _∷_}
 use mathlib.Core.Bool.{true, false}
 use Prim.Native.Nat.{ℕ}
 use native.Mathlib.Omega.{arith}
@@ -11,6 +11,7 @@ use Rattle.cutting.specs.Counts.{keptOf}
 use Rattle.cutting.specs.Cutting.{startB, summed, tested, putEntry, rowFrom, rowsFrom, places, pushed, guardTree, never, listZone, worked, guardZones, guardsZones, onBounds, resetBounds, stayZones, moveZones, cutRoute, zonesOf}
 use Rattle.dbm.specs.Matrix.{start, delayed, resetM, limitedM, guarded}
 use Rattle.expr.specs.Affine.{dot, value, plusL, minusL, plus, minus, lessOne, opposite, judge}
+use Rattle.expr.specs.Cases.{intervals}
 use Rattle.expr.specs.Interval.{interval}
 use Rattle.expr.specs.IntervalLaws.{In, interval-exact}
 use Rattle.expr.specs.Limit.{Limit, none, limit, atV, sumW, marked, sumB, tighterW, asked, tighterB}
@@ -22,7 +23,6 @@ use Rattle.expr.specs.declared.ranges.Range.{Range}
 use Rattle.fields.specs.Contents.{sized, entryField, headOf, oneOf, firstOf, twoOf, secondOf, threeOf, thirdOf, fourOf, contentsOf}
 use Rattle.fields.specs.Cursor.{shifted, judged, byteTaken, wordTaken, signedTaken, byteField, wordField, signedField, finished, turns}
 use Rattle.fields.specs.declared.Refusal.the-variants.{Nothing}
-use Rattle.integer.specs.Floor.{floorZ}
 use Rattle.integer.specs.Parts.{p, n}
 use Rattle.sheet.specs.Bodies.{rangeOf, highestRight, highestField, rangeAt, parametersAt, blankLocation, blankLocations, locationStep, locationsRead, locationsAt, belowField, resetsRight, resetsField, transitionAt, blankTransition, blankTransitions, transitionStep, transitionsRead, transitionsAt, routeStep, routeRead, routeAt}
 use Rattle.sheet.specs.File.{blankSheet, refusedBy, bodiesOf, judgedRoute, judgedBodies, readOf}
@@ -36,10 +36,9 @@ use Rattle.sweep.specs.Walk.{guardStep as sweepGuard, guardSteps, resetSteps, s
 use Rattle.timed.specs.Runs.{invariants, guardsOf, routeOf, Run, Tightest}
 use Rattle.windows.specs.Agreement.{sheetOf, IsRun, IsVoid, answered-inside}
 use Rattle.windows.specs.Agreement as agreement
-use Rattle.windows.specs.Cases.{SheetRow, IntervalRow, countsIn, IntervalYields, at, rowA, rowStrict, rowFree, rowNone, rowDown, rowUp, rowTouch, rowApart, ListedCases}
+use Rattle.windows.specs.Cases.{SheetRow, IntervalRow, countsIn, IntervalYields, at, rowA, rowStrict, rowFree, rowNone, rowDown, rowUp, rowTouch, rowApart, rowNever, ListedCases}
 use Rattle.windows.specs.Reply.{blankWork, listingWork, sheetWork, readingWork, workOf, itemOf, itemsOf}
-use Rattle.windows.specs.Table.{Lists, lists-behind}
-use Rattle.windows.specs.declared.reply.Counts.{Counts}
+use Rattle.windows.specs.Lent.{Lists, lists-behind}
 use Rattle.zones.specs.Coded.{rowOf, boundsOf, zoneOf, zonesIn}
 
 -- ---- from Sweep's answer to runs
@@ -65,9 +64,19 @@ module _ (r : SheetRow) (lists : Lists (r .file) 32 (countsIn r)) (v : Valuation
 interval-yields : (r : IntervalRow) → interval (r .whole) (r .constant) (r .slope) ≡ r .part → IntervalYields r
 interval-yields r e = record { is = e; exactly = λ x. subst (λ (q : Range). In x q ↔ (In x (r .whole) × (pos 0 ≤ℤ (r .constant +ℤ (r .slope *ℤ x))))) e (interval-exact (r .whole) (r .constant) (r .slope) x) }
 
+-- ---- the bytes of sheet A: bodies of 5, 16, 17 and 2 bytes at 22, 27, 43 and 60
+pub bytes-of-A :
+    rowA .file
+    ≡ (1 ∷ 4 ∷ 1 ∷ 22 ∷ 0 ∷ 5 ∷ 0 ∷ 2 ∷ 27 ∷ 0 ∷ 16 ∷ 0 ∷ 3 ∷ 43 ∷ 0 ∷ 17 ∷ 0 ∷ 4 ∷ 60 ∷ 0 ∷ 2 ∷ 0
+    ∷ 1 ∷ 0 ∷ 0 ∷ 10 ∷ 0
+    ∷ 1 ∷ 2 ∷ 1 ∷ 1 ∷ 0 ∷ 0 ∷ 0 ∷ 0 ∷ 0 ∷ 1 ∷ 0 ∷ 0 ∷ 0 ∷ 0 ∷ 0 ∷ 0
+    ∷ 1 ∷ 0 ∷ 1 ∷ 0 ∷ 1 ∷ 0 ∷ 1 ∷ 0 ∷ 0 ∷ 253 ∷ 255 ∷ 0 ∷ 0 ∷ 0 ∷ 0 ∷ 0 ∷ 0
+    ∷ 1 ∷ 0 ∷ [])
+bytes-of-A = refl
+
 -- ---- every row
 pub listed-cases : ListedCases
-unfolding startB summed tested putEntry rowFrom rowsFrom places pushed guardTree never listZone worked guardZones guardsZones onBounds resetBounds stayZones moveZones cutRoute zonesOf keptOf widths start delayed resetM limitedM guarded dot value plusL minusL plus minus lessOne opposite judge interval floorZ atV sumW marked sumB tighterW asked tighterB span width before valuations satisfies firstIn countIn first count p n sized entryField headOf oneOf firstOf twoOf secondOf threeOf thirdOf fourOf contentsOf shifted judged byteTaken wordTaken signedTaken byteField wordField signedField finished turns rangeOf highestRight highestField rangeAt parametersAt blankLocation blankLocations locationStep locationsRead locationsAt belowField resetsRight resetsField transitionAt blankTransition blankTransitions transitionStep transitionsRead transitionsAt routeStep routeRead routeAt blankSheet refusedBy bodiesOf judgedRoute judgedBodies readOf signedOf exprOf boundOf oneZero rightField coefficientField guardAt blankGuard blankGuards guardStep guardsAt endsAt linkStep linksOf row blankReply swept sheetReply readingReply replyOf sweepGuard guardSteps resetSteps stay move walk sweepAt invariants guardsOf routeOf blankWork listingWork sheetWork readingWork workOf itemOf itemsOf rowOf boundsOf zoneOf zonesIn
+unfolding startB summed tested putEntry rowFrom rowsFrom places pushed guardTree never listZone worked guardZones guardsZones onBounds resetBounds stayZones moveZones cutRoute zonesOf keptOf widths start delayed resetM limitedM guarded dot value plusL minusL plus minus lessOne opposite judge atV sumW marked sumB tighterW asked tighterB span width before valuations satisfies firstIn countIn first count p n sized entryField headOf oneOf firstOf twoOf secondOf threeOf thirdOf fourOf contentsOf shifted judged byteTaken wordTaken signedTaken byteField wordField signedField finished turns rangeOf highestRight highestField rangeAt parametersAt blankLocation blankLocations locationStep locationsRead locationsAt belowField resetsRight resetsField transitionAt blankTransition blankTransitions transitionStep transitionsRead transitionsAt routeStep routeRead routeAt blankSheet refusedBy bodiesOf judgedRoute judgedBodies readOf signedOf exprOf boundOf oneZero rightField coefficientField guardAt blankGuard blankGuards guardStep guardsAt endsAt linkStep linksOf row blankReply swept sheetReply readingReply replyOf sweepGuard guardSteps resetSteps stay move walk sweepAt invariants guardsOf routeOf blankWork listingWork sheetWork readingWork workOf itemOf itemsOf rowOf boundsOf zoneOf zonesIn
 listed-cases = (
   record { lists = refl; pieces = refl; entries = (refl, (refl, (refl, (refl, tt)))); runs = (ran rowA refl (at (pos 3)) refl, tt); voids = (none-ran rowA refl (at (pos 2)) refl, tt) },
   (record { lists = refl; pieces = refl; entries = tt; runs = (ran rowStrict refl (at (pos 4)) refl, tt); voids = (none-ran rowStrict refl (at (pos 3)) refl, tt) },
@@ -76,9 +85,10 @@ listed-cases = (
   (record { lists = refl; pieces = refl; entries = (refl, tt); runs = (ran rowFree refl (at (pos 0)) refl, tt); voids = tt },
   (record { lists = refl; pieces = refl; entries = tt; runs = tt; voids = (none-ran rowNone refl (at (pos 0)) refl, tt) },
   (record { lists = refl; pieces = refl; entries = tt; runs = tt; voids = tt },
-  (interval-yields rowDown refl,
-  (interval-yields rowUp refl,
+  (interval-yields rowDown (intervals .down),
+  (interval-yields rowUp (intervals .up),
   (record { lists = refl; pieces = refl; entries = tt; runs = (ran rowTouch refl (at (pos 0)) refl, tt); voids = tt },
   (record { lists = refl; pieces = refl; entries = tt; runs = tt; voids = (none-ran rowApart refl (at (pos 0)) refl, tt) },
-  tt))))))))))
+  (record { lists = refl; pieces = refl; entries = tt; runs = tt; voids = (none-ran rowNever refl (at (pos 0)) refl, tt) },
+  tt)))))))))))
 )

@@ -22,7 +22,6 @@ use Rattle.sheet.specs.File.{readOf}
 use Rattle.windows.specs.Reply.{blankWork, listingWork, sheetWork, readingWork, workOf, itemOf, itemsOf}
 use Rattle.windows.specs.declared.reply.Answer.the-variants as answer
 use Rattle.windows.specs.declared.reply.Counts.{Counts}
-use Rattle.windows.specs.declared.reply.Worked.{Worked}
 use Rattle.zones.specs.Coded.{zoneOf, zonesIn}
 use Rattle.zones.specs.Listed.{pick, blankZone}
 use Rattle.zones.specs.declared.zone.Zone.{Zone}
@@ -32,12 +31,12 @@ abbrev pub Lists : List ℕ → ℕ → Counts → Type 0
 Lists file n c = workOf file n .answer ≡ answer.Listed c
 
 -- the table after the call
-abbrev pub tableOf : List ℕ → ℕ → List Zone
-tableOf file n = itemsOf (workOf file n) n
+abbrev pub table : List ℕ → ℕ → List Zone
+table file n = itemsOf (workOf file n) n
 
 -- its place i; only the places i < c .pieces, which the call fills, are its pieces
 abbrev pub pieceAt : List ℕ → ℕ → ℕ → Zone
-pieceAt file n i = getD (tableOf file n) i blankZone
+pieceAt file n i = getD (table file n) i blankZone
 
 -- the numbers that go with the zones of a sheet
 abbrev pub countsOf : Sheet → List cutting.Zone → Counts
@@ -83,28 +82,33 @@ lists-behind file n c e = by (ltb n 32) refl e
         record { room = ltb-false n 32 h; read = r; zones = zs; listing = l; counts = d; stored = rw h w }
 
 -- ---- places of the table
-pub items-length : (work : Worked) (n : ℕ) → length (itemsOf work n) ≡ n
+pub items-length : (file : List ℕ) (m n : ℕ) → length (itemsOf (workOf file m) n) ≡ n
 unfolding itemsOf
-items-length work zero = refl
-items-length work (suc n) = let a = length-append (itemsOf work n) (itemOf work n ∷ []) in let b = items-length work n in omega arith
+items-length file m zero = refl
+items-length file m (suc n) = let a = length-append (itemsOf (workOf file m) n) (itemOf (workOf file m) n ∷ []) in let b = items-length file m n in omega arith
 
-pub items-at : (work : Worked) (n i : ℕ) → i < n → getD (itemsOf work n) i blankZone ≡ itemOf work i
+pub items-at : (file : List ℕ) (m n i : ℕ) → i < n → getD (itemsOf (workOf file m) n) i blankZone ≡ itemOf (workOf file m) i
 unfolding itemsOf
-items-at work zero i h = absurd (omega arith)
-items-at work (suc n) i h = by (ltb i n) refl (items-at work n i)
+items-at file m zero i h = absurd (omega arith)
+items-at file m (suc n) i h = by (ltb i n) refl (items-at file m n i)
   where
-    by : (b : Bool) → ltb i n ≡ b → (i < n → getD (itemsOf work n) i blankZone ≡ itemOf work i) → getD (itemsOf work n ++ (itemOf work n ∷ [])) i blankZone ≡ itemOf work i
+    items : List Zone
+    items = itemsOf (workOf file m) n
+
+    item : ℕ → Zone
+    item k = itemOf (workOf file m) k
+
+    by : (b : Bool) → ltb i n ≡ b → (i < n → getD items i blankZone ≡ item i) → getD (items ++ (item n ∷ [])) i blankZone ≡ item i
     by true e ih =
         let k = ltb-true i n e in
-        let l : i < length (itemsOf work n) = rw (items-length work n) k in
-        List·getD-append (itemsOf work n) (itemOf work n ∷ []) blankZone i l ∙ ih k
+        let l : i < length items = rw (items-length file m n) k in
+        List·getD-append items (item n ∷ []) blankZone i l ∙ ih k
     by false e ih =
         let k = ltb-false i n e in
-        let l = items-length work n in
-        let j : i ≡ length (itemsOf work n) = omega arith in
+        let l : length items ≡ n = items-length file m n in
+        let j : i ≡ length items = omega arith in
         let j′ : n ≡ i = omega arith in
-        ap (λ (x : ℕ). getD (itemsOf work n ++ (itemOf work n ∷ [])) x blankZone) j
-        ∙ getD-append-seam (itemsOf work n) (itemOf work n) [] blankZone ∙ ap (itemOf work) j′
+        ap (λ (x : ℕ). getD (items ++ (item n ∷ [])) x blankZone) j ∙ getD-append-seam items (item n) [] blankZone ∙ ap item j′
 
 -- a zone of the list, or a blank past it
 module _ {A B : Type 0} (f : A → B) (blank : B) where
@@ -152,7 +156,7 @@ module _ {file : List ℕ} {n : ℕ} {c : Counts} (b : Behind file n c) where
 
   at-place : (i : ℕ) → i < n → pieceAt file n i ≡ getD (zonesIn (b .zones)) i blankZone
   unfolding itemOf
-  at-place i h = items-at (workOf file n) n i h ∙ ap (λ (l : List Zone). getD l i blankZone) (b .stored)
+  at-place i h = items-at file n n i h ∙ ap (λ (l : List Zone). getD l i blankZone) (b .stored)
 
   -- piece i is the record of zone i
   pub piece-is : (i : ℕ) → i < c .pieces → pieceAt file n i ≡ zoneOf (getD (b .zones) i noZone)
