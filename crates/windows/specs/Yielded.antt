@@ -36,7 +36,7 @@ use Rattle.sweep.specs.Walk.{guardStep as sweepGuard, guardSteps, resetSteps, s
 use Rattle.timed.specs.Runs.{invariants, guardsOf, routeOf, Run, Tightest}
 use Rattle.windows.specs.Agreement.{sheetOf, IsRun, IsVoid, answered-inside}
 use Rattle.windows.specs.Agreement as agreement
-use Rattle.windows.specs.Cases.{SheetRow, IntervalRow, countsIn, IntervalYields, at, rowA, rowStrict, rowFree, rowNone, rowDown, rowUp, rowTouch, rowApart, rowNever, ListedCases}
+use Rattle.windows.specs.Cases.{SheetRow, IntervalRow, countsIn, SheetYields, IntervalYields, at, rowA, rowStrict, rowPQ, rowQP, rowFree, rowNone, rowBack, rowDown, rowUp, rowTouch, rowApart, rowNever, ListedCases}
 use Rattle.windows.specs.Reply.{blankWork, listingWork, sheetWork, readingWork, workOf, itemOf, itemsOf}
 use Rattle.windows.specs.Lent.{Lists, lists-behind}
 use Rattle.zones.specs.Coded.{rowOf, boundsOf, zoneOf, zonesIn}
@@ -77,18 +77,40 @@ bytes-of-A = refl
 -- ---- every row
 pub listed-cases : ListedCases
 unfolding startB summed tested putEntry rowFrom rowsFrom places pushed guardTree never listZone worked guardZones guardsZones onBounds resetBounds stayZones moveZones cutRoute zonesOf keptOf widths start delayed resetM limitedM guarded dot value plusL minusL plus minus lessOne opposite judge atV sumW marked sumB tighterW asked tighterB span width before valuations satisfies firstIn countIn first count p n sized entryField headOf oneOf firstOf twoOf secondOf threeOf thirdOf fourOf contentsOf shifted judged byteTaken wordTaken signedTaken byteField wordField signedField finished turns rangeOf highestRight highestField rangeAt parametersAt blankLocation blankLocations locationStep locationsRead locationsAt belowField resetsRight resetsField transitionAt blankTransition blankTransitions transitionStep transitionsRead transitionsAt routeStep routeRead routeAt blankSheet refusedBy bodiesOf judgedRoute judgedBodies readOf signedOf exprOf boundOf oneZero rightField coefficientField guardAt blankGuard blankGuards guardStep guardsAt endsAt linkStep linksOf row blankReply swept sheetReply readingReply replyOf sweepGuard guardSteps resetSteps stay move walk sweepAt invariants guardsOf routeOf blankWork listingWork sheetWork readingWork workOf itemOf itemsOf rowOf boundsOf zoneOf zonesIn
-listed-cases = (
-  record { lists = refl; pieces = refl; entries = (refl, (refl, (refl, (refl, tt)))); runs = (ran rowA refl (at (pos 3)) refl, tt); voids = (none-ran rowA refl (at (pos 2)) refl, tt) },
-  (record { lists = refl; pieces = refl; entries = tt; runs = (ran rowStrict refl (at (pos 4)) refl, tt); voids = (none-ran rowStrict refl (at (pos 3)) refl, tt) },
-  (record { lists = refl; pieces = refl; entries = tt; runs = tt; voids = tt },
-  (record { lists = refl; pieces = refl; entries = tt; runs = tt; voids = tt },
-  (record { lists = refl; pieces = refl; entries = (refl, tt); runs = (ran rowFree refl (at (pos 0)) refl, tt); voids = tt },
-  (record { lists = refl; pieces = refl; entries = tt; runs = tt; voids = (none-ran rowNone refl (at (pos 0)) refl, tt) },
-  (record { lists = refl; pieces = refl; entries = tt; runs = tt; voids = tt },
-  (interval-yields rowDown (intervals .down),
-  (interval-yields rowUp (intervals .up),
-  (record { lists = refl; pieces = refl; entries = tt; runs = (ran rowTouch refl (at (pos 0)) refl, tt); voids = tt },
-  (record { lists = refl; pieces = refl; entries = tt; runs = tt; voids = (none-ran rowApart refl (at (pos 0)) refl, tt) },
-  (record { lists = refl; pieces = refl; entries = tt; runs = tt; voids = (none-ran rowNever refl (at (pos 0)) refl, tt) },
-  tt)))))))))))
-)
+listed-cases = (a, (strict, (pq, (qp, (free, (empty, (back, (down, (up, (touch, (gap, (early, tt))))))))))))
+  where
+    a : SheetYields rowA
+    a = record { lists = refl; pieces = refl; entries = (refl, (refl, (refl, (refl, tt)))); runs = (ran rowA refl (at (pos 3)) refl, tt); voids = (none-ran rowA refl (at (pos 2)) refl, tt) }
+
+    strict : SheetYields rowStrict
+    strict = record { lists = refl; pieces = refl; entries = tt; runs = (ran rowStrict refl (at (pos 4)) refl, tt); voids = (none-ran rowStrict refl (at (pos 3)) refl, tt) }
+
+    pq : SheetYields rowPQ
+    pq = record { lists = refl; pieces = refl; entries = tt; runs = tt; voids = tt }
+
+    qp : SheetYields rowQP
+    qp = record { lists = refl; pieces = refl; entries = tt; runs = tt; voids = tt }
+
+    free : SheetYields rowFree
+    free = record { lists = refl; pieces = refl; entries = (refl, tt); runs = (ran rowFree refl (at (pos 0)) refl, tt); voids = tt }
+
+    empty : SheetYields rowNone
+    empty = record { lists = refl; pieces = refl; entries = tt; runs = tt; voids = (none-ran rowNone refl (at (pos 0)) refl, tt) }
+
+    back : SheetYields rowBack
+    back = record { lists = refl; pieces = refl; entries = tt; runs = tt; voids = tt }
+
+    down : IntervalYields rowDown
+    down = interval-yields rowDown (intervals .down)
+
+    up : IntervalYields rowUp
+    up = interval-yields rowUp (intervals .up)
+
+    touch : SheetYields rowTouch
+    touch = record { lists = refl; pieces = refl; entries = tt; runs = (ran rowTouch refl (at (pos 0)) refl, tt); voids = tt }
+
+    gap : SheetYields rowApart
+    gap = record { lists = refl; pieces = refl; entries = tt; runs = tt; voids = (none-ran rowApart refl (at (pos 0)) refl, tt) }
+
+    early : SheetYields rowNever
+    early = record { lists = refl; pieces = refl; entries = tt; runs = tt; voids = (none-ran rowNever refl (at (pos 0)) refl, tt) }
