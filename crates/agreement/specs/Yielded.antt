@@ -34,11 +34,11 @@ use Rattle.sweep.specs.Reply.{blankReply, swept, sheetReply, readingReply, repl
 use Rattle.sweep.specs.Theorems.{entryAt, sweep-right}
 use Rattle.sweep.specs.Walk.{guardStep as sweepGuard, guardSteps, resetSteps, stay, move, walk, sweepAt}
 use Rattle.timed.specs.Runs.{invariants, guardsOf, routeOf, Run, Tightest}
-use Rattle.windows.specs.Agreement.{sheetOf, IsRun, IsVoid, answered-inside}
-use Rattle.windows.specs.Agreement as agreement
-use Rattle.windows.specs.Cases.{SheetRow, IntervalRow, countsIn, SheetYields, IntervalYields, at, rowA, rowStrict, rowPQ, rowQP, rowFree, rowNone, rowBack, rowDown, rowUp, rowTouch, rowApart, rowNever, ListedCases}
+use Rattle.agreement.specs.Agreement.{sheetOf, IsRun, IsVoid, answered-inside}
+use Rattle.agreement.specs.Agreement as agreement
+use Rattle.agreement.specs.Cases.{SheetRow, IntervalRow, countsIn, SheetYields, IntervalYields, at, rowA, rowStrict, rowPQ, rowQP, rowFree, rowNone, rowBack, rowDown, rowUp, rowTouch, rowApart, rowNever, ListedCases}
 use Rattle.windows.specs.Reply.{blankWork, listingWork, sheetWork, readingWork, workOf, itemOf, itemsOf}
-use Rattle.windows.specs.Lent.{Lists, lists-behind}
+use Rattle.agreement.specs.Lent.{Lists, lists-behind}
 use Rattle.zones.specs.Coded.{rowOf, boundsOf, zoneOf, zonesIn}
 
 -- ---- from Sweep's answer to runs

@@ -21,10 +21,10 @@ use Rattle.expr.specs.declared.ranges.Range.{Range}
 use Rattle.sweep.specs.Right.{AllOf}
 use Rattle.sheet.specs.declared.Sheet.{Sheet}
 use Rattle.timed.specs.Runs.{Run}
-use Rattle.windows.specs.Agreement.{sheetOf, IsRun, IsVoid}
-use Rattle.windows.specs.Bytes.{minus, range, constant, withP, withPQ, atMost, under, standing, moving}
-use Rattle.windows.specs.Lent.{Lists, table, pieceAt}
+use Rattle.agreement.specs.Agreement.{sheetOf, IsRun, IsVoid}
+use Rattle.agreement.specs.Bytes.{minus, range, constant, withP, withPQ, atMost, under, standing, moving}
+use Rattle.agreement.specs.Lent.{Lists, table, pieceAt}
 use Rattle.windows.specs.declared.reply.Counts.{Counts}
 use Rattle.zones.specs.Rules.{entryC}
 use Rattle.zones.specs.declared.zone.Zone.{Zone}
 

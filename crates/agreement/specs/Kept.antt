@@ -22,9 +22,9 @@ use Rattle.sheet.specs.File.{readOf}
 use Rattle.sweep.specs.Reply.{inRange}
 use Rattle.sweep.specs.Theorems.{Asked, sweep-right}
 use Rattle.timed.specs.Runs.{Run}
-use Rattle.windows.specs.Agreement.{sheetOf, InRange, answered-inside, asked, asked-inside}
-use Rattle.windows.specs.Lent.{Lists, lists-behind}
+use Rattle.agreement.specs.Agreement.{sheetOf, InRange, answered-inside, asked, asked-inside}
+use Rattle.agreement.specs.Lent.{Lists, lists-behind}
 use Rattle.windows.specs.declared.reply.Counts.{Counts}
 
 -- the valuations of the file's ranges
 abbrev pub valuationsOf : List ℕ → List (List ℤ)

@@ -13,11 +13,11 @@ use Rattle.fields.specs.declared.Refusal.{Refusal}
 use Rattle.fields.specs.declared.Refusal.the-variants.{Nothing, Size, Contents, Body, Route}
 use Rattle.sheet.specs.declared.Sheet.{Sheet}
 use Rattle.sheet.specs.File.{readOf}
-use Rattle.windows.specs.Numbered.{SevenToNine, zones-numbered}
+use Rattle.agreement.specs.Numbered.{SevenToNine, zones-numbered}
 use Rattle.windows.specs.Reply.{refusedBy, blankWork, listingWork, sheetWork, readingWork, workOf}
-use Rattle.windows.specs.Lent.{countsOf}
+use Rattle.agreement.specs.Lent.{countsOf}
 use Rattle.windows.specs.declared.reply.Answer.{Answer}
 use Rattle.windows.specs.declared.reply.Answer.the-variants as answer
 use Rattle.zones.specs.Listed.{pick}
 
 -- what the cutting of the file's sheet comes to is the listing, the table having room (not 1) and the file being read (not 2 to 5)

@@ -19,10 +19,10 @@ use Rattle.fields.specs.declared.Refusal.{Refusal}
 use Rattle.fields.specs.declared.Refusal.the-variants.{Nothing, Size, Contents, Body, Route}
 use Rattle.sheet.specs.declared.Sheet.{Sheet}
 use Rattle.sheet.specs.File.{readOf}
 use Rattle.windows.specs.Reply.{blankWork, listingWork, sheetWork, readingWork, workOf, itemOf}
-use Rattle.windows.specs.Lent.{Lists, table, pieceAt, Behind, lists-behind, noZone, member, items-length, items-at, in-list, blanks, past-list, pieces-are, few-pieces, piece-is, past-pieces}
+use Rattle.agreement.specs.Lent.{Lists, table, pieceAt, Behind, lists-behind, noZone, member, items-length, items-at, in-list, blanks, past-list, pieces-are, few-pieces, piece-is, past-pieces}
 use Rattle.windows.specs.declared.reply.Answer.the-variants as answer
 use Rattle.windows.specs.declared.reply.Counts.{Counts}
 use Rattle.zones.specs.Coded.{zoneOf, entry-at}
 use Rattle.zones.specs.Listed.{pick, zeroExpr, zeroBound, blankZone}
 use Rattle.zones.specs.Rules.{entryC}
