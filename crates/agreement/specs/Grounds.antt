@@ -13,7 +13,7 @@ use Rattle.fields.specs.declared.Refusal.{Refusal}
 use Rattle.fields.specs.declared.Refusal.the-variants.{Nothing, Size, Contents, Body, Route}
 use Rattle.sheet.specs.declared.Sheet.{Sheet}
 use Rattle.sheet.specs.File.{readOf}
-use Rattle.agreement.specs.Numbered.{SevenToNine, zones-numbered}
+use Rattle.cutting.specs.Numbered.{SevenToNine, zones-numbered}
 use Rattle.windows.specs.Reply.{refusedBy, blankWork, listingWork, sheetWork, readingWork, workOf}
 use Rattle.agreement.specs.Lent.{countsOf}
 use Rattle.windows.specs.declared.reply.Answer.{Answer}

@@ -1,11 +1,10 @@
 -- What the replies of Windows and Sweep are worth: Agreement (against Sweep and runs), Grounds (the refusals), Stored (the table), Kept (kept and
--- cut), and Cases (the proved rows of the paper). Lent, Numbered, Bytes and Yielded serve these.
+-- cut), and Cases (the proved rows of the paper). Lent, Bytes and Yielded serve these.
 pub mod Agreement
 pub mod Bytes
 pub mod Cases
 pub mod Grounds
 pub mod Kept
 pub mod Lent
-pub mod Numbered
 pub mod Stored
 pub mod Yielded

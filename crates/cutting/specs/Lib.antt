@@ -5,6 +5,6 @@ pub mod Comes
 pub mod Counts
 pub mod Cutting
 pub mod Held
-pub mod Refusals
+pub mod Numbered
 pub mod Shape
 pub mod Theorems

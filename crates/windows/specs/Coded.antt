@@ -1,5 +1,6 @@
 -- What the code replies for an accepted sheet is Windows' reply.
 use mathlib.Core.Path.{_≡_, refl, sym, ap, _∙_}
+use mathlib.Core.Logic.{_⊎_, inl, inr}
 use mathlib.Core.List.{List, [], _∷_}
 use mathlib.Core.Bool.{Bool, true, false}
 use Prim.Native.Nat.{ℕ, suc, _+_, _-_, _*_, _≤_, _<_}
@@ -12,7 +13,7 @@ use lib.ListN.{length, take}
 use lib.Signed.{_≤ℤ_}
 use Rattle.cutting.specs.Counts.{keptOf, cutOf}
 use Rattle.cutting.specs.Cutting.{Listing, listed, refused, zonesOf}
-use Rattle.cutting.specs.Refusals.{Named, zones-named}
+use Rattle.cutting.specs.Numbered.{SevenToNine, zones-numbered}
 use Rattle.expr.specs.SearchLaws.{widths, valuations-length}
 use Rattle.expr.specs.Affine.{Affine}
 use Rattle.expr.specs.Three.{rangeList}
@@ -83,11 +84,17 @@ widths-few s f = product (width (s .ranges .p)) (width (s .ranges .q)) (width (s
     product a b c ha hb hc = let k = mul-le-mul ha (mul-le-mul hb hc) in omega arith
 
 -- ---- the reply
-listing-coded : (s : Sheet) (o : Listing) → Named o → listedC (s .ranges) (coded (s .moves) o) ≡ listingWork s o
+some-number : (n : ℕ) → SevenToNine n → 0 < n
+some-number n (inl e) = omega arith
+some-number n (inr (inl e)) = omega arith
+some-number n (inr (inr e)) = omega arith
+
+listing-coded : (s : Sheet) (o : Listing) → ((n k : ℕ) → o ≡ refused n k → 0 < n) → listedC (s .ranges) (coded (s .moves) o) ≡ listingWork s o
 unfolding listedC coded listingWork
 listing-coded s (listed zs) h = rw (kept-in (s .ranges) zs, count-all (rangeList (s .ranges))) refl
-listing-coded s (refused n k) h = rw (lt-ltb 0 n (omega (arith, h .0))) refl
+listing-coded s (refused n k) h = rw (lt-ltb 0 n (h n k refl)) refl
 
 pub work-coded : (s : Sheet) → WellFormed s → (zs : Zones) → zs ≡ zonesAll s → listedC (s .ranges) zs ≡ sheetWork s
 unfolding sheetWork
-work-coded s f zs e = ap (listedC (s .ranges)) (e ∙ zones-coded s f) ∙ listing-coded s (zonesOf s) (zones-named s)
+work-coded s f zs e =
+    ap (listedC (s .ranges)) (e ∙ zones-coded s f) ∙ listing-coded s (zonesOf s) (λ n k q. some-number n (zones-numbered s n k q))
