@@ -54,7 +54,11 @@ fn print_relation(b: Bound) -> bool {
 
 // The line of the bound on clock i - clock j.
 fn print_bound(i: usize, j: usize, b: Bound) -> bool {
-    text::word(b"bound") && text::number(i) && text::number(j) && print_relation(b) && text::word(b"\n")
+    text::word(b"bound")
+        && text::number(i)
+        && text::number(j)
+        && print_relation(b)
+        && text::word(b"\n")
 }
 
 // The lines of row i, up to the last clock.
@@ -89,5 +93,9 @@ fn print_rows(z: Zone, last: usize) -> bool
 // The lines of zone k of a sheet with so many clocks.
 pub(crate) fn print_zone(k: usize, z: Zone, clocks: usize) -> bool {
     let last = at_most(clocks, 4);
-    text::word(b"piece") && text::number(k) && text::word(b"\n") && print_inequalities(z) && print_rows(z, last)
+    text::word(b"piece")
+        && text::number(k)
+        && text::word(b"\n")
+        && print_inequalities(z)
+        && print_rows(z, last)
 }

@@ -245,8 +245,10 @@ module _ {M : Type 1} (𝓤 : URA M) (H : Heap 𝓤) (A : Atoms 𝓤) (W : Given
       walk 𝓤 H A W at-mem run (κs .0) (qs .0) (a .0) (a .1 .0) (a .1 .1 .0) (only (array-vals (LL.vals Z.the-type Z′.the-laws) (a .1 .0))) (are .0 .0 .1) (are .1 .0) (are .1 .1 .0 .1) at-most C Λ fm known))
 
   goes : AllGo 𝓤 H A W 1 (cut′.signature .params) (cut′.ended .kept) stayed
-  goes = (goes-dropped 𝓤 H A W 1 (shrSliceOf (0 ∷ []) tt (plain (λ _. u8))) yes (λ κs y w. refl),
-      (goes-dropped 𝓤 H A W 1 (plain (λ _. Array R 40)) yes (λ κs y w. refl), (goes-dropped 𝓤 H A W 1 (plain (λ _. usize)) yes (λ κs y w. refl), tt)))
+  goes = (
+    goes-dropped 𝓤 H A W 1 (shrSliceOf (0 ∷ []) tt (plain (λ _. u8))) yes (λ κs y w. refl),
+    (goes-dropped 𝓤 H A W 1 (plain (λ _. Array R 40)) yes (λ κs y w. refl), (goes-dropped 𝓤 H A W 1 (plain (λ _. usize)) yes (λ κs y w. refl), tt)),
+  )
 
 cut-meets : {M : Type 1} (𝓤 : URA M) (H : Heap 𝓤) (A : Atoms 𝓤) (W : Given 𝓤 H A) (at-mem : Memory → SProp 𝓤) (run : Routine → Fun 𝓤) (𝓣 : Tables 𝓤 H)
     → Triple 𝓤 (𝓣 .C #windows) (Windows 𝓤 H A at-mem run) → Meets 𝓤 H A cut′.signature (WpFn 𝓤 H (𝓣 .C) (𝓣 .Λ) code.function) (cut′.spec 𝓤 H A at-mem run)
