@@ -26,7 +26,10 @@ fn with_number(h: u64, x: i32) -> u64 {
 
 // The digest with the four numbers of an expression.
 fn with_expr(h: u64, e: Expr) -> u64 {
-    with_number(with_number(with_number(with_number(h, e.constant), e.p), e.q), e.r)
+    with_number(
+        with_number(with_number(with_number(h, e.constant), e.p), e.q),
+        e.r,
+    )
 }
 
 // The digest with a bound.

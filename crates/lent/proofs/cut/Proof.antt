@@ -61,7 +61,6 @@ use Rattle.windows.proofs.windows.Symbol as windows-def
 use Rattle.windows.proofs.windows.Symbol.{name as #windows}
 use Rattle.windows.proofs.windows.Met as windows-thm
 use Rattle.lent.specs.Cut.{cutOf}
-use Rattle.lent.specs.declared.Reply.{Reply}
 use Rattle.lent.proofs.Places as places
 use Rattle.lent.proofs.Reply as K
 use Rattle.lent.proofs.Reply.Laws as K′
