@@ -1,0 +1,2 @@
+-- What the walk of `cut` cites.
+mod Places

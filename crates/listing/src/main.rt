@@ -1,0 +1,80 @@
+// Reads a sheet from standard input and prints what Windows found (paper 01, "Sheets to try"): how many pieces, kept and cut, and each piece; or
+// the refusal and its place. If the input cannot be read or the output cannot be written, it says why on standard error and prints no more.
+mod text;
+mod zone;
+
+use libc::STDIN_FILENO;
+use windows::Answer;
+use windows::Counts;
+use zones::Zone;
+
+// The line of the counts. It answers whether all was written, as each function below does.
+fn print_counts(counts: Counts) -> bool {
+    text::word(b"pieces")
+        && text::number(counts.pieces)
+        && text::word(b" kept")
+        && text::number(counts.kept)
+        && text::word(b" cut")
+        && text::number(counts.cut)
+        && text::word(b"\n")
+}
+
+// The lines of the first zones of a table, that many.
+fn print_zones(table: [Zone; 40], pieces: usize, clocks: usize) -> bool {
+    let n = zone::at_most(pieces, 32);
+    let mut k = 0;
+    while k < n {
+        let z = table[k];
+        if !zone::print_zone(k, z, clocks) {
+            return false;
+        }
+        k += 1;
+    }
+    true
+}
+
+// The line of a refusal.
+fn print_refusal(answer: Answer) -> bool {
+    text::word(b"refused")
+        && text::number(windows::number(answer))
+        && text::word(b" place")
+        && text::number(windows::place(answer))
+        && text::word(b"\n")
+}
+
+// How many clocks the sheet of a file has.
+fn clocks_of(file: &[u8]) -> usize {
+    let reading = sheet::read(file);
+    let s = reading.sheet;
+    s.clocks
+}
+
+// What Windows found in a file.
+fn print_listing(file: &[u8]) -> bool {
+    let reply = lent::cut(file, [Zone::BLANK; 40], 32);
+    let answer = reply.answer;
+    let table = reply.table;
+    if let Answer::Listed(counts) = answer {
+        return print_counts(counts) && print_zones(table, counts.pieces, clocks_of(file));
+    }
+    print_refusal(answer)
+}
+
+// Whether reading on fails. At the end of the input it does not.
+fn read_fails() -> bool {
+    let mut more = [0u8; 1];
+    libc::read(STDIN_FILENO, &mut more) < 0
+}
+
+// A sheet file has at most 4,096 bytes, so that one byte more is enough to know that it is too long.
+fn main() {
+    let mut file = [0u8; 4097];
+    let n = io::read_full(STDIN_FILENO, &mut file);
+    if n < 4097 && read_fails() {
+        os::fail(b"listing: read");
+        return;
+    }
+    if !print_listing(&file[..n]) {
+        os::fail(b"listing: write");
+    }
+}

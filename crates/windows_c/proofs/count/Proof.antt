@@ -1,0 +1,39 @@
+-- `windows_c::count` is `countOf`, by the answer's number.
+-- Assumes nothing.
+use mathlib.Core.Path.{sym, _∙_, ap}
+use Prim.Native.Nat.{ℕ}
+use native.Mathlib.Omega.{arith}
+use borrow.Author.Needs.{needs}
+use lib.IntN.{pos, negℤ}
+use mir.Syntax.{w64}
+use mir.ValLaws.{toZ-ofZ}
+use Rattle.windows_c.proofs.Few.{number-small, listed-count, refused-count}
+use Rattle.windows_c.proofs.count.Statement.{statement}
+use Rattle.windows_c.proofs.count.Tie as tie
+
+number-requires : tie.Need-number-requires
+number-requires c κs = search needs
+
+pieces-requires : tie.Need-pieces-requires
+pieces-requires c κs = search needs
+
+signed-requires : tie.Need-signed-requires
+signed-requires c κs = search needs
+
+returns : tie.Need-returns
+returns c =
+    let s = c .before .before .before in
+    toZ-ofZ w64 (c .signed .result) (search needs) ∙ c .signed .ensures ∙ ap pos (c .before .pieces .ensures)
+    ∙ listed-count (s .before .args .answer) (sym (s .number .ensures) ∙ c .before .before .if1 .taken)
+
+minus-requires : tie.Need-minus-requires
+minus-requires c κs = omega (arith, number-small (c .before .before .args .answer), c .before .number .ensures)
+
+returns-2 : tie.Need-returns-2
+returns-2 c =
+    let s = c .before .before in
+    toZ-ofZ w64 (c .minus .result) (search needs) ∙ c .minus .ensures ∙ ap (λ (n : ℕ). negℤ (pos n)) (s .number .ensures)
+    ∙ refused-count (s .before .args .answer) (λ e. c .before .if1 .left (s .number .ensures ∙ e))
+
+pub count-spec : {M : Type 1} → statement M
+count-spec = tie.close (tie.spec number-requires pieces-requires signed-requires returns minus-requires returns-2)

@@ -1,0 +1,2 @@
+-- An answer of Windows as one number.
+pub mod Count
