@@ -1,2 +1,2 @@
--- What the walk of `cut` cites.
+-- What the walk of `cut_places` cites.
 mod Places

@@ -2,7 +2,7 @@
 use windows::Answer;
 use zones::Zone;
 ghost use mathlib.Core.Path.{_≡_};
-ghost use Prim.Native.Nat.{_≤_};
+ghost use Prim.Native.Nat.{_≤_, min};
 ghost use Rattle.lent.specs.Cut.{cutOf};
 
 // What Windows answers, and the table after it.
@@ -13,7 +13,7 @@ pub struct Reply {
 
 // What Windows answers to a sheet file where the first n places of the table are lent to it, and the whole table then: the places that were
 // not lent are as they were.
-pub fn cut(file: &[u8], table: [Zone; 40], n: usize) -> Reply
+fn cut_places(file: &[u8], table: [Zone; 40], n: usize) -> Reply
     requires { ⌜ n ≤ 40 ⌝ }
     ensures { λ r. ⌜ r ≡ cutOf (now (file .entry)) table n ⌝ }
 {
@@ -23,4 +23,21 @@ pub fn cut(file: &[u8], table: [Zone; 40], n: usize) -> Reply
         answer,
         table: places,
     }
+}
+
+// n, or most where n is more.
+fn at_most(n: usize, most: usize) -> usize
+    ensures { λ r. ⌜ r ≡ min n most ⌝ }
+{
+    if n < most {
+        return n;
+    }
+    most
+}
+
+// The same for every n: of more than 40 the whole table is lent.
+pub fn cut(file: &[u8], table: [Zone; 40], n: usize) -> Reply
+    ensures { λ r. ⌜ r ≡ cutOf (now (file .entry)) table (min n 40) ⌝ }
+{
+    cut_places(file, table, at_most(n, 40))
 }
