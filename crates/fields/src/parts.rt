@@ -6,10 +6,10 @@ ghost use lib.ListN.{take, drop};
 ghost use Rattle.cursor.specs.Cursor.{pick};
 ghost use Rattle.fields.specs.Contents.{isKind, startOf, endOf, hasBody};
 use super::Contents;
-use cursor::both;
-use cursor::within;
 use super::entries::contents_of;
 use super::entries::sized;
+use cursor::both;
+use cursor::within;
 
 // Whether a kind is 1, 2, 3 or 4.
 pub fn is_kind(kind: u8) -> bool

@@ -28,8 +28,6 @@ use super::Location;
 use super::Transition;
 use super::guards::blank_guards;
 use super::guards::guards_at;
-use expr::Range;
-use expr::Ranges;
 use cursor::Spot;
 use cursor::both;
 use cursor::byte_field;
@@ -39,6 +37,8 @@ use cursor::signed_field;
 use cursor::take_byte;
 use cursor::take_signed;
 use cursor::within;
+use expr::Range;
+use expr::Ranges;
 
 // A parameter's range, and where reading stands after it.
 pub struct RangeAt {

@@ -15,14 +15,14 @@ ghost use Rattle.sheet.specs.Guards.{
   blankGuards,
 };
 use super::Guard;
-use expr::Bound;
-use expr::Expr;
 use cursor::Spot;
 use cursor::both;
 use cursor::byte_field;
 use cursor::judged;
 use cursor::signed_field;
 use cursor::take_byte;
+use expr::Bound;
+use expr::Expr;
 
 // A guard, and where reading stands after it.
 pub struct GuardAt {

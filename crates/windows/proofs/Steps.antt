@@ -224,7 +224,7 @@ module _ (b : Ranges) (xs : List Zone) (k : ℕ) where
       let few : i < k = omega (arith, length-take k xs) in
       let here = kept-cons (drop i (take k xs)) (getD (take k xs) i d) (drop (suc i) (take k xs)) (drop-cons (take k xs) i d h) in
       let same : count (rangeList b) (map affine (take (getD (take k xs) i d .count) (getD (take k xs) i d .ineqs))) ≡ held =
-          rw (getD-take k xs i d few) (sym f) in
+      rw (getD-take k xs i d few) (sym f) in
       rw (add-one i) (omega (arith, e, here, same))
 
   pub kept-done : (i total : ℕ) → length (take k xs) ≤ i → total + keptC b (drop i (take k xs)) ≡ keptC b (take k xs) → total ≡ keptC b (take k xs)

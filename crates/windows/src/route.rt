@@ -1,7 +1,7 @@
 // The zones of a sheet along its route.
 use crate::matrix;
-use expr::Expr;
 use expr::Bound;
+use expr::Expr;
 use expr::Ranges;
 use sheet::Guard;
 use sheet::Location;
@@ -196,7 +196,13 @@ pub(crate) fn walk(s: Sheet) -> Zones
     let mut k = 0;
     while k < n {
         let t = transition_at(s, wide(s.route[k]));
-        let next = moved(b, s.clocks, k, t, stay(b, s.clocks, location_at(s, l), zones));
+        let next = moved(
+            b,
+            s.clocks,
+            k,
+            t,
+            stay(b, s.clocks, location_at(s, l), zones),
+        );
         zones = next;
         l = t.to;
         k += 1;

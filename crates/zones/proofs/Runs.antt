@@ -29,8 +29,12 @@ worked-bounds b cutT z m out = refl
 worked-bounds b (keepT n) z m out = refl
 worked-bounds b wideT z m out = refl
 worked-bounds b (askT e f) z m out =
-    rw (worked-bounds b (f false) z m out, worked-bounds b (f true) z m out, worked-bounds b (f true) (plusC z e) m out,
-        worked-bounds b (f false) (plusC z (oppositeC e)) m (workedC b (f true) (plusC z e) out)) refl
+    rw (
+      worked-bounds b (f false) z m out,
+      worked-bounds b (f true) z m out,
+      worked-bounds b (f true) (plusC z e) m out,
+      worked-bounds b (f false) (plusC z (oppositeC e)) m (workedC b (f true) (plusC z e) out),
+    ) refl
 
 -- what follows the test of a phase
 unfoldable cont : Rule → ℕ → List Bound → Bool → TreeC

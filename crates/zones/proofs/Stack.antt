@@ -168,9 +168,15 @@ module _ (b : Ranges) (r : Rule) (st : List Part) (k : ℕ) (now next whole : Zo
         let s = ran .splits h in
         let yes-enough : suc k ≤ yesC r q .zone .count = omega (arith, w .0, ran .count, yes-count b r q (s .0)) in
         let no-enough : k ≤ noC r q .zone .count = omega (arith, w .0, ran .count, no-count b r q (s .0)) in
-        rw (more-top, more-next)
-        (yes-enough, yes-live b r q (s .0), (no-enough, no-live b r q (s .0),
-          waiting-set (set st k (noC r q)) (suc k) k (yesC r q) (omega arith) (waiting-set st k k (noC r q) (omega arith) (w .2))))
+        rw (more-top, more-next) (
+          yes-enough,
+          yes-live b r q (s .0),
+          (
+            no-enough,
+            no-live b r q (s .0),
+            waiting-set (set st k (noC r q)) (suc k) k (yesC r q) (omega arith) (waiting-set st k k (noC r q) (omega arith) (w .2)),
+          ),
+        )
 
     pub load-splits : Ran b r top q → q .halt ≡ 3 → load more (suc (suc k)) < load st (suc k)
     unfolding load

@@ -282,7 +282,7 @@ module _ (b : Ranges) (clocks : ℕ) (g : Guard) (xs : List Zone) (k : ℕ) wher
   all-turn i out next w d r h e er f =
       let len : i < k = omega (arith, length-take k xs) in
       let cons : drop i (take k xs) ≡ getD xs i d ∷ drop (suc i) (take k xs) =
-          drop-cons (take k xs) i d h ∙ ap (λ (z : Zone). z ∷ drop (suc i) (take k xs)) (getD-take k xs i d len) in
+      drop-cons (take k xs) i d h ∙ ap (λ (z : Zone). z ∷ drop (suc i) (take k xs)) (getD-take k xs i d len) in
       rw (add-one i, f, er) (sym (all-cons (drop i (take k xs)) (getD xs i d) (drop (suc i) (take k xs)) out cons) ∙ e)
 
   pub all-done : (i : ℕ) (out w : Zones) → length (take k xs) ≤ i → cutAll b clocks g (drop i (take k xs)) out ≡ w → out ≡ w

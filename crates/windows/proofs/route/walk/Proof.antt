@@ -59,9 +59,12 @@ loop-again : tie.Need-loop-again Inv-loop μ-loop
 loop-again c =
     let s = c .before .before .before .before .before .before .before .before .before .before .before .args .t1 in
     let i = c .before .before .before .before .before .before .before .loop in
-    let v = i .inv in
-    (v .0, v .1, walk-turn s (i .k) (i .l) (i .zones) (c .before .stay .result) (c .moved .result) _ (c .before .before .location-at .result) (c .before .before .before .transition-at .result) (omega (arith, c .before .before .before .before .before .before .loop-test .taken, v .1)) (v .2)
-        (c .before .before .before .transition-at .ensures ∙ ap (λ (n : ℕ). transitionC s n) (c .before .before .before .before .wide .ensures)) (c .before .before .location-at .ensures) (c .before .stay .ensures) (c .moved .ensures))
+    let v = i .inv in (
+      v .0,
+      v .1,
+      walk-turn s (i .k) (i .l) (i .zones) (c .before .stay .result) (c .moved .result) _ (c .before .before .location-at .result) (c .before .before .before .transition-at .result) (omega (arith, c .before .before .before .before .before .before .loop-test .taken, v .1)) (v .2)
+          (c .before .before .before .transition-at .ensures ∙ ap (λ (n : ℕ). transitionC s n) (c .before .before .before .before .wide .ensures)) (c .before .before .location-at .ensures) (c .before .stay .ensures) (c .moved .ensures),
+    )
 
 location-at-requires-2 : tie.Need-location-at-requires-2 Inv-loop μ-loop
 location-at-requires-2 c κs = search needs
