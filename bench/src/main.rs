@@ -1,6 +1,5 @@
-// Measures the proved search against a plain scan, proved Sweep against the reference's sweep, and, with the feature
-// "windows", proved Windows against a proved Sweep at every valuation.
-#[cfg(feature = "windows")]
+// Measures the proved search against a plain scan, proved Sweep against the reference's sweep, and proved Windows against
+// a proved Sweep at every valuation.
 mod cuts;
 mod families;
 mod random;
@@ -10,7 +9,6 @@ mod sheets;
 mod sweep;
 mod system;
 mod timing;
-#[cfg(feature = "windows")]
 mod windows;
 
 fn main() {
@@ -24,8 +22,7 @@ fn main() {
         sweep::run(has("--quick"));
         println!();
     }
-    #[cfg(feature = "windows")]
-    if all || has("--windows") {
+        if all || has("--windows") {
         windows::run(has("--quick"));
         println!();
     }
