@@ -1,15 +1,15 @@
-"""Pieces as a picture (SVG): one colour a piece, settings without a run hatched.
+"""Pieces as a picture: one colour a piece, settings without a run hatched. svg.py and png.py draw its shapes.
 
 One allowance gives a strip, two give a chart, three a chart for each value of the third, none a line of text.
-Each setting is a cell. The panel is hatched first and the pieces are laid over it, each as one path with a
-rectangle for every row of its cells.
+Each setting is a cell. The panel is hatched first and the pieces are laid over it, each with a rectangle for
+every row of its cells.
 """
 
 import textwrap
 from typing import NamedTuple
-from xml.sax.saxutils import escape
 
 import settings
+from shapes import CUT, NONE, Box, Cells, Grid, Picture, Tick, Words
 from wording import inequality_words, plural
 
 # Okabe and Ito's colours, which people with any colour vision can tell apart, and an indigo
@@ -58,35 +58,19 @@ class Panel(NamedTuple):
 
 
 def draw(found, ranges, names, title):
-    """The whole picture, as text."""
+    """The whole picture."""
     counts = [settings.count(piece, ranges) for piece in found.pieces]
     heading = (f"{title}: {plural(len(found.pieces), 'piece')}, {plural(found.kept, 'setting')} with a run, "
                f"{found.cut:,} without")
     if not ranges:
         line = f"{title}: the only setting has {'a run (piece 0)' if found.kept else 'no run'}"
-        return document(2 * MARGIN + LETTER * len(line), 2 * MARGIN + LINE, line, [words(MARGIN, MARGIN + 12, line)])
+        width, height = 2 * MARGIN + LETTER * len(line), 2 * MARGIN + LINE
+        return Picture(width, height, line, [Words(MARGIN, MARGIN + 12, line)])
     parts, width, bottom = charts(found, ranges, names)
     width = max(width, LEAST_WIDTH, 2 * MARGIN + 9 * len(heading))
     key, height = legend(found, counts, names, bottom + GAP, width)
-    top = [words(MARGIN, MARGIN + 10, heading, 'font-size="14" font-weight="bold"')]
-    return document(width, height, heading, top + parts + key)
-
-
-def document(width, height, title, parts):
-    """The frame round the parts."""
-    head = (f'<svg xmlns="http://www.w3.org/2000/svg" width="{width}" height="{height}" '
-            f'viewBox="0 0 {width} {height}" font-family="DejaVu Sans, Verdana, sans-serif" font-size="12" '
-            'fill="#222222">')
-    hatch = ('<defs><pattern id="cut" width="6" height="6" patternUnits="userSpaceOnUse" '
-             'patternTransform="rotate(45)"><rect width="6" height="6" fill="#ffffff"/>'
-             '<rect width="1.5" height="6" fill="#999999"/></pattern></defs>')
-    back = f'<rect width="{width}" height="{height}" fill="#ffffff"/>'
-    return "\n".join([head, f"<title>{escape(title)}</title>", hatch, back, *parts, "</svg>"]) + "\n"
-
-
-def words(x, y, text, style=""):
-    """A text whose baseline starts at x, y, unless the style says otherwise."""
-    return f'<text x="{x}" y="{y}"{" " + style if style else ""}>{escape(text)}</text>'
+    top = Words(MARGIN, MARGIN + 10, heading, heading=True)
+    return Picture(width, height, heading, [top, *parts, *key])
 
 
 # Charts
@@ -108,9 +92,9 @@ def charts(found, ranges, names):
         x, y = left + k % columns * step_x, top + k // columns * step_y + head
         panel = Panel(x, y, room, across, up, [slices.get(value, []) for slices in by_slice])
         parts += chart(panel, k % columns == 0 and len(ranges) > 1, k + columns >= len(titles))
-        parts.append(words(x, y - 6, title) if title else "")
+        parts += [Words(x, y - 6, title)] if title else []
     bottom = top + -(-len(titles) // columns) * step_y + NUMBERS + NAME
-    return [part for part in parts if part], left + columns * step_x - GAP + MARGIN, bottom
+    return parts, left + columns * step_x - GAP + MARGIN, bottom
 
 
 def panel_titles(ranges, names):
@@ -155,32 +139,29 @@ def rows_by_slice(found, ranges):
 
 def chart(panel, numbers_up, numbers_across):
     """One panel: the hatched box, the pieces with their numbers, lines between cells, and the axes."""
-    width, height = panel.across.length(), panel.up.length()
-    box = f'x="{panel.x}" y="{panel.y}" width="{width}" height="{height}"'
-    parts = [f'<rect class="cut" {box} fill="url(#cut)"/>']
+    box = panel.x, panel.y, panel.across.length(), panel.up.length()
+    parts = [Box(*box, CUT, role="cut")]
     parts += [cells(panel, number, rows) for number, rows in enumerate(panel.rows) if rows]
     parts += cell_lines(panel)
-    parts += [label(panel, number, rows) for number, rows in enumerate(panel.rows)]
-    parts.append(f'<rect {box} fill="none" stroke="#222222"/>')
+    parts += [part for number, rows in enumerate(panel.rows) for part in label(panel, number, rows)]
+    parts.append(Box(*box, NONE, edge=True))
     if numbers_across:
         parts += axis_across(panel)
     if numbers_up:
         parts += axis_up(panel)
-    return [part for part in parts if part]
+    return parts
 
 
 def cells(panel, number, rows):
     """The cells of one piece."""
-    path = "".join(f"M{x} {y}h{width}v{panel.up.cell}h-{width}z"
-                   for x, y, width in (row_place(panel, row) for row in rows))
-    return f'<path class="piece" data-piece="{number}" fill="{colour(number)}" shape-rendering="crispEdges" d="{path}"/>'
+    return Cells(number, colour(number), tuple(row_place(panel, row) for row in rows))
 
 
 def row_place(panel, row):
-    """Where a row of cells starts, its upper left corner, and how wide it is."""
+    """Where a row of cells starts, its upper left corner, and how wide and tall it is."""
     value, low, high = row
     return (panel.x + (low - panel.across.low) * panel.across.cell,
-            panel.y + (panel.up.high - value) * panel.up.cell, (high - low + 1) * panel.across.cell)
+            panel.y + (panel.up.high - value) * panel.up.cell, (high - low + 1) * panel.across.cell, panel.up.cell)
 
 
 def cell_lines(panel):
@@ -188,24 +169,24 @@ def cell_lines(panel):
     if min(panel.across.cell, panel.up.cell) < 7:
         return []
     right, bottom = panel.x + panel.across.length(), panel.y + panel.up.length()
-    path = "".join(f"M{x} {panel.y}V{bottom}" for x in range(panel.x + panel.across.cell, right, panel.across.cell))
-    path += "".join(f"M{panel.x} {y}H{right}" for y in range(panel.y + panel.up.cell, bottom, panel.up.cell))
-    return [f'<path fill="none" stroke="#ffffff" stroke-opacity="0.5" stroke-width="0.6" d="{path}"/>'] if path else []
+    across = range(panel.x + panel.across.cell, right, panel.across.cell)
+    down = range(panel.y + panel.up.cell, bottom, panel.up.cell)
+    return [Grid(panel.x, panel.y, right, bottom, across, down)] if across or down else []
 
 
 def label(panel, number, rows):
-    """The piece's number, as near to its middle as there is room for it."""
+    """The piece's number, as near to its middle as there is room for it, or nothing."""
     wide = -(-(LETTER * len(str(number)) + 4) // panel.across.cell)
     tall = -(-14 // panel.up.cell)
     places = [place for k in range(len(rows) - tall + 1) for place in [label_place(rows[k:k + tall], wide)] if place]
     if not places:
-        return None
+        return []
     x, y = middle(rows)
     value_across, value_up = min(((min(max(x, low), high), up) for low, high, up in places),
                                  key=lambda place: (place[0] - x) ** 2 + (place[1] - y) ** 2)
     at_x = panel.x + (value_across - panel.across.low + 0.5) * panel.across.cell
     at_y = panel.y + (panel.up.high - value_up + 0.5) * panel.up.cell + 4
-    return words(f"{at_x:.5g}", f"{at_y:.5g}", str(number), f'text-anchor="middle" fill="{ink(number)}"')
+    return [Words(at_x, at_y, str(number), "middle", ink(number))]
 
 
 def label_place(rows, wide):
@@ -231,11 +212,10 @@ def axis_across(panel):
     parts = []
     for value in panel.across.ticks(LETTER * number_width(panel.across) + 6):
         x = panel.x + (value - panel.across.low + 0.5) * panel.across.cell
-        parts.append(f'<path stroke="#222222" d="M{x:g} {bottom}v4"/>')
-        parts.append(words(f"{x:g}", bottom + 16, str(value), 'text-anchor="middle"'))
+        parts += [Tick(x, bottom, 0, 4), Words(x, bottom + 16, str(value), "middle")]
     name = fitted(panel.across.name, panel.room)
     x = panel.x + panel.across.length() / 2
-    return parts + [words(f"{x:g}", bottom + NUMBERS + 12, name, 'text-anchor="middle" font-style="italic"')]
+    return parts + [Words(x, bottom + NUMBERS + 12, name, "middle", italic=True)]
 
 
 def axis_up(panel):
@@ -243,11 +223,10 @@ def axis_up(panel):
     parts = []
     for value in panel.up.ticks(16):
         y = panel.y + (panel.up.high - value + 0.5) * panel.up.cell
-        parts.append(f'<path stroke="#222222" d="M{panel.x} {y:g}h-4"/>')
-        parts.append(words(panel.x - 6, f"{y + 4:g}", str(value), 'text-anchor="end"'))
+        parts += [Tick(panel.x, y, -4, 0), Words(panel.x - 6, y + 4, str(value), "end")]
     x, y = MARGIN + 10, panel.y + panel.up.length() / 2
-    style = f'text-anchor="middle" font-style="italic" transform="rotate(-90 {x} {y:g})"'
-    return parts + [words(x, f"{y:g}", fitted(panel.up.name, max(panel.up.length(), 60)), style)]
+    name = fitted(panel.up.name, max(panel.up.length(), 60))
+    return parts + [Words(x, y, name, "middle", italic=True, turned=True)]
 
 
 def fitted(name, room):
@@ -266,13 +245,13 @@ def legend(found, counts, names, top, width):
     entries = [(colour(number), key_text(number, piece, count, names))
                for number, (piece, count) in enumerate(zip(found.pieces, counts))]
     if found.cut:
-        entries.append(("url(#cut)", f"no run, {plural(found.cut, 'setting')}"))
+        entries.append((CUT, f"no run, {plural(found.cut, 'setting')}"))
     parts = []
     y = top
     for fill, text in entries:
-        parts.append(f'<rect class="key" x="{MARGIN}" y="{y}" width="13" height="13" fill="{fill}" stroke="#222222"/>')
+        parts.append(Box(MARGIN, y, 13, 13, fill, edge=True, role="key"))
         for line in textwrap.wrap(text, (width - 2 * MARGIN - 22) // LETTER, break_on_hyphens=False):
-            parts.append(words(MARGIN + 22, y + 11, line.replace(NO_BREAK, " ")))
+            parts.append(Words(MARGIN + 22, y + 11, line.replace(NO_BREAK, " ")))
             y += LINE
         y += 4
     return parts, y + MARGIN

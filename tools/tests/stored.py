@@ -10,6 +10,7 @@ import listing
 import picture
 import report
 import sheet_text
+import svg
 
 ROOT = Path(__file__).resolve().parents[2]
 SHEETS = ROOT / "sheets"
@@ -76,7 +77,7 @@ def outputs():
     for name in PICTURES:
         whole, names = sheet(name)
         made[EXPECTED / f"{name}.show"] = report.pieces_text(found(name), whole, names)
-        made[DOCS / f"{name}.svg"] = picture.draw(found(name), whole.ranges, names, name)
+        made[DOCS / f"{name}.svg"] = svg.text(picture.draw(found(name), whole.ranges, names, name))
     made[EXPECTED / "a.show-all"] = report.pieces_text(found("a"), *sheet("a"), True)
     return made
 

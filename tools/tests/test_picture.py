@@ -7,6 +7,7 @@ import xml.etree.ElementTree as ElementTree
 
 import picture
 import settings
+import svg
 from stored import DOCS, NAMES, PICTURES, found, sheet
 
 SVG = "{http://www.w3.org/2000/svg}"
@@ -16,7 +17,7 @@ ROW = re.compile(r"M(\d+) (\d+)h(\d+)v(\d+)h-(\d+)z")
 def root(name):
     """The picture of a stored sheet, as a tree."""
     whole, names = sheet(name)
-    return ElementTree.fromstring(picture.draw(found(name), whole.ranges, names, name))
+    return ElementTree.fromstring(svg.text(picture.draw(found(name), whole.ranges, names, name)))
 
 
 def brute_counts(name):
@@ -126,5 +127,5 @@ class Pictures(unittest.TestCase):
 
     def test_names_that_are_marks_in_xml(self):
         whole, names = sheet("a")
-        tree = ElementTree.fromstring(picture.draw(found("a"), whole.ranges, names, "<a&b>"))
+        tree = ElementTree.fromstring(svg.text(picture.draw(found("a"), whole.ranges, names, "<a&b>")))
         self.assertIn("<a&b>: 1 piece", tree.find(f"{SVG}title").text)

@@ -12,6 +12,7 @@ import picture
 import report
 import settings
 import sheet_file
+import svg
 from inputs import Fault
 from sheet_text import default_names
 from stored import (EXPECTED, NAMES, ROOT, SHEETS, found, fresh_listing, listed, lister, listing_text, outputs,
@@ -205,6 +206,6 @@ class StoredRecords(unittest.TestCase):
             names = default_names(whole)
             pieces = report.read_listing(text, "listing", whole)
             self.assertEqual(report.pieces_text(pieces, whole, names, True).count("\npiece "), len(pieces.pieces))
-            ElementTree.fromstring(picture.draw(pieces, whole.ranges, names, "record"))
+            ElementTree.fromstring(svg.text(picture.draw(pieces, whole.ranges, names, "record")))
             shown += 1
         self.assertGreater(shown, 200)
