@@ -4,7 +4,7 @@ use Prim.Native.Nat.{ℕ, _+_, _-_, _/_, _%_}
 use lib.IntN.{ℤ, pos, negsuc, negℤ}
 use lib.ListN.{length}
 use Rattle.expr.specs.declared.number.Expr.{Expr}
-use Rattle.expr.specs.declared.ranges.Range.{Range}
+use Rattle.expr.specs.declared.range.Range.{Range}
 
 -- ---- numbers and expressions
 abbrev pub minus : ℕ → ℤ

@@ -14,12 +14,13 @@ use lib.Signed.{leZ}
 use Rattle.dbm.specs.Matrix.{Matrix, start, inside, delayed, resetAt, resetM, Outcome, void, kept}
 use Rattle.expr.specs.Affine.{Affine, value, dot, opposite}
 use Rattle.expr.specs.Limit.{Limit, none, atV}
-use Rattle.expr.specs.IntervalLaws.{Inside, and-left, and-right}
+use Rattle.expr.specs.Ranges.{Inside}
+use Rattle.integer.specs.Bools.{and-left, and-right}
 use Rattle.expr.specs.Laws.{opposite-holds}
-use Rattle.expr.specs.SearchLaws.{first-none}
+use Rattle.search.specs.SearchLaws.{first-none}
 use Rattle.expr.specs.Three.{limitOf, rangeList}
-use Rattle.expr.specs.Valuations.{satisfies, first}
-use Rattle.expr.specs.declared.ranges.Range.{Range}
+use Rattle.search.specs.Valuations.{satisfies, first}
+use Rattle.expr.specs.declared.range.Range.{Range}
 use Rattle.sheet.specs.declared.Guard.{Guard}
 use Rattle.sheet.specs.declared.Sheet.{Sheet}
 use Rattle.sweep.specs.Walk.{guardStep, guardSteps, pickM, resetSteps, stay, move, walk, sweepAt}

@@ -4,7 +4,7 @@ use mathlib.Core.Bool.{Bool}
 use lib.IntN.{ℤ}
 use Rattle.dbm.specs.Matrix.{Matrix, Outcome, void, kept}
 use Rattle.expr.specs.Limit.{Limit, atV}
-use Rattle.expr.specs.Valuations.{satisfies}
+use Rattle.search.specs.Valuations.{satisfies}
 use Rattle.cutting.specs.Cutting.{Bounds, Zone, pick}
 
 -- the zone holds v (paper: a piece holds a setting), v being in the ranges: v meets all its inequalities

@@ -11,7 +11,7 @@ use Rattle.dbm.specs.Matrix.{delayed}
 use Rattle.expr.specs.Affine.{Affine, opposite}
 use Rattle.expr.specs.Limit.{none}
 use Rattle.expr.specs.Three.{limitOf, rangeList}
-use Rattle.expr.specs.declared.ranges.Range.{Range}
+use Rattle.expr.specs.declared.range.Range.{Range}
 use Rattle.sheet.specs.declared.Guard.{Guard}
 use Rattle.sheet.specs.declared.Sheet.{Sheet}
 use Rattle.timed.specs.Runs.{invariants, guardsOf, routeOf, transitionAt}

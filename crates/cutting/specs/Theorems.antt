@@ -9,7 +9,7 @@ use native.Mathlib.Omega.{arith}
 use lib.IntN.{ℤ, pos}
 use lib.ListN.{length, getD}
 use Rattle.dbm.specs.Matrix.{Matrix, Outcome, void, kept}
-use Rattle.expr.specs.IntervalLaws.{Inside}
+use Rattle.expr.specs.Ranges.{Inside}
 use Rattle.expr.specs.Limit.{Limit, none, limit}
 use Rattle.expr.specs.Three.{rangeList}
 use Rattle.sheet.specs.declared.Sheet.{Sheet}

@@ -10,8 +10,9 @@ use mir.Syntax.{w16, w32, w64}
 use mir.Val.{SFits, toZ, ofZ}
 use mir.ValLaws.{toZ-ofZ}
 use native.Mathlib.Omega.{arith}
+use Rattle.integer.specs.Product.{Small}
 use Rattle.integer.specs.Split.{split, split-all}
-use Rattle.expr.specs.IntervalLaws.{and-left, and-right}
+use Rattle.integer.specs.Bools.{and-left, and-right}
 
 -- a fact of each element
 abbrev pub All : (ℤ → Type 0) → List ℤ → Type 0
@@ -31,10 +32,6 @@ pub negation-fits : (x : ℤ) → SFits w32 x → SFits w64 (pos 0 -ℤ x)
 negation-fits x = rw (split x) (simp split-all (omega arith))
 
 -- ---- a constant and three products
--- the size of a product of 32 and 16 bits
-abbrev pub Small : ℤ → Type 0
-Small x = (negℤ (pos 70368744177664) ≤ℤ x) × (x ≤ℤ pos 70368744177664)
-
 pub two-fit : (x y : ℤ) → Small x → Small y → SFits w64 (x +ℤ y)
 two-fit x y = rw (split x, split y) (simp split-all (omega arith))
 
@@ -48,9 +45,6 @@ pub dot-end : (c x y z : ℤ) → c +ℤ (x +ℤ (y +ℤ z)) ≡ c +ℤ (x +ℤ 
 dot-end c x y z = rw (+ℤ-idr z) refl
 
 -- ---- a test of a range in two steps, at locals that hold the range's ends and the number
-pub zero-minus : (l : ℤ) → pos 0 -ℤ l ≡ negℤ l
-zero-minus l = rw (split l) (simp split-all (omega arith))
-
 pub within-yes : (l x hb xb low : ℤ) → hb ≡ l → xb ≡ x → low ≡ negℤ l → leZ low xb ≡ true → leZ xb hb ≡ within l x
 within-yes l x hb xb low eh ex el t =
     let t′ : leZ (negℤ l) x ≡ true = rw (← el, ← ex) t in

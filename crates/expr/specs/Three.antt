@@ -1,9 +1,8 @@
 -- The code's records at three parameters, as the lists that the definitions are about, and back.
-use mathlib.Core.List.{List, [], _∷_, map}
-use mathlib.Core.Option.{Option, none as nothing, some}
+use mathlib.Core.List.{List, [], _∷_}
 use mathlib.Core.Bool.{Bool, true, false}
 use lib.IntN.{ℤ, pos}
-use lib.ListN.{getD, take}
+use lib.ListN.{getD}
 use Rattle.expr.specs.Affine.{Affine, Judged, fine, wide, judge, LIMIT}
 use Rattle.expr.specs.Limit.{Limit, none, limit, Question, yes′, no′, ask, wide′}
 use Rattle.expr.specs.declared.bound.Bound.{Bound}
@@ -11,11 +10,8 @@ use Rattle.expr.specs.declared.bound.BoundSum.{BoundSum}
 use Rattle.expr.specs.declared.bound.BoundSum.the-variants.{Sum, Wide as BoundWide}
 use Rattle.expr.specs.declared.bound.Test.{Test}
 use Rattle.expr.specs.declared.bound.Test.the-variants.{Yes, No, Ask, Wide as TestWide}
-use Rattle.expr.specs.declared.ranges.Range.{Range}
-use Rattle.expr.specs.declared.ranges.Ranges.{Ranges}
-use Rattle.expr.specs.declared.search.Solution.{Solution}
-use Rattle.expr.specs.declared.search.Solution.the-variants.{Found, Nothing}
-use Rattle.expr.specs.declared.search.System.{System}
+use Rattle.expr.specs.declared.range.Range.{Range}
+use Rattle.expr.specs.declared.range.Ranges.{Ranges}
 use Rattle.expr.specs.declared.weight.Weight.{Weight}
 use Rattle.expr.specs.declared.number.Expr.{Expr}
 use Rattle.expr.specs.declared.number.Sums.{Sums}
@@ -82,14 +78,6 @@ weightOf (limit s x) = record { none = false; strict = s; value = x }
 abbrev pub rangeList : Ranges → List Range
 rangeList b = b .p ∷ b .q ∷ b .r ∷ []
 
--- the inequalities of the code: the first `count` of the list
-abbrev pub exprs : System → List Affine
-exprs s = map affine (take (s .count) (s .list))
-
 -- a valuation of the code from its parameters
 abbrev pub valuationOf : List ℤ → Valuation
 valuationOf v = record { p = getD v 0 (pos 0); q = getD v 1 (pos 0); r = getD v 2 (pos 0) }
-
-abbrev pub firstOf : Option (List ℤ) → Solution
-firstOf (some v) = Found (valuationOf v)
-firstOf nothing = Nothing

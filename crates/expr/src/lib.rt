@@ -1,8 +1,7 @@
-// Expressions over parameters, bounds, weights, and the satisfiability of inequalities: the arithmetic under Windows and Sweep.
+// Expressions over parameters, their ranges, bounds and weights: the arithmetic under Windows and Sweep.
 mod bound;
 mod number;
-mod ranges;
-mod search;
+mod range;
 mod weight;
 
 pub use bound::Bound;
@@ -11,10 +10,6 @@ pub use bound::Test;
 pub use number::Expr;
 pub use number::Inequality;
 pub use number::Valuation;
-pub use ranges::Range;
-pub use ranges::Ranges;
-pub use search::Solution;
-pub use search::System;
-pub use search::count;
-pub use search::first;
+pub use range::Range;
+pub use range::Ranges;
 pub use weight::Weight;

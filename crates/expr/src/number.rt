@@ -53,26 +53,12 @@ pub(crate) fn either(a: bool, b: bool) -> bool
     b
 }
 
-// x as a wider number.
-pub(crate) fn wide(x: i32) -> i64
-    ensures { λ r. ⌜ r ≡ x ⌝ }
-{
-    x as i64
-}
-
-// x as a wider number.
-pub(crate) fn wide16(x: i16) -> i64
-    ensures { λ r. ⌜ r ≡ x ⌝ }
-{
-    x as i64
-}
-
 // x + y.
 pub(crate) fn sum(x: i32, y: i32) -> Number
     ensures { λ r. ⌜ r .value ≡ x +ℤ y ⌝ }
 {
     Number {
-        value: wide(x) + wide(y),
+        value: numbers::wide(x) + numbers::wide(y),
     }
 }
 
@@ -81,7 +67,7 @@ pub(crate) fn difference(x: i32, y: i32) -> Number
     ensures { λ r. ⌜ r .value ≡ x -ℤ y ⌝ }
 {
     Number {
-        value: wide(x) - wide(y),
+        value: numbers::wide(x) - numbers::wide(y),
     }
 }
 
@@ -90,7 +76,7 @@ pub(crate) fn difference_less_one(x: i32, y: i32) -> Number
     ensures { λ r. ⌜ r .value ≡ ((x -ℤ y) -ℤ pos 1) ⌝ }
 {
     Number {
-        value: wide(x) - wide(y) - 1,
+        value: numbers::wide(x) - numbers::wide(y) - 1,
     }
 }
 
@@ -98,14 +84,14 @@ pub(crate) fn difference_less_one(x: i32, y: i32) -> Number
 pub(crate) fn product(x: i32, y: i16) -> i64
     ensures { λ r. ⌜ r ≡ x *ℤ y ⌝ }
 {
-    wide(x) * wide16(y)
+    numbers::wide(x) * numbers::wide16(y)
 }
 
 // Whether x lies from -limit to limit.
 fn is_within(x: Number, limit: i32) -> bool
     ensures { λ r. ⌜ r ≡ within limit (x .value) ⌝ }
 {
-    let high = wide(limit);
+    let high = numbers::wide(limit);
     if 0 - high <= x.value {
         return x.value <= high;
     }
@@ -161,7 +147,8 @@ impl Expr {
     pub fn at(self, v: Valuation) -> i64
         ensures { λ r. ⌜ r ≡ value (affine self) (point v) ⌝ }
     {
-        wide(self.constant) + (product(self.p, v.p) + (product(self.q, v.q) + product(self.r, v.r)))
+        numbers::wide(self.constant)
+            + (product(self.p, v.p) + (product(self.q, v.q) + product(self.r, v.r)))
     }
 
     // The opposite of self ≥ 0, parameters being whole: -self - 1 ≥ 0. Its constant may lie one past the range of a test.

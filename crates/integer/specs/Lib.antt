@@ -1,5 +1,7 @@
--- Integers for proofs: `Split` decides what is linear over ℤ, `Parts` does the same inside larger proofs, `Order`, `Product` and `Floor` are laws, `Examples` has lines to copy.
-pub mod Examples
+-- Integers for proofs: `Split` decides what is linear over ℤ, `Parts` does the same inside larger proofs; `Order`, `Product` and `Floor` are laws;
+-- `Bits` reads a signed local, `Bools` are laws of tests.
+pub mod Bits
+pub mod Bools
 pub mod Floor
 pub mod Order
 pub mod Parts

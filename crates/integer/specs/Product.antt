@@ -100,3 +100,7 @@ product-fits {x} {y} h k = size-fits w64 (x *ℤ y) (omega (arith, product-size 
 pub product-range : {v w : Width} {x y : ℤ} → SFits v x → SFits w y → (negℤ (pos (2 ^ hbits v * 2 ^ hbits w)) ≤ℤ (x *ℤ y)) × ((x *ℤ y) ≤ℤ pos (2 ^ hbits v * 2 ^ hbits w))
 product-range {x} {y} h k =
     (size-low (product-size x y (fits-size h) (fits-size k)), size-high (product-size x y (fits-size h) (fits-size k)))
+
+-- the size of a product of 32 and 16 bits
+abbrev pub Small : ℤ → Type 0
+Small x = (negℤ (pos 70368744177664) ≤ℤ x) × (x ≤ℤ pos 70368744177664)

@@ -89,3 +89,6 @@ pub ⊖-fits : (w : Width) (a b : ℕ) → SFits w (a ⊖ b) ↔ ((a < b + 2 ^ h
 ⊖-fits w a b = (λ h. omega (arith, ⊖-parts a b, fits-in h), λ h. fits-out (omega (arith, ⊖-parts a b)))
 
 pub ruleset split-all = (⊖-eq-iff, ⊖-add, ⊖-sub, ⊖-neg, ⊖-mul, ⊖-pos, ⊖-negsuc, ⊖-le, ⊖-lt, ⊖-leT, ⊖-leF, ⊖-ltT, ⊖-ltF, ⊖-fits)
+
+pub zero-minus : (x : ℤ) → pos 0 -ℤ x ≡ negℤ x
+zero-minus x = rw (split x) (simp split-all (omega arith))

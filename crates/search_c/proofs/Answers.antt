@@ -13,11 +13,12 @@ use mir.Val.{SFits, toZ, ofZ}
 use mir.ValLaws.{toZ-ofZ}
 use Rattle.integer.specs.Parts.{p, n, zs, +-parts, -parts, fits-in}
 use Rattle.expr.specs.Affine.{Affine}
-use Rattle.expr.specs.SearchLaws.{widths, valuations-length}
-use Rattle.expr.specs.Three.{exprs, rangeList, firstOf}
-use Rattle.expr.specs.Valuations.{first, count, countIn, pickN, satisfies, valuations, width}
-use Rattle.expr.specs.declared.ranges.Ranges.{Ranges}
-use Rattle.expr.specs.declared.search.System.{System}
+use Rattle.search.specs.SearchLaws.{widths, valuations-length}
+use Rattle.search.specs.System.{exprs, firstOf}
+use Rattle.expr.specs.Three.{rangeList}
+use Rattle.search.specs.Valuations.{first, count, countIn, pickN, satisfies, valuations, width}
+use Rattle.expr.specs.declared.range.Ranges.{Ranges}
+use Rattle.search.specs.declared.search.System.{System}
 
 -- a number up to 2^48 keeps its value as a number with a sign
 pub same : (n : ℕ) → n ≤ 281474976710656 → toZ w64 n ≡ pos n

@@ -3,8 +3,8 @@ use Prim.Native.Nat.{ℕ, _+_, _*_}
 use lib.IntN.{ℤ, pos, negsuc, _+ℤ_}
 use Rattle.integer.specs.Parts.{p}
 use Rattle.expr.specs.declared.number.Valuation.{Valuation}
-use Rattle.expr.specs.declared.search.Solution.{Solution}
-use Rattle.expr.specs.declared.search.Solution.the-variants.{Found, Nothing}
+use Rattle.search.specs.declared.search.Solution.{Solution}
+use Rattle.search.specs.declared.search.Solution.the-variants.{Found, Nothing}
 
 -- a parameter counted from the lowest i16
 unfoldable pub shifted : ℤ → ℕ

@@ -6,9 +6,9 @@ use lib.Dec.{ltb}
 use lib.IntN.{ℤ, pos, _-ℤ_}
 use lib.ListN.{getD, set, replicate}
 use Rattle.expr.specs.declared.number.Expr.{Expr}
-use Rattle.expr.specs.declared.ranges.Range.{Range}
-use Rattle.expr.specs.declared.ranges.Ranges.{Ranges}
-use Rattle.expr.specs.declared.search.System.{System}
+use Rattle.expr.specs.declared.range.Range.{Range}
+use Rattle.expr.specs.declared.range.Ranges.{Ranges}
+use Rattle.search.specs.declared.search.System.{System}
 
 -- the byte at i
 abbrev pub byteAt : List ℕ → ℕ → ℕ

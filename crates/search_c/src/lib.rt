@@ -4,14 +4,15 @@
 use expr::Expr;
 use expr::Range;
 use expr::Ranges;
-use expr::Solution;
-use expr::System;
 use expr::Valuation;
+use search::Solution;
+use search::System;
 ghost use mathlib.Core.Path.{_≡_};
 ghost use Prim.Native.Nat.{_<_, _≤_, min};
 ghost use lib.IntN.{pos};
-ghost use Rattle.expr.specs.Three.{exprs, rangeList, firstOf};
-ghost use Rattle.expr.specs.Valuations.{first, count, width};
+ghost use Rattle.search.specs.System.{exprs, firstOf};
+ghost use Rattle.expr.specs.Three.{rangeList};
+ghost use Rattle.search.specs.Valuations.{first, count, width};
 ghost use Rattle.search_c.specs.Input.{byteAt, word16, word32, signed, int16, int32, rangeAt, rangesOf, exprAt, systemOf};
 ghost use Rattle.search_c.specs.Answer.{shifted, packed, firstAnswer};
 
@@ -183,7 +184,7 @@ fn answer(found: Solution) -> i64
 pub extern "C" fn search_first(input: &[u8]) -> i64
     ensures { λ r. ⌜ r ≡ firstAnswer (firstOf (first (rangeList (rangesOf (now (input .entry)))) (exprs (systemOf (now (input .entry)))))) ⌝ }
 {
-    answer(expr::first(ranges(input), system(input)))
+    answer(search::first(ranges(input), system(input)))
 }
 
 // How many valuations meet the inequalities.
@@ -191,5 +192,5 @@ pub extern "C" fn search_first(input: &[u8]) -> i64
 pub extern "C" fn search_count(input: &[u8]) -> i64
     ensures { λ r. ⌜ r ≡ pos (count (rangeList (rangesOf (now (input .entry)))) (exprs (systemOf (now (input .entry))))) ⌝ }
 {
-    expr::count(ranges(input), system(input)) as i64
+    search::count(ranges(input), system(input)) as i64
 }

@@ -5,8 +5,8 @@ use mathlib.Core.List.{List}
 use mathlib.Core.Bool.{Bool}
 use lib.ListN.{set, replicate}
 use lib.Dec.{ltb, leb}
-use Rattle.expr.specs.declared.ranges.Range.{Range}
-use Rattle.expr.specs.declared.ranges.Ranges.{Ranges}
+use Rattle.expr.specs.declared.range.Range.{Range}
+use Rattle.expr.specs.declared.range.Ranges.{Ranges}
 use Rattle.cursor.specs.declared.Spot.{Spot}
 use Rattle.cursor.specs.Cursor.{pick, both, within, judged, byteTaken, signedTaken, byteField, finished, turns}
 use Rattle.sheet.specs.declared.Location.{Location}

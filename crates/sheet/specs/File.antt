@@ -3,8 +3,8 @@ use Prim.Native.Nat.{ℕ, _+_}
 use mathlib.Core.List.{List}
 use lib.ListN.{length, replicate}
 use lib.IntN.{pos}
-use Rattle.expr.specs.declared.ranges.Range.{Range}
-use Rattle.expr.specs.declared.ranges.Ranges.{Ranges}
+use Rattle.expr.specs.declared.range.Range.{Range}
+use Rattle.expr.specs.declared.range.Ranges.{Ranges}
 use Rattle.fields.specs.declared.Contents.{Contents}
 use Rattle.fields.specs.declared.Refusal.{Refusal}
 use Rattle.fields.specs.declared.Refusal.the-variants.{Nothing, Size, Body, Route}

@@ -8,7 +8,7 @@ use lib.ListN.{getD}
 use lib.IntN.{ℤ, pos, negsuc, _-ℤ_}
 use lib.Signed.{_≤ℤ_}
 use Rattle.expr.specs.declared.number.Expr.{Expr}
-use Rattle.expr.specs.declared.ranges.Range.{Range}
+use Rattle.expr.specs.declared.range.Range.{Range}
 use Rattle.sheet.specs.declared.Guard.{Guard}
 use Rattle.sheet.specs.declared.Location.{Location}
 use Rattle.sheet.specs.declared.Transition.{Transition}

@@ -8,8 +8,8 @@ use lib.IntN.{ℤ}
 use lib.Signed.{leZ}
 use mir.Syntax.{w16}
 use mir.Val.{SFits}
-use Rattle.expr.specs.IntervalLaws.{and-left, and-right}
-use Rattle.expr.specs.declared.ranges.Range.{Range}
+use Rattle.integer.specs.Bools.{and-left, and-right}
+use Rattle.expr.specs.declared.range.Range.{Range}
 use Rattle.fields.specs.declared.Refusal.{Refusal}
 use Rattle.fields.specs.declared.Refusal.the-variants.{Nothing, Size, Contents, Body, Route}
 use Rattle.integer.specs.Split.{split, split-all}

@@ -7,7 +7,7 @@ use lib.IntN.{ℤ}
 use lib.Signed.{leZ}
 use Rattle.dbm.specs.Matrix.{Matrix, Outcome, void, kept}
 use Rattle.expr.specs.Limit.{Limit}
-use Rattle.expr.specs.declared.ranges.Range.{Range}
+use Rattle.expr.specs.declared.range.Range.{Range}
 use Rattle.expr.specs.declared.weight.Weight.{Weight}
 use Rattle.fields.specs.declared.Refusal.{Refusal}
 use Rattle.fields.specs.declared.Refusal.the-variants.{Nothing, Size, Contents, Body, Route}

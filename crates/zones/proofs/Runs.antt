@@ -11,7 +11,7 @@ use Rattle.expr.specs.declared.bound.Bound.{Bound}
 use Rattle.expr.specs.declared.bound.Test.{Test}
 use Rattle.expr.specs.declared.bound.Test.the-variants.{Yes, No, Ask, Wide as TestWide}
 use Rattle.expr.specs.declared.number.Expr.{Expr}
-use Rattle.expr.specs.declared.ranges.Ranges.{Ranges}
+use Rattle.expr.specs.declared.range.Ranges.{Ranges}
 use Rattle.zones.specs.Listed.{pick, zeroExpr, refusedC, listC, plusC}
 use Rattle.zones.specs.Parts.{TreeC, cutT, keepT, wideT, askT, testedC, pushC, tightC, treeAt, withBounds, workedC, standing, putC, pushedC, answeredC, haltedC, forwardC, withMore, yesC, noC, endedC, meant, meantEnd, Live, Ran}
 use Rattle.zones.specs.Rules.{viaC, viaBound, askC}

@@ -10,7 +10,7 @@ use lib.ListN.{length, getD, set, replicate, length-set}
 use native.Mathlib.Numerals.{add-one}
 use lib.Seq.{getD-set-same, getD-set-other}
 use Rattle.expr.specs.declared.number.Expr.{Expr}
-use Rattle.expr.specs.declared.ranges.Ranges.{Ranges}
+use Rattle.expr.specs.declared.range.Ranges.{Ranges}
 use Rattle.zones.proofs.Runs.{yes-live, yes-later, yes-count, no-live, no-later, no-count, ran-ended, ran-split, split-leaves}
 use Rattle.zones.specs.Guarded.{cutC}
 use Rattle.zones.specs.Listed.{pick, zeroExpr, refusedC, listC, plusC}

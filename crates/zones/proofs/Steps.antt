@@ -14,18 +14,19 @@ use lib.Signed.{leZ}
 use lib.ListN.{length, getD, set, take, drop, replicate, length-take, length-set, drop-of-length-le}
 use lib.Seq.{take-all, take-suc, take-suc-set, take-set-le, drop-cons, getD-take}
 use Rattle.expr.specs.Affine.{Affine, value, dot, opposite, judge}
-use Rattle.expr.specs.Three.{affine, inequality, rangeList, OPPOSITE, firstOf, exprs}
-use Rattle.expr.specs.Valuations.{first, satisfies, countIn, count, valuations}
+use Rattle.expr.specs.Three.{affine, inequality, rangeList, OPPOSITE}
+use Rattle.search.specs.System.{firstOf, exprs}
+use Rattle.search.specs.Valuations.{first, satisfies, countIn, count, valuations}
 use Rattle.expr.specs.declared.bound.Bound.{Bound}
 use Rattle.expr.specs.declared.bound.BoundSum.{BoundSum}
 use Rattle.expr.specs.declared.bound.Test.{Test}
 use Rattle.expr.specs.declared.bound.Test.the-variants.{Yes, No, Ask, Wide as TestWide}
 use Rattle.expr.specs.declared.number.Expr.{Expr}
 use Rattle.expr.specs.declared.number.Inequality.{Inequality}
-use Rattle.expr.specs.declared.ranges.Ranges.{Ranges}
-use Rattle.expr.specs.declared.search.Solution.{Solution}
-use Rattle.expr.specs.declared.search.Solution.the-variants.{Found, Nothing}
-use Rattle.expr.specs.declared.search.System.{System}
+use Rattle.expr.specs.declared.range.Ranges.{Ranges}
+use Rattle.search.specs.declared.search.Solution.{Solution}
+use Rattle.search.specs.declared.search.Solution.the-variants.{Found, Nothing}
+use Rattle.search.specs.declared.search.System.{System}
 use lib.IntN.{zero-*ℤ}
 use Rattle.sheet.specs.declared.Guard.{Guard}
 use Rattle.zones.specs.Guarded.{ruleC, cutC, cutAll, guardedC}

@@ -3,15 +3,16 @@ use crate::zone::Zone;
 use expr::Expr;
 use expr::Inequality;
 use expr::Ranges;
-use expr::Solution;
-use expr::System;
 use expr::Test;
+use search::Solution;
+use search::System;
 ghost use mathlib.Core.Path.{_≡_};
 ghost use mathlib.Core.List.{[], _∷_, _++_, map};
 ghost use lib.ListN.{take};
 ghost use Prim.Native.Nat.{min};
-ghost use Rattle.expr.specs.Three.{exprs, affine, rangeList};
-ghost use Rattle.expr.specs.Valuations.{count};
+ghost use Rattle.search.specs.System.{exprs};
+ghost use Rattle.expr.specs.Three.{affine, rangeList};
+ghost use Rattle.search.specs.Valuations.{count};
 ghost use Rattle.zones.specs.Settled.{oppositeC, neverC, onC, settledC};
 
 // The verdict on a test: no (0), yes (1), a split by the test (3), a 25th inequality (8), a wide number (9).
@@ -61,14 +62,14 @@ fn system(zone: Zone, e: Expr) -> System
 pub fn held(b: Ranges, zone: Zone) -> usize
     ensures { λ n. ⌜ n ≡ count (rangeList b) (map affine (take (zone .count) (zone .ineqs))) ⌝ }
 {
-    expr::count(b, system(zone, Expr::ZERO))
+    search::count(b, system(zone, Expr::ZERO))
 }
 
 // Whether no valuation of the zone satisfies e.
 fn never(b: Ranges, zone: Zone, e: Expr) -> bool
     ensures { λ r. ⌜ r ≡ neverC b zone e ⌝ }
 {
-    let found = expr::first(b, system(zone, e));
+    let found = search::first(b, system(zone, e));
     match found {
         Solution::Found(_) => false,
         Solution::Nothing => true,

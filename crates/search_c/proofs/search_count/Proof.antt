@@ -3,7 +3,7 @@ use mathlib.Core.Path.{ap, _∙_}
 use native.Mathlib.Omega.{arith}
 use lib.IntN.{pos}
 use borrow.Author.Needs.{needs}
-use Rattle.expr.specs.Three.{exprs}
+use Rattle.search.specs.System.{exprs}
 use Rattle.search_c.proofs.Answers.{same, count-most, counts}
 use Rattle.search_c.proofs.search_count.Statement.{statement}
 use Rattle.search_c.proofs.search_count.Tie as tie

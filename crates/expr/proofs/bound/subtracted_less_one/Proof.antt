@@ -5,7 +5,7 @@ use mir.Syntax.{w32}
 use borrow.Author.Needs.{needs}
 use Rattle.expr.specs.Affine.{Affine, judge, LIMIT, minus, minusL, lessOne}
 use Rattle.expr.specs.Three.{inequality}
-use Rattle.expr.proofs.Bits.{heard}
+use Rattle.integer.specs.Bits.{heard}
 use Rattle.expr.proofs.Judge.{affine-path}
 use Rattle.expr.proofs.bound.subtracted_less_one.Statement.{statement}
 use Rattle.expr.proofs.bound.subtracted_less_one.Tie as tie

@@ -4,7 +4,7 @@ use lib.IntN.{pos, _-ℤ_}
 use mir.Facts.{sfits-widen, sfits-lit}
 use mir.Syntax.{w32, w64}
 use borrow.Author.Needs.{needs}
-use Rattle.expr.proofs.Bits.{passed, op-fits, op-is, op-back}
+use Rattle.integer.specs.Bits.{passed, op-fits, op-is, op-back}
 use Rattle.expr.proofs.Sizes.{difference-fits, less-one-fits}
 use Rattle.expr.proofs.number.difference_less_one.Statement.{statement}
 use Rattle.expr.proofs.number.difference_less_one.Tie as tie

@@ -5,8 +5,9 @@ use mir.Facts.{sfits-widen, sfits-lit}
 use mir.Syntax.{w32, w64}
 use mir.ValLaws.{toZ-ofZ}
 use borrow.Author.Needs.{needs}
-use Rattle.expr.proofs.Bits.{passed, held, op-fits, op-back}
-use Rattle.expr.proofs.Sizes.{negation-fits, zero-minus, within-yes, within-no}
+use Rattle.integer.specs.Split.{zero-minus}
+use Rattle.integer.specs.Bits.{passed, held, op-fits, op-back}
+use Rattle.expr.proofs.Sizes.{negation-fits, within-yes, within-no}
 use Rattle.expr.proofs.number.is_within.Statement.{statement}
 use Rattle.expr.proofs.number.is_within.Tie as tie
 

@@ -6,7 +6,7 @@ use lib.IntN.{ℤ}
 use Rattle.expr.specs.declared.number.Sums.{Sums}
 use borrow.Author.Needs.{needs}
 use Rattle.expr.specs.Three.{sums}
-use Rattle.expr.proofs.Bits.{held}
+use Rattle.integer.specs.Bits.{held}
 use Rattle.expr.proofs.Judge.{judge-yes, judge-no, expr-path, answers-is, answers-wide}
 use Rattle.expr.proofs.Sizes.{All, all-fits, told-all}
 use Rattle.expr.proofs.number.judged.Statement.{statement}

@@ -4,7 +4,7 @@ use mir.Facts.{sfits-widen}
 use mir.Syntax.{w16, w32, w64}
 use borrow.Author.Needs.{needs}
 use Rattle.integer.specs.Product.{product-fits}
-use Rattle.expr.proofs.Bits.{passed, op-fits, op-back}
+use Rattle.integer.specs.Bits.{passed, op-fits, op-back}
 use Rattle.expr.proofs.number.product.Statement.{statement}
 use Rattle.expr.proofs.number.product.Tie as tie
 

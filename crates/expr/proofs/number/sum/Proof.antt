@@ -3,7 +3,7 @@ use lib.IntN.{_+ℤ_}
 use mir.Facts.{sfits-widen}
 use mir.Syntax.{w32, w64}
 use borrow.Author.Needs.{needs}
-use Rattle.expr.proofs.Bits.{passed, op-fits, op-back}
+use Rattle.integer.specs.Bits.{passed, op-fits, op-back}
 use Rattle.expr.proofs.Sizes.{sum-fits}
 use Rattle.expr.proofs.number.sum.Statement.{statement}
 use Rattle.expr.proofs.number.sum.Tie as tie

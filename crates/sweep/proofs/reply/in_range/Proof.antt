@@ -1,5 +1,5 @@
 -- The two tests are those of `inRange`, one after the other.
-use Rattle.expr.proofs.Bits.{widened}
+use Rattle.integer.specs.Bits.{widened}
 use borrow.Author.Needs.{needs}
 use mir.Syntax.{w64}
 use mir.ValLaws.{toZ-ofZ}

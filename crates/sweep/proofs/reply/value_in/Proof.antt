@@ -1,5 +1,5 @@
 -- A number in the range fits as the range's ends do.
-use Rattle.expr.proofs.Bits.{held}
+use Rattle.integer.specs.Bits.{held}
 use lib.IntN.{ℤ}
 use mathlib.Core.Path.{subst, sym}
 use mir.Syntax.{w16, w64}

@@ -7,7 +7,7 @@ use mir.Val.{SFits}
 use borrow.Author.Needs.{needs}
 use Rattle.integer.specs.Product.{product-fits, product-range}
 use Rattle.expr.specs.Affine.{value, dot}
-use Rattle.expr.proofs.Bits.{passed, heard, op-fits, op-is, op-back}
+use Rattle.integer.specs.Bits.{passed, heard, op-fits, op-is, op-back}
 use Rattle.expr.proofs.Sizes.{two-fit, three-fit, four-fit, dot-end}
 use Rattle.expr.proofs.number.Expr.at.Statement.{statement}
 use Rattle.expr.proofs.number.Expr.at.Tie as tie

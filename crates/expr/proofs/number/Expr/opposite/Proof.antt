@@ -6,9 +6,9 @@ use mir.Facts.{sfits-lit}
 use borrow.Author.Needs.{needs}
 use Rattle.expr.specs.Affine.{Affine, opposite, judge}
 use Rattle.expr.specs.Three.{inequality, OPPOSITE}
-use Rattle.expr.proofs.Bits.{heard}
+use Rattle.integer.specs.Split.{zero-minus}
+use Rattle.integer.specs.Bits.{heard}
 use Rattle.expr.proofs.Judge.{affine-path}
-use Rattle.expr.proofs.Sizes.{zero-minus}
 use Rattle.expr.proofs.number.Expr.opposite.Statement.{statement}
 use Rattle.expr.proofs.number.Expr.opposite.Tie as tie
 

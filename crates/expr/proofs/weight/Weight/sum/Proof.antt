@@ -6,7 +6,7 @@ use mir.Val.{SFits, toZ, ofZ}
 use mir.ValLaws.{toZ-ofZ}
 use borrow.Author.Needs.{needs}
 use Rattle.expr.specs.Limit.{saturate}
-use Rattle.expr.proofs.Bits.{op-fits, op-back}
+use Rattle.integer.specs.Bits.{op-fits, op-back}
 use Rattle.expr.proofs.Limits.{weights-left, weights-right, weights-sum, saturate-within, most-fits, most-sum-fits}
 use Rattle.expr.proofs.weight.Weight.sum.Statement.{statement}
 use Rattle.expr.proofs.weight.Weight.sum.Tie as tie

@@ -1,0 +1,16 @@
+-- Laws of two tests that both hold.
+use mathlib.Core.Path.{_≡_, refl}
+use mathlib.Core.Bool.{Bool, true, false, _&&_}
+
+pub and-left : (b d : Bool) → (b && d) ≡ true → b ≡ true
+and-left true d h = refl
+and-left false d h = h
+
+pub and-right : (b d : Bool) → (b && d) ≡ true → d ≡ true
+and-right true d h = h
+and-right false true h = refl
+and-right false false h = h
+
+pub and-both : (b d : Bool) → b ≡ true → d ≡ true → (b && d) ≡ true
+and-both true d h k = k
+and-both false d h k = h

@@ -1,0 +1,22 @@
+-- A number of a narrower width fits the wider one.
+use mir.Facts.{sfits-widen}
+use mir.Syntax.{w64}
+use mir.Val.{SFits}
+use mir.ValLaws.{toZ-ofZ}
+use Rattle.numbers.proofs.wide.Statement.{statement}
+use Rattle.numbers.proofs.wide.Tie as tie
+
+cast-result : tie.Need-cast-result
+cast-result c =
+    let f = c .fits .x in
+    let g : SFits w64 (c .args .x) = sfits-widen tt f in
+    simp toZ-ofZ g
+
+returns : tie.Need-returns
+returns c =
+    let f = c .fits .x in
+    let g : SFits w64 (c .args .x) = sfits-widen tt f in
+    simp toZ-ofZ
+
+pub wide-spec : {M : Type 1} → statement M
+wide-spec = tie.close (tie.spec cast-result returns)

@@ -1,0 +1,91 @@
+-- The loop's invariant: what was counted, with what is left of the narrowed range, is the whole count.
+use mathlib.Core.Path.{_≡_, refl, sym, ap, _∙_}
+use mathlib.Core.List.{[], _∷_, map}
+use Prim.Native.Nat.{ℕ, _+_, _*_, _-_, _≤_}
+use native.Mathlib.Omega.{arith}
+use lib.IntN.{ℤ, pos, _+ℤ_}
+use borrow.Author.Needs.{needs}
+use Rattle.search.specs.Interval.{fix}
+use Rattle.search.specs.SearchLaws.{total, count-step}
+use Rattle.search.specs.System.{exprs}
+use Rattle.search.specs.Valuations.{count, width}
+use Rattle.expr.specs.declared.range.Range.{Range}
+use Rattle.search.proofs.Totals.{total-start, total-turn, total-done, count-at-q}
+use Rattle.search.proofs.search.count_q.Statement.{statement}
+use Rattle.search.proofs.search.count_q.Tie as tie
+
+abbrev Inv-loop : tie.InvT-loop
+Inv-loop b s range n total₀ i₀ total i =
+    (i ≤ n) × (n ≤ 65536) × (n ≡ width range) × (total ≤ i * 65536)
+    × (total + Rattle.search.specs.SearchLaws.total (λ (x : ℤ). count (b .r ∷ []) (map (fix x) (map (fix (b .p .low)) (exprs s)))) (range .low +ℤ pos i) (n - i) ≡ count (b .q ∷ b .r ∷ []) (map (fix (b .p .low)) (exprs s)))
+
+abbrev μ-loop : tie.MeasureT-loop
+μ-loop b s range n total₀ i₀ total i = n - i
+
+narrowed-q-requires : tie.Need-narrowed-q-requires Inv-loop μ-loop
+narrowed-q-requires c κs = search needs
+
+width-requires : tie.Need-width-requires Inv-loop μ-loop
+width-requires c κs = search needs
+
+loop-holds : tie.Need-loop-holds Inv-loop μ-loop
+loop-holds c =
+    let a = c .before .before .args in
+    let w = c .width .ensures in (
+      omega arith,
+      w .1,
+      w .0,
+      omega arith,
+      total-start (λ (x : ℤ). count (a .b .r ∷ []) (map (fix x) (map (fix (a .b .p .low)) (exprs (a .s))))) (c .before .narrowed-q .result .low) (c .width .result)
+          ∙ ap (λ (n : ℕ). total (λ (x : ℤ). count (a .b .r ∷ []) (map (fix x) (map (fix (a .b .p .low)) (exprs (a .s))))) (c .before .narrowed-q .result .low) n) (w .0)
+          ∙ ap (λ (r : Range). total (λ (x : ℤ). count (a .b .r ∷ []) (map (fix x) (map (fix (a .b .p .low)) (exprs (a .s))))) (r .low) (width r)) (c .before .narrowed-q .ensures)
+          ∙ sym (count-step (map (fix (a .b .p .low)) (exprs (a .s))) (a .b .q) (a .b .r ∷ [])),
+    )
+
+point-requires : tie.Need-point-requires Inv-loop μ-loop
+point-requires c κs = omega arith
+
+with-q-requires : tie.Need-with-q-requires Inv-loop μ-loop
+with-q-requires c κs = search needs
+
+count-r-requires : tie.Need-count-r-requires Inv-loop μ-loop
+count-r-requires c κs = search needs
+
+add-total : tie.Need-add-total Inv-loop μ-loop
+add-total c = omega (arith, c .count-r .ensures .1)
+
+add-i : tie.Need-add-i Inv-loop μ-loop
+add-i c = omega arith
+
+loop-less : tie.Need-loop-less Inv-loop μ-loop
+loop-less c = omega arith
+
+loop-again : tie.Need-loop-again Inv-loop μ-loop
+loop-again c =
+    let a = c .before .before .before .before .before .before .before .args in
+    let v = c .before .before .before .before .loop .inv in
+    let e = count-at-q (a .b) _ _ (c .before .before .before .before .before .before .narrowed-q .result) (c .before .before .before .before .loop .i) (a .s) (c .before .before .point .ensures) (c .before .with-q .ensures) _ (c .count-r .ensures .0) in
+    (omega arith, v .1, v .2, omega (arith, c .count-r .ensures .1), total-turn (λ (x : ℤ). count (a .b .r ∷ []) (map (fix x) (map (fix (a .b .p .low)) (exprs (a .s))))) (c .before .before .before .before .before .before .narrowed-q .result .low) (c .before .before .before .before .before .width .result) (c .before .before .before .before .loop .i) _ _ _ (omega arith) e (v .4))
+
+returns : tie.Need-returns Inv-loop μ-loop
+returns c =
+    let a = c .before .before .before .before .args in
+    (total-done (λ (x : ℤ). count (a .b .r ∷ []) (map (fix x) (map (fix (a .b .p .low)) (exprs (a .s))))) (c .before .before .before .narrowed-q .result .low) (c .before .before .width .result) (c .before .loop .i) _ _ (omega arith) (c .before .loop .inv .4), omega arith)
+
+pub count-q-spec : {M : Type 1} → statement M
+count-q-spec =
+    tie.close
+    (tie.spec
+    Inv-loop
+    μ-loop
+    narrowed-q-requires
+    width-requires
+    loop-holds
+    point-requires
+    with-q-requires
+    count-r-requires
+    add-total
+    add-i
+    loop-less
+    loop-again
+    returns)

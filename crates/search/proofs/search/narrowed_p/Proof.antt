@@ -1,0 +1,72 @@
+-- The loop's invariant: what is left of the inequalities narrows the range to what all of them do.
+use mathlib.Core.Path.{_≡_, refl}
+use mathlib.Core.List.{[], _∷_, map}
+use Prim.Native.Nat.{_≤_, _-_}
+use native.Mathlib.Omega.{arith}
+use borrow.Author.Needs.{needs}
+use lib.ListN.{length, take, drop, length-map}
+use Rattle.search.specs.Interval.{narrowed}
+use Rattle.expr.specs.Three.{affine}
+use Rattle.search.proofs.Loops.{size-is, narrow-turn, narrow-done}
+use Rattle.search.proofs.search.narrowed_p.Statement.{statement}
+use Rattle.search.proofs.search.narrowed_p.Tie as tie
+
+abbrev Inv-loop : tie.InvT-loop
+Inv-loop b s n range₀ i₀ range i =
+    (n ≤ 25) × (n ≡ length (take (s .count) (s .list)))
+    × (narrowed (map affine (drop i (take (s .count) (s .list)))) range (b .q ∷ b .r ∷ []) ≡ narrowed (map affine (take (s .count) (s .list))) range₀ (b .q ∷ b .r ∷ []))
+
+abbrev μ-loop : tie.MeasureT-loop
+μ-loop b s n range₀ i₀ range i = n - i
+
+size-requires : tie.Need-size-requires Inv-loop μ-loop
+size-requires c κs = search needs
+
+loop-holds : tie.Need-loop-holds Inv-loop μ-loop
+loop-holds c =
+    let a = c .before .before .args in
+    let l : length (a .t2 .list) ≡ 25 = simp length-map at (c .before .before .good .1 .0 .1 .1 .1 .0 .1 .0 .1) in
+    let h = size-is _ (a .t2 .count) (a .t2 .list) (c .before .size .ensures) l in
+    (h .0, h .1, refl)
+
+mul-e : tie.Need-mul-e Inv-loop μ-loop
+mul-e c = omega arith
+
+element-copy-out-e : tie.Need-element-copy-out-e Inv-loop μ-loop
+element-copy-out-e c = search needs
+
+narrow-p-requires : tie.Need-narrow-p-requires Inv-loop μ-loop
+narrow-p-requires c κs = search needs
+
+add-i : tie.Need-add-i Inv-loop μ-loop
+add-i c = omega arith
+
+loop-less : tie.Need-loop-less Inv-loop μ-loop
+loop-less c = omega arith
+
+loop-again : tie.Need-loop-again Inv-loop μ-loop
+loop-again c =
+    let a = c .before .before .before .before .before .before .args in
+    let v = c .before .before .before .loop .inv in
+    (v .0, v .1, narrow-turn affine (a .b .q ∷ a .b .r ∷ []) (a .t2 .list) (a .t2 .count) _ _ _ _ _ (omega arith) (v .2) (c .narrow-p .ensures))
+
+returns : tie.Need-returns Inv-loop μ-loop
+returns c =
+    let a = c .before .before .before .before .args in
+    narrow-done affine (a .b .q ∷ a .b .r ∷ []) (a .t2 .list) (a .t2 .count) (c .before .loop .i) _ _ (omega arith) (c .before .loop .inv .2)
+
+pub narrowed-p-spec : {M : Type 1} → statement M
+narrowed-p-spec =
+    tie.close
+    (tie.spec
+    Inv-loop
+    μ-loop
+    size-requires
+    loop-holds
+    mul-e
+    element-copy-out-e
+    narrow-p-requires
+    add-i
+    loop-less
+    loop-again
+    returns)

@@ -1,0 +1,8 @@
+-- What is read first: Valuations (satisfiability, for any number of parameters), Interval (an inequality's interval) and System (the code's
+-- records). The other files are laws of these.
+pub mod Interval
+pub mod IntervalLaws
+pub mod Once
+pub mod SearchLaws
+pub mod System
+pub mod Valuations
