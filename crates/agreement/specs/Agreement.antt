@@ -22,7 +22,7 @@ use Rattle.expr.specs.Limit.{Limit, atV}
 use Rattle.expr.specs.Three.{affine, limitOf}
 use Rattle.search.specs.Valuations.{satisfies}
 use Rattle.expr.specs.declared.range.Range.{Range}
-use Rattle.fields.specs.declared.Refusal.the-variants.{Nothing}
+use Rattle.contents.specs.declared.Refusal.the-variants.{Nothing}
 use Rattle.integer.specs.Order.{leZ-true}
 use Rattle.sheet.specs.Accepted.{read-well-formed}
 use Rattle.sheet.specs.File.{readOf}

@@ -4,9 +4,9 @@ use mathlib.Core.List.{List}
 use Prim.Native.Nat.{ℕ, _<_, _≤_, _^_}
 use native.Mathlib.Omega.{arith}
 use lib.IntN.{ℤ}
-use Rattle.fields.specs.declared.Refusal.{Refusal}
-use Rattle.fields.specs.declared.Refusal.the-variants.{Nothing, Size, Contents, Body, Route}
-use Rattle.fields.specs.Refusals.{numberOf}
+use Rattle.contents.specs.declared.Refusal.{Refusal}
+use Rattle.contents.specs.declared.Refusal.the-variants.{Nothing, Size, Contents, Body, Route}
+use Rattle.contents.specs.Refusals.{numberOf}
 use Rattle.sweep.specs.Reply.{answerNumber, replyOf}
 use Rattle.sweep.specs.declared.reply.Answer.{Answer}
 use Rattle.sweep.specs.declared.reply.Answer.the-variants as answer

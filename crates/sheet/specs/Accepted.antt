@@ -1,22 +1,20 @@
 -- Every sheet that is read is well formed: the theorem `read-well-formed`, from the definitions alone. With a refusal the sheet is blank.
-use Prim.Native.Nat.{ℕ, _+_}
-use mathlib.Core.Path.{_≡_, refl, ap, _∙_}
+use Prim.Native.Nat.{ℕ, _+_, _≤_}
+use mathlib.Core.Path.{_≡_, refl, sym, subst, ap, _∙_}
 use mathlib.Core.List.{List}
 use mathlib.Core.Bool.{Bool, true, false, not}
 use native.Mathlib.Omega.{arith}
 use lib.ListN.{length}
-use Rattle.fields.specs.declared.Contents.{Contents}
-use Rattle.fields.specs.declared.Refusal.{Refusal}
-use Rattle.fields.specs.declared.Refusal.the-variants.{Nothing, Size, Body, Route}
-use Rattle.fields.specs.declared.Refusal.the-variants as refusal
+use Rattle.contents.specs.declared.Contents.{Contents}
 use Rattle.cursor.specs.Cursor.{pick, went, judged}
-use Rattle.fields.specs.Contents.{sized, contentsOf}
+use Rattle.contents.specs.Contents.{sized, contentsOf}
 use Rattle.sheet.specs.declared.Sheet.{Sheet}
 use Rattle.sheet.specs.declared.SheetAt.{SheetAt}
 use Rattle.sheet.specs.declared.Reading.{Reading}
+use Rattle.answers.specs.Numbers.{numbered}
 use Rattle.sheet.specs.Bodies.{parametersAt, locationsAt, transitionsAt, routeAt}
 use Rattle.sheet.specs.Route.{linksOf}
-use Rattle.sheet.specs.File.{blankSheet, refusedBy, bodiesOf, judgedRoute, judgedBodies, readOf}
+use Rattle.sheet.specs.File.{blankSheet, Read, readAs, refusedBy, bodiesOf, judgedRoute, judgedBodies, readOf}
 use Rattle.sheet.specs.WellFormed.{WellFormed}
 use Rattle.sheet.specs.BodyLaws.{parametersAt-right, locationsAt-right, transitionsAt-right, routeAt-right}
 use Rattle.sheet.specs.RouteLaws.{links-right}
@@ -49,85 +47,70 @@ bodies-right s contents h l =
       links = links-right (three .list) (four .list) (four .count) l (h4 .1 .few);
     }
 
--- a reading that is not refused came by the first way
+-- a file that is not refused
+abbrev pub Fine : Read → Type 0
+Fine x = x .answer .number ≡ 0
+
+-- it came by the first way
 accepted-cases :
-    (b : Bool) (x : Reading) (r : Refusal) → (r ≡ Nothing → ⊥) → pick b x (refusedBy r) .refusal ≡ Nothing →
-    (b ≡ true) × ((x .refusal ≡ Nothing) × (pick b x (refusedBy r) ≡ x))
+    (b : Bool) (x : Read) (n at : ℕ) → 1 ≤ n → Fine (pick b x (refusedBy n at)) →
+    (b ≡ true) × (Fine x × (pick b x (refusedBy n at) ≡ x))
 unfolding refusedBy
-accepted-cases true x r n h = (refl, (h, refl))
-accepted-cases false x r n h = absurd (n h)
+accepted-cases true x n at l h = (refl, (h, refl))
+accepted-cases false x n at l h = absurd (omega arith)
 
 route-accepted :
-    (third : ℕ) (sheet : Sheet) → judgedRoute third sheet .refusal ≡ Nothing →
+    (third : ℕ) (sheet : Sheet) → Fine (judgedRoute third sheet) →
     (linksOf (sheet .transition) (sheet .route) (sheet .moves) .ok ≡ true) × (judgedRoute third sheet .sheet ≡ sheet)
 unfolding judgedRoute
 route-accepted third sheet h =
     let link = linksOf (sheet .transition) (sheet .route) (sheet .moves) in
-    let a =
-    accepted-cases (link .ok) (record { refusal = Nothing; sheet = sheet }) (Route (third + 1 + link .index))
-    (λ e.
-    let z : _≡_ {A = ℕ} 0 1 = cc in
-    omega arith)
-    h in
-    (a .0, ap (λ (x : Reading). x .sheet) (a .1 .1))
+    let a = accepted-cases (link .ok) (record { answer = numbered 0 0; sheet = sheet }) 5 (third + 1 + link .index) (omega arith) h in
+    (a .0, ap (λ (x : Read). x .sheet) (a .1 .1))
 
 bodies-accepted :
-    (third : ℕ) (bodies : SheetAt) → judgedBodies third bodies .refusal ≡ Nothing →
+    (third : ℕ) (bodies : SheetAt) → Fine (judgedBodies third bodies) →
     (bodies .spot .ok ≡ true) ×
     ((linksOf (bodies .sheet .transition) (bodies .sheet .route) (bodies .sheet .moves) .ok ≡ true) ×
     (judgedBodies third bodies .sheet ≡ bodies .sheet))
 unfolding judgedBodies
 bodies-accepted third bodies h =
-    let a =
-    accepted-cases (bodies .spot .ok) (judgedRoute third (bodies .sheet)) (Body (bodies .spot .at))
-    (λ e.
-    let z : _≡_ {A = ℕ} 0 1 = cc in
-    omega arith)
-    h in
+    let a = accepted-cases (bodies .spot .ok) (judgedRoute third (bodies .sheet)) 4 (bodies .spot .at) (omega arith) h in
     let b = route-accepted third (bodies .sheet) (a .1 .0) in
-    (a .0, (b .0, ap (λ (x : Reading). x .sheet) (a .1 .1) ∙ b .1))
+    (a .0, (b .0, ap (λ (x : Read). x .sheet) (a .1 .1) ∙ b .1))
 
 refused-cases :
-    (b : Bool) (x : Reading) (r : Refusal) → ((x .refusal ≡ Nothing → ⊥) → x .sheet ≡ blankSheet) →
-    (pick b x (refusedBy r) .refusal ≡ Nothing → ⊥) → pick b x (refusedBy r) .sheet ≡ blankSheet
+    (b : Bool) (x : Read) (n at : ℕ) → ((Fine x → ⊥) → x .sheet ≡ blankSheet) →
+    (Fine (pick b x (refusedBy n at)) → ⊥) → pick b x (refusedBy n at) .sheet ≡ blankSheet
 unfolding refusedBy
-refused-cases true x r f n = f n
-refused-cases false x r f n = refl
+refused-cases true x n at f g = f g
+refused-cases false x n at f g = refl
 
 -- with a refusal the sheet is blank
-pub read-refused : (s : List ℕ) → (readOf s .refusal ≡ Nothing → ⊥) → readOf s .sheet ≡ blankSheet
+pub read-refused : (s : List ℕ) → (Fine (readOf s) → ⊥) → readOf s .sheet ≡ blankSheet
 unfolding readOf judgedBodies judgedRoute
 read-refused s =
     let contents = contentsOf s in
     let bodies = bodiesOf s contents in
     let link = linksOf (bodies .sheet .transition) (bodies .sheet .route) (bodies .sheet .moves) in
-    refused-cases (sized s) _ Size
-    (refused-cases (contents .spot .ok) _ (refusal.Contents (contents .spot .at))
-    (refused-cases (bodies .spot .ok) _ (Body (bodies .spot .at))
-    (refused-cases (link .ok) (record { refusal = Nothing; sheet = bodies .sheet }) (Route (contents .third + 1 + link .index))
+    refused-cases (sized s) _ 2 0
+    (refused-cases (contents .spot .ok) _ 3 (contents .spot .at)
+    (refused-cases (bodies .spot .ok) _ 4 (bodies .spot .at)
+    (refused-cases (link .ok) (record { answer = numbered 0 0; sheet = bodies .sheet }) 5 (contents .third + 1 + link .index)
     (λ n. absurd (n refl)))))
 
 -- what `read` gives without a refusal is well formed
-pub read-well-formed : (s : List ℕ) → readOf s .refusal ≡ Nothing → WellFormed (readOf s .sheet)
+pub read-well-formed : (s : List ℕ) → Fine (readOf s) → WellFormed (readOf s .sheet)
 unfolding readOf
 read-well-formed s h =
     let contents = contentsOf s in
     let judged = judgedBodies (contents .third) (bodiesOf s contents) in
-    let a =
-    accepted-cases (sized s) (pick (contents .spot .ok) judged (refusedBy (refusal.Contents (contents .spot .at)))) Size
-    (λ e.
-    let z : _≡_ {A = ℕ} 0 1 = cc in
-    omega arith)
-    h in
-    let b =
-    accepted-cases (contents .spot .ok) judged (refusal.Contents (contents .spot .at))
-    (λ e.
-    let z : _≡_ {A = ℕ} 0 1 = cc in
-    omega arith)
-    (a .1 .0) in
+    let a = accepted-cases (sized s) (pick (contents .spot .ok) judged (refusedBy 3 (contents .spot .at))) 2 0 (omega arith) h in
+    let b = accepted-cases (contents .spot .ok) judged 3 (contents .spot .at) (omega arith) (a .1 .0) in
     let d = bodies-accepted (contents .third) (bodiesOf s contents) (b .1 .0) in
     rw (a .1 .1, b .1 .1, d .1 .1) (bodies-right s contents (d .0) (d .1 .0))
 
 -- the same of a result of `read`, by its contract
-pub reading-well-formed : (s : List ℕ) (reading : Reading) → reading ≡ readOf s → reading .refusal ≡ Nothing → WellFormed (reading .sheet)
-reading-well-formed s reading e h = rw e (read-well-formed s (rw e at h))
+pub reading-well-formed : (s : List ℕ) (reading : Reading) → readAs reading ≡ readOf s → Fine (readAs reading) → WellFormed (reading .sheet)
+reading-well-formed s reading e h =
+    subst WellFormed (sym (ap (λ (x : Read). x .sheet) e)) (read-well-formed s (subst Fine e h))

@@ -9,7 +9,7 @@ use lib.Dec.{ltb, leb}
 use borrow.Author.Tests.{ltb-true, leb-true}
 use Rattle.cursor.specs.declared.Spot.{Spot}
 use Rattle.cursor.specs.Cursor.{pick, both, within, byteTaken, signedTaken, byteField, signedField}
-use Rattle.fields.specs.Laws.{both-true, within-true, judged-right, byteTaken-ok, signedTaken-ok, finished-ok, byteField-right, signedField-right}
+use Rattle.contents.specs.Laws.{both-true, within-true, judged-right, byteTaken-ok, signedTaken-ok, finished-ok, byteField-right, signedField-right}
 use Rattle.sheet.specs.declared.Location.{Location}
 use Rattle.sheet.specs.declared.Transition.{Transition}
 use Rattle.sheet.specs.declared.bodies.RangeAt.{RangeAt}

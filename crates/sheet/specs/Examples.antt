@@ -7,11 +7,10 @@ use lib.ListN.{set, take, replicate}
 use lib.IntN.{pos, negsuc}
 use Rattle.expr.specs.declared.number.Expr.{Expr}
 use Rattle.expr.specs.declared.bound.Bound.{Bound}
-use Rattle.fields.specs.declared.Refusal.the-variants.{Nothing, Size, Contents, Body, Route}
+use Rattle.answers.specs.Numbers.{numbered}
 use Rattle.cursor.specs.Cursor.{shifted, judged, byteTaken, wordTaken, signedTaken, byteField, wordField, signedField, finished, turns}
-use Rattle.fields.specs.Contents.{sized, entryField, headOf, oneOf, firstOf, twoOf, secondOf, threeOf, thirdOf, fourOf, contentsOf}
+use Rattle.contents.specs.Contents.{sized, entryField, headOf, oneOf, firstOf, twoOf, secondOf, threeOf, thirdOf, fourOf, contentsOf}
 use Rattle.sheet.specs.declared.Guard.{Guard}
-use Rattle.sheet.specs.declared.Reading.{Reading}
 use Rattle.sheet.specs.declared.Sheet.{Sheet}
 use Rattle.sheet.specs.Guards.{signedOf, exprOf, boundOf, oneZero, rightField, coefficientField, guardAt, blankGuard, blankGuards, guardStep, guardsAt}
 use Rattle.sheet.specs.Bodies.{rangeOf, highestRight, highestField, rangeAt, parametersAt, blankLocation, blankLocations, locationStep, locationsRead, locationsAt, belowField, resetsRight, resetsField, transitionAt, blankTransition, blankTransitions, transitionStep, transitionsRead, transitionsAt, routeStep, routeRead, routeAt}
@@ -75,18 +74,18 @@ bare = 1 ∷ 4 ∷ 1 ∷ 22 ∷ 0 ∷ 0 ∷ 0 ∷ 2 ∷ 22 ∷ 0 ∷ 0 ∷ 0 ∷
 
 -- each file with what reading it gives
 pub record Examples : Type 0 where
-  pub sheet-a : readOf sheetA ≡ record { refusal = Nothing; sheet = readA }
-  pub range-63 : readOf (set sheetA 25 63) .refusal ≡ Nothing
-  pub range-64 : readOf (set sheetA 25 64) .refusal ≡ Body 25
-  pub bytes-21 : readOf (take 21 sheetA) .refusal ≡ Size
-  pub bytes-22 : readOf bare .refusal ≡ Body 22
-  pub version-2 : readOf (set sheetA 0 2) .refusal ≡ Contents 0
-  pub last-byte-lost : readOf (take 61 sheetA) .refusal ≡ Contents 20
-  pub byte-left-over : readOf (set sheetA 22 0) .refusal ≡ Body 23
-  pub both-watches : readOf (set sheetA 31 1) .refusal ≡ Body 31
-  pub no-watch : readOf (set sheetA 30 0) .refusal ≡ Body 31
-  pub not-from-stage-0 : readOf (set sheetA 44 1) .refusal ≡ Route 61
-  pub no-such-move : readOf (set sheetA 61 1) .refusal ≡ Body 61
+  pub sheet-a : readOf sheetA ≡ record { answer = numbered 0 0; sheet = readA }
+  pub range-63 : readOf (set sheetA 25 63) .answer ≡ numbered 0 0
+  pub range-64 : readOf (set sheetA 25 64) .answer ≡ numbered 4 25
+  pub bytes-21 : readOf (take 21 sheetA) .answer ≡ numbered 2 0
+  pub bytes-22 : readOf bare .answer ≡ numbered 4 22
+  pub version-2 : readOf (set sheetA 0 2) .answer ≡ numbered 3 0
+  pub last-byte-lost : readOf (take 61 sheetA) .answer ≡ numbered 3 20
+  pub byte-left-over : readOf (set sheetA 22 0) .answer ≡ numbered 4 23
+  pub both-watches : readOf (set sheetA 31 1) .answer ≡ numbered 4 31
+  pub no-watch : readOf (set sheetA 30 0) .answer ≡ numbered 4 31
+  pub not-from-stage-0 : readOf (set sheetA 44 1) .answer ≡ numbered 5 61
+  pub no-such-move : readOf (set sheetA 61 1) .answer ≡ numbered 4 61
 
 pub examples : Examples
 unfolding sheetA contentsA limitP limitThree guardP guardThree readA bare shifted judged byteTaken wordTaken signedTaken byteField wordField signedField finished turns sized entryField headOf oneOf firstOf twoOf secondOf threeOf thirdOf fourOf contentsOf signedOf exprOf boundOf oneZero rightField coefficientField guardAt blankGuard blankGuards guardStep guardsAt rangeOf highestRight highestField rangeAt parametersAt blankLocation blankLocations locationStep locationsRead locationsAt belowField resetsRight resetsField transitionAt blankTransition blankTransitions transitionStep transitionsRead transitionsAt routeStep routeRead routeAt endsAt linkStep linksOf blankSheet refusedBy bodiesOf judgedRoute judgedBodies readOf

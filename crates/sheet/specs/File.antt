@@ -5,12 +5,10 @@ use lib.ListN.{length, replicate}
 use lib.IntN.{pos}
 use Rattle.expr.specs.declared.range.Range.{Range}
 use Rattle.expr.specs.declared.range.Ranges.{Ranges}
-use Rattle.fields.specs.declared.Contents.{Contents}
-use Rattle.fields.specs.declared.Refusal.{Refusal}
-use Rattle.fields.specs.declared.Refusal.the-variants.{Nothing, Size, Body, Route}
-use Rattle.fields.specs.declared.Refusal.the-variants as refusal
+use Rattle.answers.specs.Numbers.{Numbered, numbered, checkedAs}
+use Rattle.contents.specs.declared.Contents.{Contents}
 use Rattle.cursor.specs.Cursor.{pick, went}
-use Rattle.fields.specs.Contents.{sized, contentsOf}
+use Rattle.contents.specs.Contents.{sized, contentsOf}
 use Rattle.sheet.specs.declared.Sheet.{Sheet}
 use Rattle.sheet.specs.declared.SheetAt.{SheetAt}
 use Rattle.sheet.specs.declared.Reading.{Reading}
@@ -36,9 +34,18 @@ blankSheet =
       route = replicate 32 0;
     }
 
--- a refusal, with a blank sheet
-unfoldable pub refusedBy : Refusal → Reading
-refusedBy refusal = record { refusal = refusal; sheet = blankSheet }
+-- what reading a file gives, in the paper's numbers: 0 and the sheet, or the refusal and a blank sheet
+pub record Read : Type 0 where
+  pub answer : Numbered
+  pub sheet : Sheet
+
+-- the code's record of it
+abbrev pub readAs : Reading → Read
+readAs r = record { answer = checkedAs (r .checked); sheet = r .sheet }
+
+-- refused by a number at a place
+unfoldable pub refusedBy : ℕ → ℕ → Read
+refusedBy n at = record { answer = numbered n at; sheet = blankSheet }
 
 -- the four bodies, one after another: body 1 from byte 22 to its end, and so on; body 4 to the file's end
 unfoldable pub bodiesOf : List ℕ → Contents → SheetAt
@@ -64,20 +71,20 @@ bodiesOf s contents =
     }
 
 -- refusal 5, where body 4 starts at `third`: route byte i is at third + 1 + i; else the sheet
-unfoldable pub judgedRoute : ℕ → Sheet → Reading
+unfoldable pub judgedRoute : ℕ → Sheet → Read
 judgedRoute third sheet =
     let link = linksOf (sheet .transition) (sheet .route) (sheet .moves) in
-    pick (link .ok) (record { refusal = Nothing; sheet = sheet }) (refusedBy (Route (third + 1 + link .index)))
+    pick (link .ok) (record { answer = numbered 0 0; sheet = sheet }) (refusedBy 5 (third + 1 + link .index))
 
 -- refusal 4, else what follows it
-unfoldable pub judgedBodies : ℕ → SheetAt → Reading
-judgedBodies third bodies = pick (bodies .spot .ok) (judgedRoute third (bodies .sheet)) (refusedBy (Body (bodies .spot .at)))
+unfoldable pub judgedBodies : ℕ → SheetAt → Read
+judgedBodies third bodies = pick (bodies .spot .ok) (judgedRoute third (bodies .sheet)) (refusedBy 4 (bodies .spot .at))
 
 -- what reading a file gives: refusal 2, 3, 4 or 5, the first that there is ground for; else the sheet
-unfoldable pub readOf : List ℕ → Reading
+unfoldable pub readOf : List ℕ → Read
 readOf s =
     pick (sized s)
     (pick (contentsOf s .spot .ok)
     (judgedBodies (contentsOf s .third) (bodiesOf s (contentsOf s)))
-    (refusedBy (refusal.Contents (contentsOf s .spot .at))))
-    (refusedBy Size)
+    (refusedBy 3 (contentsOf s .spot .at)))
+    (refusedBy 2 0)

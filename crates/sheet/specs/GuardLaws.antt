@@ -10,7 +10,7 @@ use lib.Dec.{ltb, leb, eqb}
 use borrow.Author.Tests.{ltb-true, leb-true, eqb-true, eqb-false}
 use Rattle.cursor.specs.declared.Spot.{Spot}
 use Rattle.cursor.specs.Cursor.{pick, both, byteTaken, byteField, signedField}
-use Rattle.fields.specs.Laws.{no, both-true, judged-right, byteTaken-ok, byteField-right, signedField-right}
+use Rattle.contents.specs.Laws.{no, both-true, judged-right, byteTaken-ok, byteField-right, signedField-right}
 use Rattle.sheet.specs.declared.Guard.{Guard}
 use Rattle.sheet.specs.declared.guards.GuardsAt.{GuardsAt}
 use Rattle.sheet.specs.Guards.{exprOf, boundOf, oneZero, rightField, coefficientField, guardAt, blankGuard, blankGuards, guardStep, guardsAt}

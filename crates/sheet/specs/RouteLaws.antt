@@ -8,7 +8,7 @@ use lib.ListN.{getD}
 use lib.Dec.{ltb, eqb}
 use borrow.Author.Tests.{ltb-true, ltb-false, eqb-true, eqb-false}
 use Rattle.cursor.specs.Cursor.{pick, turns}
-use Rattle.fields.specs.Laws.{no}
+use Rattle.contents.specs.Laws.{no}
 use Rattle.sheet.specs.declared.Transition.{Transition}
 use Rattle.sheet.specs.declared.route.Link.{Link}
 use Rattle.sheet.specs.Route.{noTransition, endsAt, linkStep, linksOf}

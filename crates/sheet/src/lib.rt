@@ -8,22 +8,24 @@ mod guards;
 mod route;
 
 ghost use mathlib.Core.Path.{_≡_};
-ghost use Rattle.sheet.specs.File.{blankSheet, refusedBy, bodiesOf, judgedRoute, judgedBodies, readOf};
+ghost use Rattle.sheet.specs.File.{blankSheet, bodiesOf, judgedRoute, judgedBodies, readOf, readAs};
+ghost use Rattle.answers.specs.Numbers.{refusalAs};
+use answers::file::Checked;
+use answers::file::Refusal;
 use bodies::blank_locations;
 use bodies::blank_transitions;
 use bodies::locations_at;
 use bodies::parameters_at;
 use bodies::route_at;
 use bodies::transitions_at;
+use contents::Contents;
+use contents::entries::contents_of;
+use contents::entries::sized;
 use cursor::Spot;
 use cursor::went;
 use expr::Bound;
 use expr::Range;
 use expr::Ranges;
-use fields::Contents;
-use fields::Refusal;
-use fields::entries::contents_of;
-use fields::entries::sized;
 use route::links_of;
 
 // A guard (paper: limit): clock `left` - clock `right` is at most, or below, the bound's
@@ -63,10 +65,9 @@ pub struct Sheet {
     pub route: [u8; 32],
 }
 
-// What reading a file gives: why it is refused, or Refusal::Nothing and its sheet. With a refusal
-// the sheet is blank.
+// What reading a file gives: that it is fine, and its sheet; or why it is refused, and a blank sheet.
 pub struct Reading {
-    pub refusal: Refusal,
+    pub checked: Checked,
     pub sheet: Sheet,
 }
 
@@ -100,10 +101,13 @@ fn blank_sheet() -> Sheet
 
 // The reading of a file that is refused.
 fn refused(refusal: Refusal) -> Reading
-    ensures { λ r. ⌜ r ≡ refusedBy refusal ⌝ }
+    ensures { λ r. ⌜ readAs r ≡ record { answer = refusalAs refusal; sheet = blankSheet } ⌝ }
 {
     let sheet = blank_sheet();
-    Reading { refusal, sheet }
+    Reading {
+        checked: Checked::Refused(refusal),
+        sheet,
+    }
 }
 
 // The four bodies of a file, read in order.
@@ -144,14 +148,14 @@ fn bodies_of(file: &[u8], contents: Contents) -> SheetAt
 
 // The reading of a file whose body 4 starts at `third`: its fields are right, its route is judged.
 fn judged_route(third: u32, sheet: Sheet) -> Reading
-    ensures { λ r. ⌜ r ≡ judgedRoute third sheet ⌝ }
+    ensures { λ r. ⌜ readAs r ≡ judgedRoute third sheet ⌝ }
 {
     let transition = sheet.transition;
     let route = sheet.route;
     let link = links_of(transition, route, sheet.moves);
     if link.ok {
         Reading {
-            refusal: Refusal::Nothing,
+            checked: Checked::Fine,
             sheet,
         }
     } else {
@@ -161,7 +165,7 @@ fn judged_route(third: u32, sheet: Sheet) -> Reading
 
 // The reading of a file whose body 4 starts at `third`: its bodies have been read.
 fn judged_bodies(third: u32, bodies: SheetAt) -> Reading
-    ensures { λ r. ⌜ r ≡ judgedBodies third bodies ⌝ }
+    ensures { λ r. ⌜ readAs r ≡ judgedBodies third bodies ⌝ }
 {
     let spot = bodies.spot;
     if spot.ok {
@@ -173,7 +177,7 @@ fn judged_bodies(third: u32, bodies: SheetAt) -> Reading
 
 // The sheet of a file, or why it is refused.
 pub fn read(file: &[u8]) -> Reading
-    ensures { λ r. ⌜ r ≡ readOf (now (file .entry)) ⌝ }
+    ensures { λ r. ⌜ readAs r ≡ readOf (now (file .entry)) ⌝ }
 {
     let contents = contents_of(file);
     let spot = contents.spot;

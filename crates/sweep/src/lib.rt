@@ -21,7 +21,7 @@ pub fn sweep(file: &[u8], p: i64, q: i64, r: i64) -> Reply
     let reading = sheet::read(file);
     let refusal = reading.refusal;
     let s = reading.sheet;
-    if fields::number(refusal) == 0 {
+    if contents::number(refusal) == 0 {
         return reply::reply_for(s, p, q, r);
     }
     reply::blank(Answer::Refused(refusal))

@@ -1,10 +1,10 @@
 // What Sweep answers for a sheet and three numbers.
 use crate::matrix;
 use crate::walk;
+use contents::Refusal;
 use expr::Range;
 use expr::Valuation;
 use expr::Weight;
-use fields::Refusal;
 use sheet::Sheet;
 ghost use mathlib.Core.Path.{_≡_};
 ghost use lib.IntN.{ℤ};
@@ -39,7 +39,7 @@ pub fn number(answer: Answer) -> usize
     match answer {
         Answer::Run => 0,
         Answer::Void => 1,
-        Answer::Refused(refusal) => fields::number(refusal),
+        Answer::Refused(refusal) => contents::number(refusal),
         Answer::Outside(_) => 6,
     }
 }
@@ -51,7 +51,7 @@ pub fn place(answer: Answer) -> usize
     match answer {
         Answer::Run => 0,
         Answer::Void => 0,
-        Answer::Refused(refusal) => fields::place(refusal),
+        Answer::Refused(refusal) => contents::place(refusal),
         Answer::Outside(index) => index,
     }
 }

@@ -38,12 +38,12 @@ fn print_refusal(number: usize, place: usize) {
 
 // Writes what reading a file gave.
 fn print_reading(reading: Reading) {
-    let refusal = reading.refusal;
-    let number = fields::number(refusal);
+    let checked = reading.checked;
+    let number = answers::file::number(checked);
     if number == 0 {
         print_sheet(reading.sheet);
     } else {
-        print_refusal(number, fields::place(refusal));
+        print_refusal(number, answers::file::place(checked));
     }
 }
 

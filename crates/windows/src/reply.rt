@@ -1,7 +1,7 @@
 // What Windows answers, and the zones by value.
 use crate::route;
+use contents::Refusal;
 use expr::Ranges;
-use fields::Refusal;
 use sheet::Sheet;
 use zones::Zone;
 use zones::Zones;
@@ -46,7 +46,7 @@ pub fn number(answer: Answer) -> usize
     match answer {
         Answer::Listed(_) => 0,
         Answer::Small => 1,
-        Answer::Refused(refusal) => fields::number(refusal),
+        Answer::Refused(refusal) => contents::number(refusal),
         Answer::Zones(_) => 7,
         Answer::Inequalities(_) => 8,
         Answer::Numbers(_) => 9,
@@ -60,7 +60,7 @@ pub fn place(answer: Answer) -> usize
     match answer {
         Answer::Listed(_) => 0,
         Answer::Small => 0,
-        Answer::Refused(refusal) => fields::place(refusal),
+        Answer::Refused(refusal) => contents::place(refusal),
         Answer::Zones(visit) => visit,
         Answer::Inequalities(visit) => visit,
         Answer::Numbers(visit) => visit,
@@ -156,7 +156,7 @@ pub(crate) fn work_for(file: &[u8], places: usize) -> Worked
     let reading = sheet::read(file);
     let refusal = reading.refusal;
     let s = reading.sheet;
-    if fields::number(refusal) == 0 {
+    if contents::number(refusal) == 0 {
         return cut_sheet(s);
     }
     blank(Answer::Refused(refusal))

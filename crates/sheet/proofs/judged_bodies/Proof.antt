@@ -1,5 +1,5 @@
 -- `judged_bodies` meets its contract: the test on the way picks the definition's case. Assumes nothing.
-use Rattle.sheet.specs.File.{judgedBodies}
+use Rattle.sheet.specs.File.{judgedBodies, refusedBy}
 use borrow.Author.Needs.{needs}
 use Rattle.sheet.proofs.judged_bodies.Statement.{statement}
 use Rattle.sheet.proofs.judged_bodies.Tie as tie
@@ -11,11 +11,11 @@ refused-requires : tie.Need-refused-requires
 refused-requires c κs = search needs
 
 returns : tie.Need-returns
-unfolding judgedBodies
+unfolding judgedBodies refusedBy
 returns c = simp (c .before .if1 .taken) (c .judged-route .ensures)
 
 returns-2 : tie.Need-returns-2
-unfolding judgedBodies
+unfolding judgedBodies refusedBy
 returns-2 c = simp (c .before .if1 .left) (c .refused .ensures)
 
 pub judged-bodies-spec : {M : Type 1} → statement M

@@ -1,5 +1,5 @@
 -- `judged_route` meets its contract: the test on the way picks the definition's case. Assumes nothing.
-use Rattle.sheet.specs.File.{judgedRoute}
+use Rattle.sheet.specs.File.{judgedRoute, refusedBy}
 use borrow.Author.Needs.{needs}
 use Rattle.sheet.proofs.judged_route.Statement.{statement}
 use Rattle.sheet.proofs.judged_route.Tie as tie
@@ -20,13 +20,13 @@ refused-requires : tie.Need-refused-requires
 refused-requires c κs = search needs
 
 returns : tie.Need-returns
-unfolding judgedRoute
+unfolding judgedRoute refusedBy
 returns c =
     let h = rw (c .before .links-of .ensures) at (c .if1 .taken) in
     simp h
 
 returns-2 : tie.Need-returns-2
-unfolding judgedRoute
+unfolding judgedRoute refusedBy
 returns-2 c =
     let e = c .before .before .before .links-of .ensures in
     let h = rw e at (c .before .before .if1 .left) in

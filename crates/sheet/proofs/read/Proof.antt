@@ -1,5 +1,5 @@
 -- `read` meets its contract: the tests on the way pick the definition's case. Assumes nothing.
-use Rattle.sheet.specs.File.{readOf}
+use Rattle.sheet.specs.File.{readOf, refusedBy}
 use borrow.Author.Needs.{needs}
 use Rattle.sheet.proofs.read.Statement.{statement}
 use Rattle.sheet.proofs.read.Tie as tie
@@ -23,7 +23,7 @@ refused-requires-2 : tie.Need-refused-requires-2
 refused-requires-2 c κs = search needs
 
 returns : tie.Need-returns
-unfolding readOf
+unfolding readOf refusedBy
 returns c =
     let contents = c .before .before .before .before .before .before .contents-of .ensures in
     let o = rw contents at (c .before .before .if2 .taken) in
@@ -31,7 +31,7 @@ returns c =
     simp (z, o, c .judged-bodies .ensures, c .before .bodies-of .ensures, contents)
 
 returns-2 : tie.Need-returns-2
-unfolding readOf
+unfolding readOf refusedBy
 returns-2 c =
     let contents = c .before .before .before .before .before .contents-of .ensures in
     let o = rw contents at (c .before .if2 .left) in
@@ -39,7 +39,7 @@ returns-2 c =
     simp (z, o, c .refused .ensures, contents)
 
 returns-3 : tie.Need-returns-3
-unfolding readOf
+unfolding readOf refusedBy
 returns-3 c =
     let z = rw (c .before .before .sized .ensures) at (c .before .if1 .left) in
     simp (z, c .refused2 .ensures)

@@ -1,5 +1,4 @@
 -- `refused` meets its contract: it is the definition's record. Assumes nothing.
-use Rattle.sheet.specs.File.{refusedBy}
 use borrow.Author.Needs.{needs}
 use Rattle.sheet.proofs.refused.Statement.{statement}
 use Rattle.sheet.proofs.refused.Tie as tie
@@ -8,7 +7,6 @@ blank-sheet-requires : tie.Need-blank-sheet-requires
 blank-sheet-requires c κs = search needs
 
 returns : tie.Need-returns
-unfolding refusedBy
 returns c = simp (c .blank-sheet .ensures)
 
 pub refused-spec : {M : Type 1} → statement M

@@ -1,6 +1,6 @@
 -- The reply by what `read` gave.
-use Rattle.fields.specs.Laws.{zero-is-nothing}
-use Rattle.fields.specs.Refusals.{numberOf}
+use Rattle.contents.specs.Laws.{zero-is-nothing}
+use Rattle.contents.specs.Refusals.{numberOf}
 use borrow.Author.Needs.{needs}
 use mathlib.Core.Path.{sym, ap, _∙_}
 use mir.Syntax.{w64}

@@ -3,8 +3,8 @@ use borrow.Author.Needs.{needs}
 use Rattle.windows.proofs.reply.work_for.Statement.{statement}
 use Rattle.windows.proofs.reply.work_for.Tie as tie
 use mathlib.Core.Path.{_∙_, sym, ap}
-use Rattle.fields.specs.Laws.{zero-is-nothing}
-use Rattle.fields.specs.Refusals.{numberOf}
+use Rattle.contents.specs.Laws.{zero-is-nothing}
+use Rattle.contents.specs.Refusals.{numberOf}
 use Rattle.windows.proofs.Steps.{small-work, read-right, read-work, refused-work}
 
 blank-requires : tie.Need-blank-requires

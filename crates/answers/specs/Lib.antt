@@ -1,0 +1,2 @@
+-- Numbers: each answer's number and place.
+pub mod Numbers

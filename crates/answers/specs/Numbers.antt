@@ -1,0 +1,35 @@
+-- The number and the place of each answer (paper 01, "When no piece is given"). The calls' promises and all statements speak through these.
+use Prim.Native.Nat.{ℕ}
+use Rattle.answers.specs.declared.file.Checked.{Checked}
+use Rattle.answers.specs.declared.file.Checked.the-variants as checked
+use Rattle.answers.specs.declared.file.Refusal.{Refusal}
+use Rattle.answers.specs.declared.file.Refusal.the-variants.{Size, Contents, Body, Route}
+use Rattle.answers.specs.declared.sweep.Answer.{Answer as SweepAnswer}
+use Rattle.answers.specs.declared.sweep.Answer.the-variants as sweep
+
+-- a number of the paper and a place
+pub record Numbered : Type 0 where
+  pub number : ℕ
+  pub place : ℕ
+
+abbrev pub numbered : ℕ → ℕ → Numbered
+numbered n k = record { number = n; place = k }
+
+-- why a file is refused: 3 and 4 have the offset of the first wrong field, 5 that of the route byte
+abbrev pub refusalAs : Refusal → Numbered
+refusalAs Size = numbered 2 0
+refusalAs (Contents at) = numbered 3 at
+refusalAs (Body at) = numbered 4 at
+refusalAs (Route at) = numbered 5 at
+
+-- a file that is fine has 0, place 0
+abbrev pub checkedAs : Checked → Numbered
+checkedAs checked.Fine = numbered 0 0
+checkedAs (checked.Refused r) = refusalAs r
+
+-- Sweep: 0 a run, 1 void, else the refusal; 6 has the index of the parameter, the first being 0
+abbrev pub sweepAs : SweepAnswer → Numbered
+sweepAs sweep.Run = numbered 0 0
+sweepAs sweep.Void = numbered 1 0
+sweepAs (sweep.Refused r) = refusalAs r
+sweepAs (sweep.Outside k) = numbered 6 k

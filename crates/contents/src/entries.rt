@@ -1,0 +1,50 @@
+// The contents of a file, its entries judged in order.
+ghost use mathlib.Core.Path.{_≡_};
+ghost use Rattle.contents.specs.Contents.{sized, entryField, contentsOf};
+use super::Contents;
+use cursor::Spot;
+use cursor::byte_field;
+use cursor::left;
+use cursor::went;
+use cursor::within;
+use cursor::word_field;
+
+// Whether the file has 22 to 4,096 bytes.
+pub fn sized(file: &[u8]) -> bool
+    ensures { λ r. ⌜ r ≡ sized (now (file .entry)) ⌝ }
+{
+    within(22, file.len(), 4096)
+}
+
+// One entry of the contents, whose body starts at `start`: kind, offset and length. The length is
+// at least `least`.
+fn entry_field(file: &[u8], kind: usize, start: usize, least: usize, spot: Spot) -> Spot
+    ensures { λ r. ⌜ r ≡ entryField (now (file .entry)) kind start least spot ⌝ }
+{
+    let kinds = byte_field(file, 22, kind, kind, spot);
+    let offset = word_field(file, 22, start, start, kinds);
+    let most = left(start, file.len());
+    word_field(file, 22, least, most, offset)
+}
+
+// The contents of the file, its fields judged in order.
+pub fn contents_of(file: &[u8]) -> Contents
+    ensures { λ r. ⌜ r ≡ contentsOf (now (file .entry)) ⌝ }
+{
+    let version = byte_field(file, 22, 1, 1, went(0, 0));
+    let count = byte_field(file, 22, 4, 4, version);
+    let one = entry_field(file, 1, 22, 0, count);
+    let first = 22 + (one.word as u32);
+    let two = entry_field(file, 2, first as usize, 0, one);
+    let second = first + (two.word as u32);
+    let three = entry_field(file, 3, second as usize, 0, two);
+    let third = second + (three.word as u32);
+    let rest = left(third as usize, file.len());
+    let four = entry_field(file, 4, third as usize, rest, three);
+    Contents {
+        spot: four,
+        first,
+        second,
+        third,
+    }
+}

@@ -1,3 +1,0 @@
-pub mod Contents
-pub mod Refusals
-pub mod Laws
