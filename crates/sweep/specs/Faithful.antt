@@ -1,27 +1,27 @@
 -- What the code replies, with its matrix as a table, is Sweep's reply.
-use mathlib.Core.Path.{_≡_, refl, sym, _∙_, ap}
+use mathlib.Core.Path.{_≡_, refl, _∙_, ap}
 use mathlib.Core.List.{List, [], _∷_}
-use mathlib.Core.Bool.{Bool, true, false, _&&_}
+use mathlib.Core.Option.{Option, none, some}
+use Prim.{Unit}
 use Prim.Native.Nat.{ℕ, zero-le}
 use lib.Dec.{lit≤}
 use lib.IntN.{ℤ}
-use lib.Signed.{leZ, _≤ℤ_}
 use Rattle.dbm.specs.Matrix.{Matrix, Outcome, void, kept}
-use Rattle.integer.specs.Bools.{and-left, and-right}
 use Rattle.expr.specs.Limit.{Limit, zeroW}
+use Rattle.expr.specs.Ranges.{In, Inside}
+use Rattle.expr.specs.Three.{rangeList}
 use Rattle.expr.specs.declared.range.Range.{Range}
-use Rattle.integer.specs.Order.{leZ-true, ≤ℤ-trans}
+use Rattle.integer.specs.Order.{≤ℤ-trans}
 use Rattle.sheet.specs.declared.Sheet.{Sheet}
 use Rattle.sheet.specs.WellFormed.{WellFormed, RangeRight, Small}
-use Rattle.sweep.specs.Coded.{row, coded, table, row-at, table-not-void}
+use Rattle.sweep.specs.Coded.{coded, row-at, table-not-void}
 use Rattle.sweep.specs.CodedWalk.{sweep-coded}
-use Rattle.sweep.specs.Reply.{rowRecord, blankReply, swept, inRange, sheetReply}
-use Rattle.sweep.specs.Sizes.{Thousands, Arrived, Visited, start-arrived, walk-visited}
+use Rattle.sweep.specs.Reply.{swept, outside, orOutside, sheetReply}
+use Rattle.sweep.specs.ReplyLaws.{outside-none}
+use Rattle.sweep.specs.Sizes.{Thousands, start-arrived, walk-visited}
 use Rattle.sweep.specs.TableReply.{sweptTable, sheetTable}
-use Rattle.sweep.specs.Tables.{Table, rowOf, isVoid, pick, sweepTable}
+use Rattle.sweep.specs.Tables.{sweepTable}
 use Rattle.sweep.specs.Walk.{sweepAt}
-use Rattle.sweep.specs.declared.reply.Answer.the-variants as answer
-use Rattle.sweep.specs.declared.reply.Reply.{Reply}
 use Rattle.timed.specs.Runs.{routeOf}
 
 -- a matrix that Sweep comes to is zero at (0, 0)
@@ -35,28 +35,27 @@ swept-coded void z = refl
 swept-coded (kept m) z =
     rw (table-not-void m (z m refl), row-at m 0 zero-le, row-at m 1 (lit≤ tt), row-at m 2 (lit≤ tt), row-at m 3 (lit≤ tt), row-at m 4 (lit≤ tt)) refl
 
--- a number in an accepted range is small
-in-small : (parameters index : ℕ) (range : Range) (x : ℤ) → RangeRight parameters index range → inRange range x ≡ true → Small x
-in-small parameters index range x right h =
-    record {
-      least = ≤ℤ-trans (right .low .least) (leZ-true (and-left (leZ (range .low) x) (leZ x (range .high)) h));
-      most = ≤ℤ-trans (leZ-true (and-right (leZ (range .low) x) (leZ x (range .high)) h)) (right .high .most);
-    }
+-- ranges of small numbers
+abbrev SmallRanges : List Range → Type 0
+SmallRanges [] = Unit {0}
+SmallRanges (r ∷ rs) = (Small (r .low) × Small (r .high)) × SmallRanges rs
 
-pub sheet-faithful : (s : Sheet) → WellFormed s → (p q r : ℤ) → sheetTable s p q r ≡ sheetReply s p q r
+in-small : (rs : List Range) (v : List ℤ) → SmallRanges rs → Inside v rs → Thousands v
+in-small [] [] f h = tt
+in-small [] (x ∷ v) f h = absurd h
+in-small (r ∷ rs) [] f h = absurd h
+in-small (r ∷ rs) (x ∷ v) f h =
+    (record { least = ≤ℤ-trans (f .0 .0 .least) (h .0 .least); most = ≤ℤ-trans (h .0 .most) (f .0 .1 .most) }, in-small rs v (f .1) (h .1))
+
+sheet-small : (s : Sheet) → WellFormed s → SmallRanges (rangeList (s .ranges))
+sheet-small s f = ((f .p .low, f .p .high), ((f .q .low, f .q .high), ((f .r .low, f .r .high), tt)))
+
+pub sheet-faithful : (s : Sheet) → WellFormed s → (v : List ℤ) → sheetTable s v ≡ sheetReply s v
 unfolding sheetTable sheetReply
-sheet-faithful s f p q r = by (inRange (s .ranges .p) p) (inRange (s .ranges .q) q) (inRange (s .ranges .r) r) refl refl refl
+sheet-faithful s f v = by (outside 0 (rangeList (s .ranges)) v) refl
   where
-    by : (a b c : Bool) → inRange (s .ranges .p) p ≡ a → inRange (s .ranges .q) q ≡ b → inRange (s .ranges .r) r ≡ c
-        → pick a (pick b (pick c (sweptTable (sweepTable s (p ∷ q ∷ r ∷ []))) (blankReply (answer.Outside 2))) (blankReply (answer.Outside 1))) (blankReply (answer.Outside 0))
-        ≡ pick a (pick b (pick c (swept (sweepAt s (p ∷ q ∷ r ∷ []))) (blankReply (answer.Outside 2))) (blankReply (answer.Outside 1))) (blankReply (answer.Outside 0))
-    by false b c e g h = refl
-    by true false c e g h = refl
-    by true true false e g h = refl
-    by true true true e g h =
-        let v : List ℤ = p ∷ q ∷ r ∷ [] in
-        let t : Thousands v = (
-          in-small (s .parameters) 0 (s .ranges .p) p (f .p) e,
-          (in-small (s .parameters) 1 (s .ranges .q) q (f .q) g, (in-small (s .parameters) 2 (s .ranges .r) r (f .r) h, tt)),
-        ) in
+    by : (o : Option ℕ) → outside 0 (rangeList (s .ranges)) v ≡ o → orOutside (sweptTable (sweepTable s v)) o ≡ orOutside (swept (sweepAt s v)) o
+    by (some k) e = refl
+    by none e =
+        let t = in-small (rangeList (s .ranges)) v (sheet-small s f) (outside-none 0 (rangeList (s .ranges)) v e) in
         ap sweptTable (sweep-coded s f v t) ∙ swept-coded (sweepAt s v) (first-zero f v t)

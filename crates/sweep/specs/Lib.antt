@@ -9,6 +9,7 @@ pub mod Moves
 pub mod Padding
 pub mod Proofs
 pub mod Reply
+pub mod ReplyLaws
 pub mod Right
 pub mod Route
 pub mod Sizes

@@ -1,56 +1,53 @@
--- What Sweep replies, for every file and every three numbers (paper 01, rows 2 to 6 of "When no piece is given", and "Runs"): refused by 2 to 5,
--- the whole file for each; else by 6; else void, or a run with the matrix of tightest bounds. With a refusal or void every entry is zero, not strict.
+-- What Sweep replies, for every file and every valuation (paper 01, rows 2 to 6 of "When no piece is given", and "Runs"), in the paper's numbers:
+-- refused by 2 to 5, the whole file for each; else by 6; else 1, void, or 0, a run, with the matrix of tightest bounds. With a refusal or void
+-- every entry is zero, not strict.
 use mathlib.Core.List.{List, [], _∷_}
-use mathlib.Core.Bool.{Bool, true, false, _&&_}
-use Prim.Native.Nat.{ℕ}
+use mathlib.Core.Bool.{Bool, cond, _&&_}
+use mathlib.Core.Option.{Option, none, some}
+use Prim.Native.Nat.{ℕ, suc}
+use lib.Dec.{eqb}
 use lib.IntN.{ℤ}
+use lib.ListN.{replicate}
 use lib.Signed.{leZ}
-use Rattle.dbm.specs.Matrix.{Matrix, Outcome, void, kept}
-use Rattle.expr.specs.Limit.{Limit}
+use Rattle.answers.specs.Numbers.{Numbered, numbered, sweepAs}
+use Rattle.dbm.specs.Matrix.{Outcome, void, kept}
+use Rattle.expr.specs.Three.{rangeList}
 use Rattle.expr.specs.declared.range.Range.{Range}
 use Rattle.expr.specs.declared.weight.Weight.{Weight}
-use Rattle.contents.specs.declared.Refusal.{Refusal}
-use Rattle.contents.specs.declared.Refusal.the-variants.{Nothing, Size, Contents, Body, Route}
-use Rattle.contents.specs.Refusals.{numberOf, placeOf}
+use Rattle.sheet.specs.File.{Read, readOf}
 use Rattle.sheet.specs.declared.Sheet.{Sheet}
-use Rattle.sheet.specs.declared.Reading.{Reading}
-use Rattle.sheet.specs.File.{readOf}
 use Rattle.sweep.specs.Coded.{row}
-use Rattle.sweep.specs.Tables.{pick, zeroRow}
+use Rattle.sweep.specs.Tables.{zeroRow}
 use Rattle.sweep.specs.Walk.{sweepAt}
-use Rattle.sweep.specs.declared.reply.Answer.{Answer}
-use Rattle.sweep.specs.declared.reply.Answer.the-variants as answer
 use Rattle.sweep.specs.declared.reply.Reply.{Reply}
 use Rattle.sweep.specs.declared.reply.Row.{Row}
 
--- the paper's number of an answer: 0 a run, 1 void, else the refusal
-abbrev pub answerNumber : Answer → ℕ
-answerNumber answer.Run = 0
-answerNumber answer.Void = 1
-answerNumber (answer.Refused r) = numberOf r
-answerNumber (answer.Outside k) = 6
+-- a reply: the answer's number and place, and the rows of the matrix
+pub record SweepReply : Type 0 where
+  pub answer : Numbered
+  pub rows : List Row
 
--- its place: the refusal's; for 6 the index of the parameter, the first being 0
-abbrev pub answerPlace : Answer → ℕ
-answerPlace answer.Run = 0
-answerPlace answer.Void = 0
-answerPlace (answer.Refused r) = placeOf r
-answerPlace (answer.Outside k) = k
+-- the code's record of it
+abbrev pub replyAs : Reply → SweepReply
+replyAs r = record { answer = sweepAs (r .answer); rows = r .rows }
 
 abbrev pub rowRecord : List Weight → Row
 rowRecord entries = record { entries = entries }
 
--- an answer without a matrix: every entry zero, not strict
-unfoldable pub blankReply : Answer → Reply
-blankReply a =
-    record { answer = a; rows = rowRecord zeroRow ∷ rowRecord zeroRow ∷ rowRecord zeroRow ∷ rowRecord zeroRow ∷ rowRecord zeroRow ∷ [] }
+-- five rows of zero, not strict
+abbrev pub zeroRows : List Row
+zeroRows = replicate 5 (rowRecord zeroRow)
+
+-- an answer without a matrix
+unfoldable pub blankReply : Numbered → SweepReply
+blankReply a = record { answer = a; rows = zeroRows }
 
 -- void, or the matrix, five rows of five
-unfoldable pub swept : Outcome → Reply
-swept void = blankReply answer.Void
+unfoldable pub swept : Outcome → SweepReply
+swept void = blankReply (numbered 1 0)
 swept (kept m) =
     record {
-      answer = answer.Run;
+      answer = numbered 0 0;
       rows = rowRecord (row m 0) ∷ rowRecord (row m 1) ∷ rowRecord (row m 2) ∷ rowRecord (row m 3) ∷ rowRecord (row m 4) ∷ [];
     }
 
@@ -58,23 +55,26 @@ swept (kept m) =
 abbrev pub inRange : Range → ℤ → Bool
 inRange range x = leZ (range .low) x && leZ x (range .high)
 
--- refusal 6, at the first parameter outside its range; else the sweep
-unfoldable pub sheetReply : Sheet → ℤ → ℤ → ℤ → Reply
-sheetReply s p q r =
-    pick (inRange (s .ranges .p) p)
-    (pick (inRange (s .ranges .q) q)
-    (pick (inRange (s .ranges .r) r) (swept (sweepAt s (p ∷ q ∷ r ∷ []))) (blankReply (answer.Outside 2)))
-    (blankReply (answer.Outside 1)))
-    (blankReply (answer.Outside 0))
+-- the index of the first parameter outside its range, counted from k on; a range without a number, or a number without a range, is outside
+unfoldable pub outside : ℕ → List Range → List ℤ → Option ℕ
+outside k [] [] = none
+outside k [] (x ∷ v) = some k
+outside k (r ∷ rs) [] = some k
+outside k (r ∷ rs) (x ∷ v) = cond (inRange r x) (outside (suc k) rs v) (some k)
+
+-- refusal 6 at a parameter, else what is swept
+abbrev pub orOutside : SweepReply → Option ℕ → SweepReply
+orOutside reply none = reply
+orOutside reply (some k) = blankReply (numbered 6 k)
+
+-- refusal 6, else the sweep
+unfoldable pub sheetReply : Sheet → List ℤ → SweepReply
+sheetReply s v = orOutside (swept (sweepAt s v)) (outside 0 (rangeList (s .ranges)) v)
 
 -- refusals 2 to 5, else what follows them
-unfoldable pub readingReply : Refusal → Sheet → ℤ → ℤ → ℤ → Reply
-readingReply Nothing s p q r = sheetReply s p q r
-readingReply Size s p q r = blankReply (answer.Refused Size)
-readingReply (Contents at) s p q r = blankReply (answer.Refused (Contents at))
-readingReply (Body at) s p q r = blankReply (answer.Refused (Body at))
-readingReply (Route at) s p q r = blankReply (answer.Refused (Route at))
+unfoldable pub readReply : Read → List ℤ → SweepReply
+readReply r v = cond (eqb (r .answer .number) 0) (sheetReply (r .sheet) v) (blankReply (r .answer))
 
 -- the whole reply
-unfoldable pub replyOf : List ℕ → ℤ → ℤ → ℤ → Reply
-replyOf file p q r = readingReply (readOf file .refusal) (readOf file .sheet) p q r
+unfoldable pub replyOf : List ℕ → List ℤ → SweepReply
+replyOf file v = readReply (readOf file) v

@@ -1,26 +1,35 @@
 -- What the code replies, with its matrix as a table.
-use mathlib.Core.List.{[], _∷_}
+use mathlib.Core.List.{List, [], _∷_}
+use mathlib.Core.Bool.{cond}
+use mathlib.Core.Option.{Option, none, some}
+use Prim.Native.Nat.{ℕ}
 use lib.IntN.{ℤ}
+use Rattle.answers.specs.Numbers.{numbered}
+use Rattle.expr.specs.Three.{rangeList, valuationOf}
+use Rattle.expr.specs.declared.range.Range.{Range}
 use Rattle.sheet.specs.declared.Sheet.{Sheet}
-use Rattle.sweep.specs.Reply.{rowRecord, blankReply, inRange}
-use Rattle.sweep.specs.Tables.{Table, rowOf, isVoid, pick, sweepTable}
-use Rattle.sweep.specs.declared.reply.Answer.the-variants as answer
-use Rattle.sweep.specs.declared.reply.Reply.{Reply}
+use Rattle.sweep.specs.Reply.{SweepReply, rowRecord, blankReply, outside, orOutside}
+use Rattle.sweep.specs.Tables.{Table, rowOf, isVoid, sweepTable}
+use Rattle.sweep.specs.declared.reply.Placed.{Placed}
+use Rattle.sweep.specs.declared.reply.Placed.the-variants.{Inside, Outside}
+
+-- a valuation in the ranges, or the first parameter outside
+abbrev pub placedBy : List ℤ → Option ℕ → Placed
+placedBy v none = Inside (valuationOf v)
+placedBy v (some k) = Outside k
+
+unfoldable pub placedOf : List Range → List ℤ → Placed
+placedOf rs v = placedBy v (outside 0 rs v)
 
 -- void, or the matrix
-unfoldable pub sweptTable : Table → Reply
+unfoldable pub sweptTable : Table → SweepReply
 sweptTable m =
-    pick (isVoid m) (blankReply answer.Void)
+    cond (isVoid m) (blankReply (numbered 1 0))
     (record {
-      answer = answer.Run;
+      answer = numbered 0 0;
       rows = rowRecord (rowOf m 0) ∷ rowRecord (rowOf m 1) ∷ rowRecord (rowOf m 2) ∷ rowRecord (rowOf m 3) ∷ rowRecord (rowOf m 4) ∷ [];
     })
 
 -- refusal 6, or the sweep
-unfoldable pub sheetTable : Sheet → ℤ → ℤ → ℤ → Reply
-sheetTable s p q r =
-    pick (inRange (s .ranges .p) p)
-    (pick (inRange (s .ranges .q) q)
-    (pick (inRange (s .ranges .r) r) (sweptTable (sweepTable s (p ∷ q ∷ r ∷ []))) (blankReply (answer.Outside 2)))
-    (blankReply (answer.Outside 1)))
-    (blankReply (answer.Outside 0))
+unfoldable pub sheetTable : Sheet → List ℤ → SweepReply
+sheetTable s v = orOutside (sweptTable (sweepTable s v)) (outside 0 (rangeList (s .ranges)) v)

@@ -1,73 +1,91 @@
--- What Sweep's reply is worth, for every file that is not refused and every three numbers in its ranges: the claims of Claims, over the reply.
-use mathlib.Core.Path.{_≡_, refl, sym, _∙_, ap}
+-- What Sweep's reply is worth, for every file and every valuation: the claims of Claims, over the reply.
+use mathlib.Core.Path.{_≡_, refl, sym, _∙_, ap, subst}
 use mathlib.Core.Logic.{_↔_, _⊎_, inl, inr}
-use mathlib.Core.List.{List, [], _∷_}
-use mathlib.Core.Bool.{true}
-use Prim.Native.Nat.{ℕ, _≤_}
+use mathlib.Core.List.{List, []}
+use mathlib.Core.Option.{Option, none, some}
+use mathlib.Core.Bool.{Bool, true, false, cond}
+use Prim.Native.Nat.{ℕ, suc, _≤_}
 use native.Mathlib.Omega.{arith}
+use lib.Dec.{eqb}
 use lib.IntN.{ℤ}
 use lib.ListN.{getD}
+use Rattle.dbm.specs.Entries.{Outside}
 use Rattle.dbm.specs.Matrix.{Matrix, Outcome, void, kept}
-use Rattle.expr.specs.Limit.{Limit}
-use Rattle.expr.specs.Three.{weighed}
-use Rattle.contents.specs.declared.Refusal.the-variants.{Nothing}
-use Rattle.sheet.specs.Accepted.{read-well-formed}
+use Rattle.expr.specs.Limit.{Limit, zeroW}
+use Rattle.expr.specs.Ranges.{Inside}
+use Rattle.expr.specs.Three.{weighed, rangeList}
+use Rattle.sheet.specs.Accepted.{Fine, read-well-formed}
 use Rattle.sheet.specs.File.{readOf}
 use Rattle.sheet.specs.declared.Sheet.{Sheet}
 use Rattle.sweep.specs.Coded.{row, in-row, up-to-4, weighed-of}
+use Rattle.sweep.specs.Padding.{padded}
 use Rattle.sweep.specs.Proofs.{void-iff-no-run, entries-tightest}
-use Rattle.sweep.specs.Reply.{rowRecord, blankReply, swept, inRange, sheetReply, readingReply, replyOf}
+use Rattle.sweep.specs.Reply.{SweepReply, rowRecord, zeroRows, blankReply, swept, outside, orOutside, sheetReply, readReply, replyOf}
+use Rattle.sweep.specs.ReplyLaws.{inside-none}
 use Rattle.sweep.specs.Tables.{zeroWeight}
 use Rattle.sweep.specs.Walk.{sweepAt}
-use Rattle.sweep.specs.declared.reply.Answer.the-variants as answer
-use Rattle.sweep.specs.declared.reply.Reply.{Reply}
 use Rattle.timed.specs.Runs.{Run, Tightest}
 
--- the file is not refused, and the three numbers lie in the sheet's ranges
-pub record Asked (file : List ℕ) (p q r : ℤ) : Type 0 where
-  pub read : readOf file .refusal ≡ Nothing
-  pub p-in : inRange (readOf file .sheet .ranges .p) p ≡ true
-  pub q-in : inRange (readOf file .sheet .ranges .q) q ≡ true
-  pub r-in : inRange (readOf file .sheet .ranges .r) r ≡ true
+-- ---- the words of the statement
+-- the sheet of a file
+abbrev pub sheetOf : List ℕ → Sheet
+sheetOf file = readOf file .sheet
+
+-- the number that Sweep answers
+abbrev pub numberAt : List ℕ → List ℤ → ℕ
+numberAt file v = replyOf file v .answer .number
+
+-- 1 is void, 0 a run
+abbrev pub IsVoid : List ℕ → List ℤ → Type 0
+IsVoid file v = numberAt file v ≡ 1
+
+abbrev pub IsRun : List ℕ → List ℤ → Type 0
+IsRun file v = numberAt file v ≡ 0
 
 -- entry (i, j) of a reply's matrix
-abbrev pub entryAt : Reply → ℕ → ℕ → Limit ℤ
+abbrev pub entryAt : SweepReply → ℕ → ℕ → Limit ℤ
 entryAt reply i j = weighed (getD (getD (reply .rows) i (rowRecord []) .entries) j zeroWeight)
 
--- Sweep is not refused; it answers void exactly if no run follows the route under the three numbers, and else each entry of clock 0 and the
--- sheet's clocks is the tightest bound on that difference over the end states of all runs
-pub record Right (file : List ℕ) (p q r : ℤ) : Type 0 where
-  pub answered : (replyOf file p q r .answer ≡ answer.Run) ⊎ (replyOf file p q r .answer ≡ answer.Void)
-  pub void-iff-no-run : (replyOf file p q r .answer ≡ answer.Void) ↔ (Run (readOf file .sheet) (p ∷ q ∷ r ∷ []) → ⊥)
+-- ---- the statement
+pub record Right (file : List ℕ) (v : List ℤ) : Type 0 where
+  -- Sweep does not refuse
+  pub answered : IsRun file v ⊎ IsVoid file v
+  -- it answers void exactly if no run follows the route under v
+  pub void-iff-no-run : IsVoid file v ↔ (Run (sheetOf file) v → ⊥)
+  -- else each entry of clock 0 and the sheet's clocks is the tightest bound on that difference over the end states of all runs
   pub entries-tightest :
-      replyOf file p q r .answer ≡ answer.Run → (i j : ℕ) → i ≤ readOf file .sheet .clocks → j ≤ readOf file .sheet .clocks →
-      Tightest (readOf file .sheet) (p ∷ q ∷ r ∷ []) i j (entryAt (replyOf file p q r) i j)
+      IsRun file v → (i j : ℕ) → i ≤ sheetOf file .clocks → j ≤ sheetOf file .clocks
+      → Tightest (sheetOf file) v i j (entryAt (replyOf file v) i j)
+  -- and the other entries are padding: zero, not strict
+  pub entries-padded : IsRun file v → (i j : ℕ) → i ≤ 4 → j ≤ 4 → Outside (sheetOf file .clocks) i j → entryAt (replyOf file v) i j ≡ zeroW
 
--- the statement
-abbrev pub SweepRight : Type 0
-SweepRight = (file : List ℕ) (p q r : ℤ) → Asked file p q r → Right file p q r
+pub record SweepRight : Type 0 where
+  -- for every file that is not refused and every valuation in its ranges
+  pub right : (file : List ℕ) (v : List ℤ) → Fine (readOf file) → Inside v (rangeList (sheetOf file .ranges)) → Right file v
+  -- with a refusal or void every entry is zero, not strict
+  pub blank : (file : List ℕ) (v : List ℤ) → (IsRun file v → ⊥) → replyOf file v .rows ≡ zeroRows
 
 -- ---- its proof
-asked-reply : (file : List ℕ) (p q r : ℤ) → Asked file p q r → replyOf file p q r ≡ swept (sweepAt (readOf file .sheet) (p ∷ q ∷ r ∷ []))
-unfolding replyOf readingReply sheetReply
-asked-reply file p q r a = rw (a .read, a .p-in, a .q-in, a .r-in) refl
+pub inside-reply : (file : List ℕ) (v : List ℤ) → Fine (readOf file) → Inside v (rangeList (sheetOf file .ranges))
+    → replyOf file v ≡ swept (sweepAt (sheetOf file) v)
+unfolding replyOf readReply sheetReply
+inside-reply file v f h = rw (f, inside-none 0 (rangeList (sheetOf file .ranges)) v h) refl
 
-is-void : (o : Outcome) → swept o .answer ≡ answer.Void → o ≡ void
+is-void : (o : Outcome) → swept o .answer .number ≡ 1 → o ≡ void
 unfolding swept
 is-void void e = refl
-is-void (kept m) e = let z : _≡_ {A = ℕ} 0 1 = cc in absurd (omega arith)
+is-void (kept m) e = absurd (omega arith)
 
-void-is : (o : Outcome) → o ≡ void → swept o .answer ≡ answer.Void
+void-is : (o : Outcome) → o ≡ void → swept o .answer .number ≡ 1
 unfolding swept blankReply
-void-is void e = refl
-void-is (kept m) e = let z : _≡_ {A = ℕ} 0 1 = cc in absurd (omega arith)
+void-is o e = rw e refl
 
-kept-is : (o : Outcome) → swept o .answer ≡ answer.Run → (m : Matrix (Limit ℤ)) × (o ≡ kept m)
+kept-is : (o : Outcome) → swept o .answer .number ≡ 0 → (m : Matrix (Limit ℤ)) × (o ≡ kept m)
 unfolding swept blankReply
-kept-is void e = let z : _≡_ {A = ℕ} 0 1 = cc in absurd (omega arith)
+kept-is void e = absurd (omega arith)
 kept-is (kept m) e = (m, refl)
 
-one-of : (o : Outcome) → (swept o .answer ≡ answer.Run) ⊎ (swept o .answer ≡ answer.Void)
+one-of : (o : Outcome) → (swept o .answer .number ≡ 0) ⊎ (swept o .answer .number ≡ 1)
 unfolding swept blankReply
 one-of void = inr refl
 one-of (kept m) = inl refl
@@ -79,28 +97,51 @@ row-in m = up-to-4 (λ i. getD (swept (kept m) .rows) i (rowRecord []) .entries 
 entry-in : (m : Matrix (Limit ℤ)) (i j : ℕ) → i ≤ 4 → j ≤ 4 → entryAt (swept (kept m)) i j ≡ m i j
 entry-in m i j hi hj = rw (row-in m i hi, in-row m i j hj) (weighed-of (m i j))
 
-tight-at : (s : Sheet) (v : List ℤ) (i j : ℕ) (a b : Limit ℤ) → a ≡ b → Tightest s v i j b → Tightest s v i j a
-tight-at s v i j a b e t = rw e t
+-- what the reply has where Sweep's rules leave a matrix
+pub reply-entry : (file : List ℕ) (v : List ℤ) → Fine (readOf file) → Inside v (rangeList (sheetOf file .ranges))
+    → (m : Matrix (Limit ℤ)) → sweepAt (sheetOf file) v ≡ kept m → (i j : ℕ) → i ≤ 4 → j ≤ 4 → entryAt (replyOf file v) i j ≡ m i j
+reply-entry file v f h m e i j hi hj =
+    ap (λ (x : SweepReply). entryAt x i j) (inside-reply file v f h ∙ ap swept e) ∙ entry-in m i j hi hj
 
-pub sweep-right : SweepRight
-sweep-right file p q r a =
-    let s = readOf file .sheet in
-    let v : List ℤ = p ∷ q ∷ r ∷ [] in
-    let f = read-well-formed file (a .read) in
+right-at : (file : List ℕ) (v : List ℤ) → Fine (readOf file) → Inside v (rangeList (sheetOf file .ranges)) → Right file v
+right-at file v fine h =
+    let s = sheetOf file in
+    let f = read-well-formed file fine in
     let o = sweepAt s v in
-    let e = asked-reply file p q r a in
-    let ea = ap (λ (x : Reply). x .answer) e in
+    let e = ap (λ (x : SweepReply). x .answer .number) (inside-reply file v fine h) in
     record {
-      answered = rw ea (one-of o);
+      answered = rw e (one-of o);
       void-iff-no-run = (
-        λ h. void-iff-no-run s f v .0 (is-void o (sym ea ∙ h)),
-        λ h. ea ∙ void-is o (void-iff-no-run s f v .1 h),
+        λ g. void-iff-no-run s f v .0 (is-void o (sym e ∙ g)),
+        λ g. e ∙ void-is o (void-iff-no-run s f v .1 g),
       );
-      entries-tightest = λ h i j hi hj.
-          let k = kept-is o (sym ea ∙ h) in
+      entries-tightest = λ g i j hi hj.
+          let k = kept-is o (sym e ∙ g) in
           let hi′ : i ≤ 4 = omega (arith, f .clocks) in
           let hj′ : j ≤ 4 = omega (arith, f .clocks) in
-          tight-at s v i j _ (k .0 i j)
-          (ap (λ (x : Reply). entryAt x i j) (e ∙ ap swept (k .1)) ∙ entry-in (k .0) i j hi′ hj′)
+          subst (Tightest s v i j) (sym (reply-entry file v fine h (k .0) (k .1) i j hi′ hj′))
           (entries-tightest s f v (k .0) (k .1) i j hi hj);
+      entries-padded = λ g i j hi hj out.
+          let k = kept-is o (sym e ∙ g) in
+          reply-entry file v fine h (k .0) (k .1) i j hi hj ∙ padded s v (k .0) (k .1) i j out;
     }
+
+swept-blank : (o : Outcome) → (swept o .answer .number ≡ 0 → ⊥) → swept o .rows ≡ zeroRows
+unfolding swept blankReply
+swept-blank void n = refl
+swept-blank (kept m) n = absurd (n refl)
+
+blank-at : (file : List ℕ) (v : List ℤ) → (IsRun file v → ⊥) → replyOf file v .rows ≡ zeroRows
+unfolding replyOf readReply sheetReply blankReply
+blank-at file v = by (eqb (readOf file .answer .number) 0) (outside 0 (rangeList (sheetOf file .ranges)) v)
+  where
+    reply : Bool → Option ℕ → SweepReply
+    reply b o = cond b (orOutside (swept (sweepAt (sheetOf file) v)) o) (blankReply (readOf file .answer))
+
+    by : (b : Bool) (o : Option ℕ) → (reply b o .answer .number ≡ 0 → ⊥) → reply b o .rows ≡ zeroRows
+    by true none n = swept-blank (sweepAt (sheetOf file) v) n
+    by true (some k) n = refl
+    by false o n = refl
+
+pub sweep-right : SweepRight
+sweep-right = record { right = right-at; blank = blank-at }

@@ -1,28 +1,28 @@
 // Sweep: one valuation of a sheet's parameters worked out in plain numbers.
 //
-// The contract of `sweep` is an equation with `replyOf` of specs/Reply, for every file and every three numbers; specs/Claims says what that
+// The contract of `sweep` is an equation with `replyOf` of specs/Reply, for every file and every three numbers; specs/Theorems says what that
 // reply is worth: void exactly if no run exists, and else the matrix of tightest bounds over the end states of all runs.
 mod matrix;
 mod reply;
 mod walk;
 
-pub use reply::Answer;
+use answers::file::Checked;
+use answers::sweep::Answer;
 pub use reply::Reply;
 pub use reply::Row;
-pub use reply::number;
-pub use reply::place;
 ghost use mathlib.Core.Path.{_≡_};
-ghost use Rattle.sweep.specs.Reply.{replyOf};
+ghost use mathlib.Core.List.{[], _∷_};
+ghost use Rattle.sweep.specs.Reply.{replyAs, replyOf};
 
 // What Sweep replies to a sheet file and three numbers, one for each parameter; 0 for one that the sheet lacks.
 pub fn sweep(file: &[u8], p: i64, q: i64, r: i64) -> Reply
-    ensures { λ x. ⌜ x ≡ replyOf (now (file .entry)) p q r ⌝ }
+    ensures { λ x. ⌜ replyAs x ≡ replyOf (now (file .entry)) (p ∷ q ∷ r ∷ []) ⌝ }
 {
     let reading = sheet::read(file);
-    let refusal = reading.refusal;
+    let checked = reading.checked;
     let s = reading.sheet;
-    if contents::number(refusal) == 0 {
-        return reply::reply_for(s, p, q, r);
+    match checked {
+        Checked::Fine => reply::reply_for(s, p, q, r),
+        Checked::Refused(refusal) => reply::blank(Answer::Refused(refusal)),
     }
-    reply::blank(Answer::Refused(refusal))
 }

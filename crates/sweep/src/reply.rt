@@ -1,8 +1,9 @@
-// What Sweep answers for a sheet and three numbers.
+// What Sweep replies for a sheet and three numbers.
 use crate::matrix;
 use crate::walk;
-use contents::Refusal;
+use answers::sweep::Answer;
 use expr::Range;
+use expr::Ranges;
 use expr::Valuation;
 use expr::Weight;
 use sheet::Sheet;
@@ -10,16 +11,11 @@ ghost use mathlib.Core.Path.{_≡_};
 ghost use lib.IntN.{ℤ};
 ghost use Prim.Native.Nat.{_<_};
 ghost use mathlib.Core.Bool.{true};
-ghost use Rattle.sweep.specs.Reply.{answerNumber, answerPlace, blankReply, inRange};
-ghost use Rattle.sweep.specs.TableReply.{sweptTable, sheetTable};
-
-// An answer: a run, void, the file refused by 2 to 5, or the parameter with this index outside its range (refusal 6).
-pub enum Answer {
-    Run,
-    Void,
-    Refused(Refusal),
-    Outside(usize),
-}
+ghost use mathlib.Core.List.{[], _∷_};
+ghost use Rattle.answers.specs.Numbers.{sweepAs};
+ghost use Rattle.expr.specs.Three.{rangeList};
+ghost use Rattle.sweep.specs.Reply.{replyAs, blankReply, inRange};
+ghost use Rattle.sweep.specs.TableReply.{placedOf, sweptTable, sheetTable};
 
 // A row of Sweep's matrix: entry j of row i bounds clock i - clock j.
 pub struct Row {
@@ -32,33 +28,15 @@ pub struct Reply {
     pub rows: [Row; 5],
 }
 
-// The answer's number: 0 a run, 1 void, else the refusal.
-pub fn number(answer: Answer) -> usize
-    ensures { λ r. ⌜ r ≡ answerNumber answer ⌝ }
-{
-    match answer {
-        Answer::Run => 0,
-        Answer::Void => 1,
-        Answer::Refused(refusal) => contents::number(refusal),
-        Answer::Outside(_) => 6,
-    }
-}
-
-// The refusal's place; 0 for a run or void.
-pub fn place(answer: Answer) -> usize
-    ensures { λ r. ⌜ r ≡ answerPlace answer ⌝ }
-{
-    match answer {
-        Answer::Run => 0,
-        Answer::Void => 0,
-        Answer::Refused(refusal) => contents::place(refusal),
-        Answer::Outside(index) => index,
-    }
+// A valuation in the ranges, or the index of the first parameter outside its range.
+pub(crate) enum Placed {
+    Inside(Valuation),
+    Outside(usize),
 }
 
 // An answer without a matrix.
 pub(crate) fn blank(answer: Answer) -> Reply
-    ensures { λ r. ⌜ r ≡ blankReply answer ⌝ }
+    ensures { λ r. ⌜ replyAs r ≡ blankReply (sweepAs answer) ⌝ }
 {
     let row = Row {
         entries: [Weight::ZERO; 5],
@@ -71,7 +49,7 @@ pub(crate) fn blank(answer: Answer) -> Reply
 
 // Void, or the matrix.
 fn swept(m: [[Weight; 5]; 5]) -> Reply
-    ensures { λ r. ⌜ r ≡ sweptTable m ⌝ }
+    ensures { λ r. ⌜ replyAs r ≡ sweptTable m ⌝ }
 {
     if matrix::is_void(m) {
         return blank(Answer::Void);
@@ -88,19 +66,12 @@ fn swept(m: [[Weight; 5]; 5]) -> Reply
     }
 }
 
-// x as a wider number.
-fn wide(x: i16) -> i64
-    ensures { λ r. ⌜ r ≡ x ⌝ }
-{
-    x as i64
-}
-
 // Whether x lies in the range.
 fn in_range(range: Range, x: i64) -> bool
     ensures { λ r. ⌜ r ≡ inRange range x ⌝ }
 {
-    if wide(range.low) <= x {
-        return x <= wide(range.high);
+    if numbers::wide16(range.low) <= x {
+        return x <= numbers::wide16(range.high);
     }
     false
 }
@@ -113,27 +84,37 @@ fn value_in(range: Range, x: i64) -> i16
     x as i16
 }
 
-// The reply for a sheet: refusal 6, or the sweep.
-pub(crate) fn reply_for(s: Sheet, p: i64, q: i64, r: i64) -> Reply
-    ensures { λ x. ⌜ x ≡ sheetTable s p q r ⌝ }
+// Where three numbers stand.
+fn in_ranges(b: Ranges, p: i64, q: i64, r: i64) -> Placed
+    ensures { λ x. ⌜ x ≡ placedOf (rangeList b) (p ∷ q ∷ r ∷ []) ⌝ }
 {
-    let ranges = s.ranges;
-    let range_p = ranges.p;
-    let range_q = ranges.q;
-    let range_r = ranges.r;
+    let range_p = b.p;
+    let range_q = b.q;
+    let range_r = b.r;
     if !in_range(range_p, p) {
-        return blank(Answer::Outside(0));
+        return Placed::Outside(0);
     }
     if !in_range(range_q, q) {
-        return blank(Answer::Outside(1));
+        return Placed::Outside(1);
     }
     if !in_range(range_r, r) {
-        return blank(Answer::Outside(2));
+        return Placed::Outside(2);
     }
-    let v = Valuation {
+    Placed::Inside(Valuation {
         p: value_in(range_p, p),
         q: value_in(range_q, q),
         r: value_in(range_r, r),
-    };
-    swept(walk::walk(s, v))
+    })
+}
+
+// The reply for a sheet: refusal 6, or the sweep.
+pub(crate) fn reply_for(s: Sheet, p: i64, q: i64, r: i64) -> Reply
+    ensures { λ x. ⌜ replyAs x ≡ sheetTable s (p ∷ q ∷ r ∷ []) ⌝ }
+{
+    let ranges = s.ranges;
+    let placed = in_ranges(ranges, p, q, r);
+    match placed {
+        Placed::Inside(v) => swept(walk::walk(s, v)),
+        Placed::Outside(index) => blank(Answer::Outside(index)),
+    }
 }

@@ -7,23 +7,23 @@ use Rattle.sweep.proofs.Replies.{range-yes, range-no}
 use Rattle.sweep.proofs.reply.in_range.Statement.{statement}
 use Rattle.sweep.proofs.reply.in_range.Tie as tie
 
-wide-requires : tie.Need-wide-requires
-wide-requires c κs = search needs
+wide16-requires : tie.Need-wide16-requires
+wide16-requires c κs = search needs
 
-wide-requires-2 : tie.Need-wide-requires-2
-wide-requires-2 c κs = search needs
+wide16-requires-2 : tie.Need-wide16-requires-2
+wide16-requires-2 c κs = search needs
 
 returns : tie.Need-returns
 returns c =
     let s = c .before .before .before .before .before in
     let t = s .args .range in
-    range-yes t (s .args .x) _ _ _ (widened _ (t .low) (c .before .before .before .wide .ensures) (record { sfits = c .before .before .before .before .struct-told .given .0 .1 })) (toZ-ofZ w64 _ (s .fits .x)) (widened _ (t .high) (c .wide2 .ensures) (record { sfits = c .before .struct-told2 .given .1 .0 .1 })) (c .before .before .if1 .taken)
+    range-yes t (s .args .x) _ _ _ (widened _ (t .low) (c .before .before .before .wide16 .ensures) (record { sfits = c .before .before .before .before .struct-told .given .0 .1 })) (toZ-ofZ w64 _ (s .fits .x)) (widened _ (t .high) (c .wide162 .ensures) (record { sfits = c .before .struct-told2 .given .1 .0 .1 })) (c .before .before .if1 .taken)
 
 returns-2 : tie.Need-returns-2
 returns-2 c =
     let s = c .before .before .before in
     let t = s .args .range in
-    range-no t (s .args .x) _ _ (widened _ (t .low) (c .before .wide .ensures) (record { sfits = c .before .before .struct-told .given .0 .1 })) (toZ-ofZ w64 _ (s .fits .x)) (c .if1 .left)
+    range-no t (s .args .x) _ _ (widened _ (t .low) (c .before .wide16 .ensures) (record { sfits = c .before .before .struct-told .given .0 .1 })) (toZ-ofZ w64 _ (s .fits .x)) (c .if1 .left)
 
 pub in-range-spec : {M : Type 1} → statement M
-in-range-spec = tie.close (tie.spec wide-requires wide-requires-2 returns returns-2)
+in-range-spec = tie.close (tie.spec wide16-requires wide16-requires-2 returns returns-2)
