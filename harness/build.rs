@@ -1,4 +1,4 @@
-//! Links the archive of Sweep's C function, which `rt staticlib capi` writes.
+//! Links the archive of Sweep's C function, which `rt staticlib sweep_c` writes.
 
 use std::path::Path;
 
@@ -7,8 +7,8 @@ fn main() {
     let folder = Path::new(&package).join("../target/staticlib");
     println!(
         "cargo:rerun-if-changed={}",
-        folder.join("libcapi.a").display()
+        folder.join("libsweep_c.a").display()
     );
     println!("cargo:rustc-link-search=native={}", folder.display());
-    println!("cargo:rustc-link-lib=static=capi");
+    println!("cargo:rustc-link-lib=static=sweep_c");
 }

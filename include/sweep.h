@@ -1,6 +1,6 @@
 /* Sweep: does a run follow the route of a sheet with its parameters at three given numbers?
  *
- * Link with libcapi.a (`rt staticlib capi` writes target/staticlib/libcapi.a); it needs only memcpy and memmove.
+ * Link with libsweep_c.a (`rt staticlib sweep_c` writes target/staticlib/libsweep_c.a); it needs only memcpy and memmove.
  */
 #ifndef SWEEP_H
 #define SWEEP_H

@@ -25,9 +25,9 @@ fn print_answer(file: &[u8], p: i64, q: i64, r: i64) {
     let answer = reply.answer;
     let rows = reply.rows;
     io::write_all(STDOUT_FILENO, b" ");
-    print_number(sweep::number(answer));
+    print_number(answers::sweep::number(answer));
     io::write_all(STDOUT_FILENO, b"/");
-    print_number(sweep::place(answer));
+    print_number(answers::sweep::place(answer));
     io::write_all(STDOUT_FILENO, b"/");
     io::print_decimal(STDOUT_FILENO, digest::digest(rows));
 }

@@ -2,8 +2,8 @@
 use borrow.Author.Needs.{needs}
 use mir.Syntax.{w64}
 use mir.ValLaws.{toZ-pos}
-use Rattle.capi.proofs.signed.Statement.{statement}
-use Rattle.capi.proofs.signed.Tie as tie
+use Rattle.sweep_c.proofs.signed.Statement.{statement}
+use Rattle.sweep_c.proofs.signed.Tie as tie
 
 cast-result : tie.Need-cast-result
 cast-result c = search needs

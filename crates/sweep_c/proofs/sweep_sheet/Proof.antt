@@ -1,15 +1,13 @@
 -- Sweep's answer, by its number.
-use Prim.Native.Nat.{ℕ}
-use Rattle.sweep.specs.Reply.{answerNumber}
-use Rattle.sweep.specs.declared.reply.Reply.{Reply}
+use Rattle.sweep.specs.Reply.{SweepReply}
 use borrow.Author.Needs.{needs}
 use lib.IntN.{pos}
 use mathlib.Core.Path.{ap, _∙_}
 use mir.Syntax.{w64}
 use mir.ValLaws.{toZ-ofZ}
-use Rattle.capi.proofs.Numbers.{fits, same-reply}
-use Rattle.capi.proofs.sweep_sheet.Statement.{statement}
-use Rattle.capi.proofs.sweep_sheet.Tie as tie
+use Rattle.sweep_c.proofs.Numbers.{fits, same-reply}
+use Rattle.sweep_c.proofs.sweep_sheet.Statement.{statement}
+use Rattle.sweep_c.proofs.sweep_sheet.Tie as tie
 
 sweep-requires : tie.Need-sweep-requires
 sweep-requires c κs = search needs
@@ -27,7 +25,7 @@ returns c =
     ∙ c .signed .ensures
     ∙ ap pos
     (c .before .number .ensures
-    ∙ ap (λ (x : Reply). answerNumber (x .answer))
+    ∙ ap (λ (x : SweepReply). x .answer .number)
     (c .before .before .sweep .ensures
     ∙ same-reply (s .args .sheet .now) (toZ-ofZ w64 _ (s .fits .p)) (toZ-ofZ w64 _ (s .fits .q)) (toZ-ofZ w64 _ (s .fits .r))))
 

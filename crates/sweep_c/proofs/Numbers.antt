@@ -1,0 +1,32 @@
+-- The numbers of Sweep's answers.
+use mathlib.Core.Path.{_≡_}
+use mathlib.Core.List.{List, [], _∷_}
+use Prim.Native.Nat.{ℕ, _<_, _≤_, _^_}
+use native.Mathlib.Omega.{arith}
+use lib.IntN.{ℤ}
+use Rattle.answers.specs.Numbers.{refusalAs, sweepAs}
+use Rattle.answers.specs.declared.file.Refusal.{Refusal}
+use Rattle.answers.specs.declared.file.Refusal.the-variants.{Size, Contents, Body, Route}
+use Rattle.answers.specs.declared.sweep.Answer.{Answer}
+use Rattle.answers.specs.declared.sweep.Answer.the-variants as answer
+use Rattle.sweep.specs.Reply.{replyOf}
+
+refusal-small : (r : Refusal) → refusalAs r .number ≤ 6
+refusal-small Size = omega arith
+refusal-small (Contents at) = omega arith
+refusal-small (Body at) = omega arith
+refusal-small (Route at) = omega arith
+
+answer-small : (a : Answer) → sweepAs a .number ≤ 6
+answer-small answer.Run = omega arith
+answer-small answer.Void = omega arith
+answer-small (answer.Refused r) = refusal-small r
+answer-small (answer.Outside k) = omega arith
+
+pub fits : (n : ℕ) (a : Answer) → n ≡ sweepAs a .number → n < 2 ^ 63
+fits n a e = omega (arith, answer-small a)
+
+-- the reply at numbers that were passed as their bits
+pub same-reply : (file : List ℕ) {p q r p′ q′ r′ : ℤ} → p ≡ p′ → q ≡ q′ → r ≡ r′
+    → replyOf file (p ∷ q ∷ r ∷ []) ≡ replyOf file (p′ ∷ q′ ∷ r′ ∷ [])
+same-reply file d e f = λ i. replyOf file (d i ∷ e i ∷ f i ∷ [])
