@@ -6,6 +6,9 @@ use Rattle.answers.specs.declared.file.Refusal.{Refusal}
 use Rattle.answers.specs.declared.file.Refusal.the-variants.{Size, Contents, Body, Route}
 use Rattle.answers.specs.declared.sweep.Answer.{Answer as SweepAnswer}
 use Rattle.answers.specs.declared.sweep.Answer.the-variants as sweep
+use Rattle.answers.specs.declared.windows.Answer.{Answer as WindowsAnswer}
+use Rattle.answers.specs.declared.windows.Answer.the-variants as windows
+use Rattle.answers.specs.declared.windows.Counts.{Counts}
 
 -- a number of the paper and a place
 pub record Numbered : Type 0 where
@@ -33,3 +36,24 @@ sweepAs sweep.Run = numbered 0 0
 sweepAs sweep.Void = numbered 1 0
 sweepAs (sweep.Refused r) = refusalAs r
 sweepAs (sweep.Outside k) = numbered 6 k
+
+-- Windows: 0 where the zones are listed, else the refusal; 7, 8 and 9 have the visit (moves made)
+abbrev pub windowsAs : WindowsAnswer → Numbered
+windowsAs (windows.Listed c) = numbered 0 0
+windowsAs windows.Small = numbered 1 0
+windowsAs (windows.Refused r) = refusalAs r
+windowsAs (windows.Zones visit) = numbered 7 visit
+windowsAs (windows.Inequalities visit) = numbered 8 visit
+windowsAs (windows.Numbers visit) = numbered 9 visit
+
+abbrev pub noCounts : Counts
+noCounts = record { pieces = 0; kept = 0; cut = 0 }
+
+-- how many pieces, and the valuations kept and cut; zeros with a refusal
+abbrev pub countsOf : WindowsAnswer → Counts
+countsOf (windows.Listed c) = c
+countsOf windows.Small = noCounts
+countsOf (windows.Refused r) = noCounts
+countsOf (windows.Zones visit) = noCounts
+countsOf (windows.Inequalities visit) = noCounts
+countsOf (windows.Numbers visit) = noCounts
