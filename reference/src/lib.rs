@@ -10,6 +10,7 @@ pub mod cuttings;
 pub mod digest;
 pub mod instants;
 pub mod listing;
+pub mod listings;
 #[cfg(test)]
 mod parts;
 pub mod planned;
