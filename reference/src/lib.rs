@@ -8,6 +8,7 @@ mod agree;
 pub mod bound;
 pub mod cuttings;
 pub mod digest;
+pub mod family;
 pub mod instants;
 pub mod listing;
 pub mod listings;

@@ -5,7 +5,8 @@
 //!
 //! The sheets of the paper are not among them. They stand in the folder `sheets`, beside their texts.
 
-use crate::cuttings::{drawn, edges, Family};
+use crate::cuttings::{drawn, edges};
+use crate::family::Family;
 use crate::listing::listing;
 use crate::random::Random;
 use crate::samples::{along, at_most, biggest_sheet, range};

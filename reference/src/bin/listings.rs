@@ -1,46 +1,31 @@
 //! Writes the stored listings and their files into a folder, or, with `--check`, compares what is stored
 //! there with a fresh computation.
 //!
-//! Use: `listings [--check] FOLDER`, or `listings --list` to see how many listings are of which kind.
+//! Use: `listings [--check] FOLDER`, or `listings --list` to see the names of the cases.
 
-use reference::listings::{cases, text, Case};
-use reference::tool::{get, get_text, put, run, same, text_lines};
-use reference::vectors::{store, stored};
-use std::path::Path;
+use reference::listings::{cases, text};
+use reference::tool::{run, Stored};
+use reference::vectors::stored;
 use std::process::ExitCode;
 
-/// The stored files and their listings, by name in the folder.
-const FILES: &str = "sheets.bin";
-const LISTINGS: &str = "listings.txt";
-
 fn main() -> ExitCode {
-    run("listings", list, check, write)
+    run("listings", list, listings)
 }
 
-fn list() -> Result<(), String> {
-    print!("{}", text(&cases()));
-    Ok(())
-}
-
-/// Writes the files and their listings.
-fn write(folder: &Path) -> Result<(), String> {
+/// The files and their listings.
+fn listings() -> Stored {
     let cases = cases();
-    let files = cases.iter().map(|case| &case.file);
-    put(&folder.join(FILES), &store(files))?;
-    put(&folder.join(LISTINGS), text(&cases).as_bytes())?;
-    println!("listings: {} files written", cases.len());
-    Ok(())
+    Stored {
+        data: "sheets.bin",
+        records: cases.iter().map(|case| stored(&case.file)).collect(),
+        results: "listings.txt",
+        text: text(&cases),
+    }
 }
 
-/// Compares the stored files with those that would be written, and the stored listings with theirs. The
-/// error names the first difference.
-fn check(folder: &Path) -> Result<(), String> {
-    let cases = cases();
-    let files: Vec<&Vec<u8>> = cases.iter().map(|case: &Case| &case.file).collect();
-    let kept = stored(&get(&folder.join(FILES))?).ok_or("the last stored file is not whole")?;
-    let listings = get_text(&folder.join(LISTINGS))?;
-    same("file", &files, &kept.iter().collect::<Vec<_>>())?;
-    same("line", &text_lines(&text(&cases)), &text_lines(&listings))?;
-    println!("listings: {} stored listings agree", cases.len());
-    Ok(())
+/// Prints the names of the cases.
+fn list() {
+    for (n, case) in (1..).zip(cases()) {
+        println!("case {n}: {}, {} bytes", case.name, case.file.len());
+    }
 }

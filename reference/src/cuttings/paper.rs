@@ -1,6 +1,6 @@
 //! The rows of paper 01, "Sheets to try", with their results, and tables and files that are refused.
 
-use super::{Case, Reply};
+use super::{case, file_case, Case, Reply};
 use crate::bound::Expr;
 use crate::samples::{at_most, below, range, sheet_a};
 use crate::sheet::Sheet;
@@ -18,21 +18,6 @@ pub fn cases() -> Vec<Case> {
     list.extend(tables());
     list.extend(refused_files());
     list
-}
-
-/// A case with a table of 32 places.
-fn case(name: &str, sheet: &Sheet, result: Reply) -> Case {
-    file_case(name, writer::file(sheet), PLACES, result)
-}
-
-/// A case.
-fn file_case(name: &str, file: Vec<u8>, places: usize, result: Reply) -> Case {
-    Case {
-        name: name.to_string(),
-        file,
-        places,
-        result,
-    }
 }
 
 /// Zones with those inequalities, and the counts of valuations kept and cut.
