@@ -16,6 +16,7 @@ pub mod listings;
 mod parts;
 pub mod planned;
 pub mod random;
+pub mod rows;
 pub mod samples;
 pub mod sheet;
 pub mod sweep;

@@ -8,7 +8,7 @@ use crate::sheet::{
 };
 
 /// The guard a - b <= constant + sum of coefficients times parameters.
-pub fn at_most(a: u8, b: u8, constant: i16, coefficients: [i16; 3]) -> Guard {
+pub const fn at_most(a: u8, b: u8, constant: i16, coefficients: [i16; 3]) -> Guard {
     Guard {
         a,
         b,
@@ -19,7 +19,7 @@ pub fn at_most(a: u8, b: u8, constant: i16, coefficients: [i16; 3]) -> Guard {
 }
 
 /// The guard a - b < constant + sum of coefficients times parameters.
-pub fn below(a: u8, b: u8, constant: i16, coefficients: [i16; 3]) -> Guard {
+pub const fn below(a: u8, b: u8, constant: i16, coefficients: [i16; 3]) -> Guard {
     Guard {
         strict: true,
         ..at_most(a, b, constant, coefficients)
@@ -71,13 +71,16 @@ pub fn along(
 
 /// Sheet A of the paper. Its bodies of 5, 16, 17 and 2 bytes lie at 22, 27, 43 and 60.
 pub fn sheet_a() -> Sheet {
-    Sheet {
-        parameters: vec![range(0, 10)],
-        clocks: 1,
-        locations: vec![location(&[at_most(1, 0, 0, [1, 0, 0])]), location(&[])],
-        transitions: vec![transition(0, 1, 0, &[at_most(0, 1, -3, [0, 0, 0])])],
-        route: vec![0],
-    }
+    let stays = [vec![at_most(1, 0, 0, [1, 0, 0])], vec![]];
+    let go = (0, vec![at_most(0, 1, -3, [0; 3])]);
+    along(&[range(0, 10)], 1, &stays, &[0, 1], &[go])
+}
+
+/// Sheet A after a change.
+pub fn a_with(change: impl Fn(&mut Sheet)) -> Sheet {
+    let mut sheet = sheet_a();
+    change(&mut sheet);
+    sheet
 }
 
 /// Sheet B: two parameters, three clocks, three locations, three transitions and a route of five.

@@ -13,7 +13,7 @@ use crate::digest::{digest, signed};
 use crate::family::Family;
 use crate::planned::{planned, random_shape, Planned, Shape};
 use crate::random::Random;
-use crate::samples::{at_most, biggest_sheet, location, random_sheet, range, transition, Size};
+use crate::samples::{along, at_most, biggest_sheet, random_sheet, range, Size};
 use crate::sheet::{Sheet, MOST_CLOCKS, MOST_PARAMETERS, MOST_ROUTE};
 use crate::sweep::{sweep, Matrix, ZEROS};
 use crate::valuations::{all, beyond, corners, some, Valuation};
@@ -94,13 +94,8 @@ pub fn meetings() -> Vec<Record> {
         } else {
             (vec![], vec![second])
         };
-        let sheet = Sheet {
-            parameters: vec![range(-2, 2), range(-2, 2)],
-            clocks: 2,
-            locations: vec![location(&[first]), location(&there)],
-            transitions: vec![transition(0, 1, resets, &back)],
-            route: vec![0],
-        };
+        let (box_of, stays) = ([range(-2, 2); 2], [vec![first], there]);
+        let sheet = along(&box_of, 2, &stays, &[0, 1], &[(resets, back)]);
         list.push(record(&sheet, all(&sheet.parameters)));
     }
     list
