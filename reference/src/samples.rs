@@ -232,18 +232,23 @@ fn fill(random: &mut Random, list: &mut Vec<Guard>, parameters: usize, clocks: u
 
 /// A good guard.
 fn random_guard(random: &mut Random, parameters: usize, clocks: u8) -> Guard {
-    let clock = 1 + random.below(usize::from(clocks)) as u8;
-    let (a, b) = if random.once_in(2) {
-        (clock, 0)
-    } else {
-        (0, clock)
-    };
+    let (a, b) = random_clocks(random, clocks);
     let mut guard = at_most(a, b, random_number(random), [0; 3]);
     guard.strict = random.once_in(2);
     for coefficient in &mut guard.coefficients[..parameters] {
         *coefficient = random_number(random);
     }
     guard
+}
+
+/// A guard's clocks a and b, of which one is 0, for a sheet with that many clocks.
+pub(crate) fn random_clocks(random: &mut Random, clocks: u8) -> (u8, u8) {
+    let clock = 1 + random.below(usize::from(clocks)) as u8;
+    if random.once_in(2) {
+        (clock, 0)
+    } else {
+        (0, clock)
+    }
 }
 
 /// A number from -1,000 to 1,000, small in half of the cases.
