@@ -91,8 +91,7 @@ fn shaved() -> Sheet {
 // The sheet without limits.
 fn unlimited() -> Sheet {
     let mut sheet = full(false, MOST_ROUTE);
-    sheet.locations.iter_mut().for_each(|x| x.invariants.clear());
-    sheet.transitions.iter_mut().for_each(|x| x.guards.clear());
+    sheet.guards_mut().for_each(Vec::clear);
     sheet
 }
 

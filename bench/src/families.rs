@@ -1,12 +1,8 @@
 // Families of systems to measure.
-use crate::random::Random;
-use crate::system::{Expr, System, MOST};
+use crate::system::{value, Expr, System, MOST};
+use reference::random::Random;
 
 const CUBE: [(i16, i16); 3] = [(0, 63), (0, 63), (0, 63)];
-
-fn value(e: &Expr, v: [i16; 3]) -> i64 {
-    e[0] as i64 + e[1] as i64 * v[0] as i64 + e[2] as i64 * v[1] as i64 + e[3] as i64 * v[2] as i64
-}
 
 // All valuations of the ranges, in lexicographic order.
 fn valuations(ranges: [(i16, i16); 3]) -> Vec<[i16; 3]> {
@@ -148,7 +144,7 @@ fn contrived() -> Vec<System> {
     }
     // harmless inequalities first, so that the one that decides comes last
     for (seed, most) in [(1, 1), (2, 9), (3, 1000)] {
-        let random = &mut Random(seed);
+        let random = &mut Random::new(seed);
         let mut list = Vec::new();
         while list.len() < MOST - 2 {
             let mut e = through(random, [32, 32, 32], most);
@@ -213,7 +209,7 @@ fn family(name: &'static str, question: Question, judged: bool, systems: Vec<Sys
 // All families, with n systems each where they are random.
 pub fn all(n: usize) -> Vec<Family> {
     use Question::{Count, First};
-    let random = &mut Random(2024);
+    let random = &mut Random::new(2024);
     let sizes = |i: usize| 3 + i % (MOST - 2);
     let planes: Vec<System> = (0..n).map(|i| without_solution(random, sizes(i), 9)).collect();
     let steep: Vec<System> = (0..n).map(|i| without_solution(random, sizes(i), 1000)).collect();

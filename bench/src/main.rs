@@ -2,7 +2,6 @@
 // a proved Sweep at every valuation.
 mod cuts;
 mod families;
-mod random;
 mod search;
 mod searches;
 mod sheets;
@@ -22,7 +21,7 @@ fn main() {
         sweep::run(has("--quick"));
         println!();
     }
-        if all || has("--windows") {
+    if all || has("--windows") {
         windows::run(has("--quick"));
         println!();
     }

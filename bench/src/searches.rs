@@ -1,5 +1,5 @@
 // The two searches: the proved one, and a plain scan over all valuations in lexicographic order.
-use crate::system::{Expr, System};
+use crate::system::{value, Expr, System};
 
 mod proved {
     extern "C" {
@@ -21,7 +21,7 @@ pub fn count(input: &[u8]) -> i64 {
 }
 
 fn holds(list: &[Expr], v: [i16; 3]) -> bool {
-    list.iter().all(|e| e[0] as i64 + e[1] as i64 * v[0] as i64 + e[2] as i64 * v[1] as i64 + e[3] as i64 * v[2] as i64 >= 0)
+    list.iter().all(|e| value(e, v) >= 0)
 }
 
 fn packed(v: [i16; 3]) -> i64 {

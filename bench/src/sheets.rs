@@ -1,6 +1,6 @@
 // Families of sheets to measure.
-use crate::random::Random;
-use reference::planned::{planned, Shape};
+use reference::planned::{planned, Planned, Shape};
+use reference::random::Random;
 use reference::samples::{at_most, location, range, transition};
 use reference::sheet::{Guard, Sheet, MOST_BYTES, MOST_GUARDS, MOST_LOCATIONS, MOST_ROUTE, MOST_TRANSITIONS};
 use reference::writer::file;
@@ -10,13 +10,6 @@ use reference::writer::file;
 pub struct Input {
     pub file: Vec<u8>,
     pub valuation: [i64; 3],
-}
-
-// A sheet and the three numbers that its limits are made for.
-#[derive(Clone)]
-struct Plan {
-    sheet: Sheet,
-    valuation: [i64; 3],
 }
 
 // The limit a - b, at most or below that value once the three numbers are put in. Its coefficients are random.
@@ -46,7 +39,7 @@ fn full(
     stay: impl Fn(&mut Random, [i64; 3]) -> Vec<Guard>,
     leave: impl Fn(&mut Random, usize, [i64; 3]) -> Vec<Guard>,
     resets: impl Fn(&mut Random) -> u8,
-) -> Plan {
+) -> Planned {
     let lows = [0; 3].map(|_| random.within(-9, 0));
     let valuation = lows.map(|low| low + random.within(0, 9));
     let mut sheet = Sheet {
@@ -64,7 +57,7 @@ fn full(
         let guards = leave(random, k, valuation);
         sheet.transitions.push(transition(from as u8, to as u8, resets(random), &guards));
     }
-    Plan { sheet, valuation }
+    Planned { sheet, valuation }
 }
 
 // Wide limits: six of 500 to 800 above, and of 9 to 1 below zero. The run that never waits meets them all.
@@ -87,13 +80,13 @@ fn wide(random: &mut Random, v: [i64; 3]) -> Vec<Guard> {
 }
 
 // Wide limits everywhere, some clocks reset.
-fn loose(random: &mut Random) -> Plan {
+fn loose(random: &mut Random) -> Planned {
     full(random, wide, |random, _, v| wide(random, v), |random| random.within(0, 15) as u8)
 }
 
 // Every limit tightens, every transition resets all clocks. They run together then, so that whichever clock a limit
 // is about, the upper limits fall from 900 in steps of 10, and the lower ones rise from 2 in steps of 2.
-fn tight_together(random: &mut Random) -> Plan {
+fn tight_together(random: &mut Random) -> Planned {
     let limits = |random: &mut Random, v: [i64; 3], step: i64| {
         let mut list = Vec::new();
         for k in 0..3 {
@@ -107,7 +100,7 @@ fn tight_together(random: &mut Random) -> Plan {
 
 // Every limit tightens, nothing is reset. A wait takes the upper limits away, so that those of a location tighten
 // at each visit; lower limits stay, so that only transitions have them, and rise along the route.
-fn tight_apart(random: &mut Random) -> Plan {
+fn tight_apart(random: &mut Random) -> Planned {
     let stay = |random: &mut Random, v: [i64; 3]| (0..6).map(|k| upper(random, 900 - 10 * k, v)).collect();
     let leave = |random: &mut Random, number: usize, v: [i64; 3]| {
         let mut list = Vec::new();
@@ -121,38 +114,32 @@ fn tight_apart(random: &mut Random) -> Plan {
 }
 
 // The same route cut to that length.
-fn cut(plan: &Plan, moves: usize) -> Plan {
+fn cut(plan: &Planned, moves: usize) -> Planned {
     let mut plan = plan.clone();
     plan.sheet.route.truncate(moves);
     plan
 }
 
 // The first location cannot be left in time: no run.
-fn void_early(plan: &Plan) -> Plan {
+fn void_early(plan: &Planned) -> Planned {
     let mut plan = plan.clone();
     plan.sheet.locations[0].invariants[0] = at_most(1, 0, -1, [0; 3]);
     plan
 }
 
 // The last move of the route has a limit, its last, that no run meets.
-fn void_late(plan: &Plan) -> Plan {
+fn void_late(plan: &Planned) -> Planned {
     let mut plan = plan.clone();
     plan.sheet.transitions[MOST_TRANSITIONS - 1].guards[MOST_GUARDS - 1] = at_most(1, 0, -1, [0; 3]);
     plan
 }
 
-// All limits of a sheet.
-fn limits_of(sheet: &mut Sheet) -> impl Iterator<Item = &mut Vec<Guard>> {
-    let stays = sheet.locations.iter_mut().map(|x| &mut x.invariants);
-    stays.chain(sheet.transitions.iter_mut().map(|x| &mut x.guards))
-}
-
 // The sheet with all limits and resets on one clock.
-fn one_clock(plan: &Plan) -> Plan {
+fn one_clock(plan: &Planned) -> Planned {
     let mut plan = plan.clone();
     plan.sheet.clocks = 1;
     plan.sheet.transitions.iter_mut().for_each(|x| x.resets &= 1);
-    for guard in limits_of(&mut plan.sheet).flatten() {
+    for guard in plan.sheet.guards_mut().flatten() {
         guard.a = guard.a.min(1);
         guard.b = guard.b.min(1);
     }
@@ -160,14 +147,14 @@ fn one_clock(plan: &Plan) -> Plan {
 }
 
 // The sheet without limits.
-fn unlimited(plan: &Plan) -> Plan {
+fn unlimited(plan: &Planned) -> Planned {
     let mut plan = plan.clone();
-    limits_of(&mut plan.sheet).for_each(Vec::clear);
+    plan.sheet.guards_mut().for_each(Vec::clear);
     plan
 }
 
 // A sheet around a run, of the reference's own making: up to six limits at each place.
-fn around_a_run(random: &mut reference::random::Random) -> Plan {
+fn around_a_run(random: &mut Random) -> Planned {
     let shape = Shape {
         parameters: 3,
         width: 63,
@@ -177,17 +164,16 @@ fn around_a_run(random: &mut reference::random::Random) -> Plan {
         moves: 32,
         guards: 6,
     };
-    let plan = planned(random, shape);
-    Plan { sheet: plan.sheet, valuation: plan.valuation }
+    planned(random, shape)
 }
 
 // A sheet with nothing in it but one location.
-fn smallest() -> Plan {
+fn smallest() -> Planned {
     let sheet = Sheet { parameters: vec![], clocks: 1, locations: vec![location(&[])], transitions: vec![], route: vec![] };
-    Plan { sheet, valuation: [0; 3] }
+    Planned { sheet, valuation: [0; 3] }
 }
 
-fn input(plan: &Plan) -> Input {
+fn input(plan: &Planned) -> Input {
     Input { file: file(&plan.sheet), valuation: plan.valuation }
 }
 
@@ -212,7 +198,7 @@ pub struct Family {
 pub const LENGTHS: [usize; 7] = [0, 1, 2, 4, 8, 16, 32];
 
 // Sheets of one kind with their routes cut to the lengths.
-fn lengths(all: &mut Vec<Family>, name: &'static str, plans: &[Plan]) {
+fn lengths(all: &mut Vec<Family>, name: &'static str, plans: &[Planned]) {
     for moves in LENGTHS {
         let inputs = plans.iter().map(|plan| input(&cut(plan, moves))).collect();
         all.push(Family { name, moves, answer: Some(0), judged: moves == 32, inputs });
@@ -221,12 +207,12 @@ fn lengths(all: &mut Vec<Family>, name: &'static str, plans: &[Plan]) {
 
 // All families, with n sheets each where they are random.
 pub fn all(n: usize) -> Vec<Family> {
-    let random = &mut Random(2025);
-    let wides: Vec<Plan> = (0..n).map(|_| loose(random)).collect();
-    let together: Vec<Plan> = (0..n).map(|_| tight_together(random)).collect();
-    let apart: Vec<Plan> = (0..n).map(|_| tight_apart(random)).collect();
-    let random = &mut reference::random::Random::new(2025);
-    let planned: Vec<Plan> = (0..n).map(|_| around_a_run(random)).collect();
+    let random = &mut Random::new(2025);
+    let wides: Vec<Planned> = (0..n).map(|_| loose(random)).collect();
+    let together: Vec<Planned> = (0..n).map(|_| tight_together(random)).collect();
+    let apart: Vec<Planned> = (0..n).map(|_| tight_apart(random)).collect();
+    let random = &mut Random::new(2025);
+    let planned: Vec<Planned> = (0..n).map(|_| around_a_run(random)).collect();
     let mut all = Vec::new();
     lengths(&mut all, "6 limits, wide", &wides);
     lengths(&mut all, "6 limits, all tighten, resets", &together);

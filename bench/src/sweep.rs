@@ -1,6 +1,7 @@
 // Measures proved Sweep against the reference's on the same files, and compares every answer.
 use crate::sheets::{self, Family, Input, LENGTHS};
-use crate::timing::{mean, round, time};
+use crate::timing::{mean, round, slopes, time};
+use reference::valuations::Valuation;
 use std::hint::black_box;
 
 mod proved {
@@ -19,11 +20,15 @@ struct Times {
     reading: Vec<f64>,
 }
 
-fn proved(x: &Input) -> i64 {
-    let x = black_box(x);
-    let [p, q, r] = x.valuation;
+// 0 for a run, 1 for none, else the refusal's number.
+pub fn sweep(file: &[u8], v: Valuation) -> i64 {
+    let (file, [p, q, r]) = black_box((file, v));
     // The function reads the slice, and asks nothing of its contents.
-    unsafe { proved::sweep_sheet(x.file.as_ptr(), x.file.len(), p, q, r) }
+    unsafe { proved::sweep_sheet(file.as_ptr(), file.len(), p, q, r) }
+}
+
+fn proved(x: &Input) -> i64 {
+    sweep(&x.file, x.valuation)
 }
 
 // The reference's answer as a number, as the proved function gives it.
@@ -93,25 +98,13 @@ fn print(f: &Family, t: &Times) {
     );
 }
 
-// What a move costs on the way from one length of a route to the next: as much each time, if the cost is linear.
-fn slopes(name: &str, means: &[(f64, f64)]) {
-    let slope = |pick: fn(&(f64, f64)) -> f64| {
-        let mut words = Vec::new();
-        for (ends, lengths) in means.windows(2).zip(LENGTHS.windows(2)) {
-            let moves = (lengths[1] - lengths[0]) as f64;
-            words.push(format!("{:.3}", (pick(&ends[1]) - pick(&ends[0])) / moves));
-        }
-        words.join(" ")
-    };
-    println!("{name:<34} proved {}   reference {}", slope(|x| x.0), slope(|x| x.1));
-}
-
 fn judge(families: &[Family], all: &[Times]) {
     println!("\nMicroseconds for each further move, at lengths {LENGTHS:?}:");
     for (group, times) in families.chunks(LENGTHS.len()).zip(all.chunks(LENGTHS.len())) {
         if group.iter().any(|f| f.judged) {
-            let means: Vec<(f64, f64)> = times.iter().map(|t| (mean(&t.proved), mean(&t.reference))).collect();
-            slopes(group[0].name, &means);
+            let slope = |pick: fn(&Times) -> f64| slopes(&times.iter().map(pick).collect::<Vec<f64>>(), &LENGTHS, 3);
+            let (proved, reference) = (slope(|t| mean(&t.proved)), slope(|t| mean(&t.reference)));
+            println!("{:<34} proved {proved}   reference {reference}", group[0].name);
         }
     }
     let judged = || families.iter().zip(all).filter(|(f, _)| f.judged).map(|(_, t)| t);

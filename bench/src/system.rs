@@ -5,6 +5,11 @@ pub const MOST: usize = 25;
 // constant + p·x + q·y + r·z ≥ 0, as [constant, p, q, r].
 pub type Expr = [i32; 4];
 
+// The value of an expression at a valuation.
+pub fn value(e: &Expr, v: [i16; 3]) -> i64 {
+    e[0] as i64 + e[1] as i64 * v[0] as i64 + e[2] as i64 * v[1] as i64 + e[3] as i64 * v[2] as i64
+}
+
 #[derive(Clone)]
 pub struct System {
     // Low and high of p, q and r, both included.

@@ -21,6 +21,17 @@ pub fn mean(times: &[f64]) -> f64 {
     times.iter().sum::<f64>() / times.len() as f64
 }
 
+// What a move costs on the way from one length of a route to the next, from the mean times at these lengths, with so
+// many digits: as much each time, if the cost is linear.
+pub fn slopes(means: &[f64], lengths: &[usize], digits: usize) -> String {
+    let mut words = Vec::new();
+    for (ends, lengths) in means.windows(2).zip(lengths.windows(2)) {
+        let moves = (lengths[1] - lengths[0]) as f64;
+        words.push(format!("{:.digits$}", (ends[1] - ends[0]) / moves));
+    }
+    words.join(" ")
+}
+
 pub fn worst(times: &[f64]) -> f64 {
     times.iter().copied().fold(0.0, f64::max)
 }

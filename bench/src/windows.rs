@@ -1,7 +1,8 @@
 // Measures one proved Windows against a proved Sweep at every valuation of the ranges, and Windows along growing routes.
 // The counts of pieces are compared with the reference's.
 use crate::cuts::{self, Family, LENGTHS};
-use crate::timing::{mean, round, time};
+use crate::sweep::sweep;
+use crate::timing::{mean, round, slopes, time};
 use reference::random::Random;
 use reference::sheet::Sheet;
 use reference::valuations::{all, some, Valuation};
@@ -11,7 +12,6 @@ use std::hint::black_box;
 mod proved {
     extern "C" {
         pub fn windows_count(file: *const u8, length: usize) -> i64;
-        pub fn sweep_sheet(sheet: *const u8, length: usize, p1: i64, p2: i64, p3: i64) -> i64;
     }
 }
 
@@ -20,13 +20,6 @@ fn windows(file: &[u8]) -> i64 {
     let file = black_box(file);
     // The function reads the slice, and asks nothing of its contents.
     unsafe { proved::windows_count(file.as_ptr(), file.len()) }
-}
-
-// 0 for a run, 1 for none, else the refusal's number.
-fn sweep(file: &[u8], v: Valuation) -> i64 {
-    let (file, [p, q, r]) = black_box((file, v));
-    // As above.
-    unsafe { proved::sweep_sheet(file.as_ptr(), file.len(), p, q, r) }
 }
 
 // Times in microseconds on each sheet of a family, and the pieces of each: one Windows, and one Sweep, which is the
@@ -118,17 +111,6 @@ fn print(f: &Family, t: &Times, valuations: usize) {
     );
 }
 
-// What a move costs on the way from one length of a route to the next: as much each time, if the cost is linear.
-fn slopes(group: &[Family], times: &[Times]) {
-    let means: Vec<f64> = times.iter().map(|t| mean(&t.windows)).collect();
-    let mut words = vec![format!("{:.1}", means[0])];
-    for (ends, lengths) in means.windows(2).zip(LENGTHS.windows(2)) {
-        let moves = (lengths[1] - lengths[0]) as f64;
-        words.push(format!("{:.1}", (ends[1] - ends[0]) / moves));
-    }
-    println!("{:<34} {}", group[0].name, words.join(" "));
-}
-
 pub fn run(quick: bool) {
     let sample = sample(quick);
     let families = cuts::all(if quick { 1 } else { 4 });
@@ -145,7 +127,8 @@ pub fn run(quick: bool) {
     println!("\nMicroseconds of Windows with one move, and for each further move, at lengths {LENGTHS:?}:");
     for (group, times) in families.chunks(LENGTHS.len()).zip(times.chunks(LENGTHS.len())) {
         if group.iter().all(|f| f.growing) {
-            slopes(group, times);
+            let means: Vec<f64> = times.iter().map(|t| mean(&t.windows)).collect();
+            println!("{:<34} {:.1} {}", group[0].name, means[0], slopes(&means, &LENGTHS, 1));
         }
     }
     let least = times.iter().map(|t| t.ratio(valuations)).fold(f64::INFINITY, f64::min);

@@ -8,12 +8,15 @@ mod agree;
 pub mod bound;
 pub mod cuttings;
 pub mod digest;
+pub mod family;
 pub mod instants;
 pub mod listing;
+pub mod listings;
 #[cfg(test)]
 mod parts;
 pub mod planned;
 pub mod random;
+pub mod rows;
 pub mod samples;
 pub mod sheet;
 pub mod sweep;

@@ -2,7 +2,7 @@
 //! meets, most of them with nothing to spare. Random guards alone leave few routes a run.
 
 use crate::random::Random;
-use crate::samples::{at_most, location, range, transition};
+use crate::samples::{at_most, location, random_clocks, range, transition};
 use crate::sheet::{Guard, Parameter, Sheet};
 
 /// What a planned sheet has: that many of each, up to that many guards at each place, and ranges up
@@ -19,6 +19,7 @@ pub struct Shape {
 }
 
 /// A sheet, and a valuation that it was planned for.
+#[derive(Clone)]
 pub struct Planned {
     pub sheet: Sheet,
     pub valuation: [i64; 3],
@@ -221,13 +222,9 @@ fn guard(
     v: [i64; 3],
     draw: Draw,
 ) -> Option<Guard> {
-    let clock = 1 + random.below(usize::from(shape.clocks));
-    let (a, b) = if random.once_in(2) {
-        (clock, 0)
-    } else {
-        (0, clock)
-    };
-    let halves = values.iter().map(|x| x[a] - x[b]).max();
+    let (a, b) = random_clocks(random, shape.clocks);
+    let difference = |x: &[i64; 5]| x[usize::from(a)] - x[usize::from(b)];
+    let halves = values.iter().map(difference).max();
     let halves = halves.unwrap_or(random.below(9) as i64);
     let spare = if random.once_in(2) {
         0
@@ -243,7 +240,7 @@ fn guard(
     if !(-1000..=1000).contains(&constant) {
         return None;
     }
-    let mut guard = at_most(a as u8, b as u8, constant as i16, coefficients);
+    let mut guard = at_most(a, b, constant as i16, coefficients);
     guard.strict = 2 * least > halves && random.once_in(2);
     Some(guard)
 }
@@ -278,9 +275,7 @@ fn product(coefficients: [i16; 3], v: [i64; 3]) -> i64 {
 
 /// Makes one guard of the sheet, if it has any, strict or a little tighter.
 fn tighten(random: &mut Random, sheet: &mut Sheet) {
-    let stays = sheet.locations.iter_mut().map(|l| &mut l.invariants);
-    let moves = sheet.transitions.iter_mut().map(|t| &mut t.guards);
-    let mut all: Vec<&mut Guard> = stays.chain(moves).flatten().collect();
+    let mut all: Vec<&mut Guard> = sheet.guards_mut().flatten().collect();
     if all.is_empty() {
         return;
     }

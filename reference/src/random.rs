@@ -26,8 +26,13 @@ impl Random {
     }
 
     /// A number from `low` to `high`, both of them included.
+    pub fn within(&mut self, low: i64, high: i64) -> i64 {
+        low + self.below((high - low + 1) as usize) as i64
+    }
+
+    /// The same for numbers of 16 bits.
     pub fn from_to(&mut self, low: i16, high: i16) -> i16 {
-        low + self.below((i32::from(high) - i32::from(low) + 1) as usize) as i16
+        self.within(i64::from(low), i64::from(high)) as i16
     }
 
     /// A byte.

@@ -8,7 +8,7 @@ use crate::sheet::{
 };
 
 /// The guard a - b <= constant + sum of coefficients times parameters.
-pub fn at_most(a: u8, b: u8, constant: i16, coefficients: [i16; 3]) -> Guard {
+pub const fn at_most(a: u8, b: u8, constant: i16, coefficients: [i16; 3]) -> Guard {
     Guard {
         a,
         b,
@@ -19,7 +19,7 @@ pub fn at_most(a: u8, b: u8, constant: i16, coefficients: [i16; 3]) -> Guard {
 }
 
 /// The guard a - b < constant + sum of coefficients times parameters.
-pub fn below(a: u8, b: u8, constant: i16, coefficients: [i16; 3]) -> Guard {
+pub const fn below(a: u8, b: u8, constant: i16, coefficients: [i16; 3]) -> Guard {
     Guard {
         strict: true,
         ..at_most(a, b, constant, coefficients)
@@ -71,13 +71,16 @@ pub fn along(
 
 /// Sheet A of the paper. Its bodies of 5, 16, 17 and 2 bytes lie at 22, 27, 43 and 60.
 pub fn sheet_a() -> Sheet {
-    Sheet {
-        parameters: vec![range(0, 10)],
-        clocks: 1,
-        locations: vec![location(&[at_most(1, 0, 0, [1, 0, 0])]), location(&[])],
-        transitions: vec![transition(0, 1, 0, &[at_most(0, 1, -3, [0, 0, 0])])],
-        route: vec![0],
-    }
+    let stays = [vec![at_most(1, 0, 0, [1, 0, 0])], vec![]];
+    let go = (0, vec![at_most(0, 1, -3, [0; 3])]);
+    along(&[range(0, 10)], 1, &stays, &[0, 1], &[go])
+}
+
+/// Sheet A after a change.
+pub fn a_with(change: impl Fn(&mut Sheet)) -> Sheet {
+    let mut sheet = sheet_a();
+    change(&mut sheet);
+    sheet
 }
 
 /// Sheet B: two parameters, three clocks, three locations, three transitions and a route of five.
@@ -229,18 +232,23 @@ fn fill(random: &mut Random, list: &mut Vec<Guard>, parameters: usize, clocks: u
 
 /// A good guard.
 fn random_guard(random: &mut Random, parameters: usize, clocks: u8) -> Guard {
-    let clock = 1 + random.below(usize::from(clocks)) as u8;
-    let (a, b) = if random.once_in(2) {
-        (clock, 0)
-    } else {
-        (0, clock)
-    };
+    let (a, b) = random_clocks(random, clocks);
     let mut guard = at_most(a, b, random_number(random), [0; 3]);
     guard.strict = random.once_in(2);
     for coefficient in &mut guard.coefficients[..parameters] {
         *coefficient = random_number(random);
     }
     guard
+}
+
+/// A guard's clocks a and b, of which one is 0, for a sheet with that many clocks.
+pub(crate) fn random_clocks(random: &mut Random, clocks: u8) -> (u8, u8) {
+    let clock = 1 + random.below(usize::from(clocks)) as u8;
+    if random.once_in(2) {
+        (clock, 0)
+    } else {
+        (0, clock)
+    }
 }
 
 /// A number from -1,000 to 1,000, small in half of the cases.

@@ -72,6 +72,15 @@ pub struct Sheet {
     pub route: Vec<u8>,
 }
 
+impl Sheet {
+    /// The guards of each location and then of each transition.
+    pub fn guards_mut(&mut self) -> impl Iterator<Item = &mut Vec<Guard>> {
+        let stays = self.locations.iter_mut().map(|l| &mut l.invariants);
+        let moves = self.transitions.iter_mut().map(|t| &mut t.guards);
+        stays.chain(moves)
+    }
+}
+
 /// The sheet that the file holds, or the first of refusals 2, 3, 4 and 5, each judged over the
 /// whole file.
 pub fn read(file: &[u8]) -> Result<Sheet, Refusal> {

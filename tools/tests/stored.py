@@ -44,17 +44,6 @@ def found(name):
     return listing.parse(listing_text(name), sheet(name)[0].watches)
 
 
-def records(path, extra):
-    """The records of a data file: two bytes of length, the bytes, and some extra bytes that are passed over."""
-    data = path.read_bytes()
-    at = 0
-    while at < len(data):
-        start = at + 2
-        at = start + int.from_bytes(data[at:start], "little")
-        yield data[start:at]
-        at += extra
-
-
 def lister():
     """The command that prints listings, or nothing."""
     if os.environ.get("LISTING"):

@@ -3,7 +3,8 @@
 import unittest
 
 import sheet_file
-from stored import ROOT, records
+from records import records
+from stored import ROOT
 
 
 def outcome(file):
@@ -19,7 +20,7 @@ def outcome(file):
 class SheetFile(unittest.TestCase):
     def test_stored_files_are_read_or_refused_as_stored(self):
         folder = ROOT / "crates" / "vectors_sheet"
-        files = list(records(folder / "data" / "sheets.bin", 0))
+        files = list(records(folder / "data" / "sheets.bin"))
         lines = (folder / "stdout").read_text(encoding="utf-8").splitlines()
         self.assertEqual(len(files), len(lines))
         for number, (file, line) in enumerate(zip(files, lines), 1):

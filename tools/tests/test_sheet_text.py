@@ -8,8 +8,9 @@ from pathlib import Path
 
 import sheet_file
 import sheet_text
+from records import records
 from sheet_file import Limit
-from stored import DOCS, NAMES, ROOT, SHEETS, records, sheet, tool
+from stored import DOCS, NAMES, ROOT, SHEETS, sheet, tool
 from tokens import TextError, decode
 
 # the stored records of Windows that are the paper's rows, by their place among the records
@@ -42,7 +43,7 @@ class RoundTrips(unittest.TestCase):
 
     def test_every_readable_stored_sheet(self):
         """All records of Windows, and every fourth of the reader's, of which many are damaged."""
-        files = [*records(WINDOWS, 1), *list(records(ROOT / "crates" / "vectors_sheet" / "data" / "sheets.bin", 0))[::4]]
+        files = [*records(WINDOWS, 1), *list(records(ROOT / "crates" / "vectors_sheet" / "data" / "sheets.bin"))[::4]]
         readable = 0
         for number, file in enumerate(files):
             try:

@@ -14,9 +14,9 @@ import settings
 import sheet_file
 import svg
 from inputs import Fault
+from records import records
 from sheet_text import default_names
-from stored import (EXPECTED, NAMES, ROOT, SHEETS, found, fresh_listing, listed, lister, listing_text, outputs,
-                    records, sheet, tool)
+from stored import EXPECTED, NAMES, ROOT, SHEETS, found, fresh_listing, listed, lister, listing_text, outputs, sheet, tool
 
 
 class Stored(unittest.TestCase):

@@ -1,5 +1,6 @@
-// Reads a sheet from standard input and prints what Windows found (paper 01, "Sheets to try"): how many pieces, kept and cut, and each piece; or
-// the refusal and its place. If the input cannot be read or the output cannot be written, it says why on standard error and prints no more.
+// Reads a sheet from standard input and prints what Windows found (paper 01, "Sheets to try"): how many pieces, kept and cut, and each
+// piece; or the refusal and its place. If the input cannot be read or the output cannot be written, it says why on standard error and
+// prints no more.
 mod text;
 mod zone;
 
@@ -60,17 +61,18 @@ fn print_listing(file: &[u8]) -> bool {
     print_refusal(answer)
 }
 
-// Whether reading on fails. At the end of the input it does not.
-fn read_fails() -> bool {
+// Whether the input has ended. `io::read_full` comes back early at the end of the input, but also where a read fails or a signal
+// interrupts it. At the end one more read gives 0; otherwise it fails again, or it gives a byte that the file read so far lacks.
+fn has_ended() -> bool {
     let mut more = [0u8; 1];
-    libc::read(STDIN_FILENO, &mut more) < 0
+    libc::read(STDIN_FILENO, &mut more) == 0
 }
 
 // A sheet file has at most 4,096 bytes, so that one byte more is enough to know that it is too long.
 fn main() {
     let mut file = [0u8; 4097];
     let n = io::read_full(STDIN_FILENO, &mut file);
-    if n < 4097 && read_fails() {
+    if n < 4097 && !has_ended() {
         os::fail(b"listing: read");
         return;
     }

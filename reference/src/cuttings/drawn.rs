@@ -1,7 +1,8 @@
 //! Families of random sheets whose ranges are cut.
 
 use super::built::{envelopes, large_numbers, shaved};
-use super::{record, record_of, Family, Record};
+use super::{record, record_of, Record};
+use crate::family::Family;
 use crate::planned::{crossed, planned, random_shape, Shape};
 use crate::random::Random;
 use crate::samples::{biggest_sheet, random_sheet, Size};
@@ -12,7 +13,7 @@ use crate::windows::PLACES;
 use crate::writer;
 
 /// All the families, in the order in which they are stored.
-pub fn families(random: &mut Random) -> Vec<Family> {
+pub fn families(random: &mut Random) -> Vec<Family<Record>> {
     let mut list = Vec::new();
     let mut add = |name, records| list.push(Family { name, records });
     add("the sheets that Sweep is tried at", sweeps_sheets());
@@ -152,13 +153,7 @@ fn at_limits() -> Vec<Record> {
 
 /// Damaged files of every kind; some are still good.
 fn damaged(random: &mut Random) -> Vec<Record> {
-    let mut files = damage::changed(random, 120);
-    files.extend(damage::cut(random, 20));
-    files.extend(damage::lengthened(random, 20));
-    files.extend(damage::resized(random, 60));
-    files.extend(damage::moved(random, 30));
-    files.extend(damage::rerouted(random, 80));
-    files.extend(damage::noise(random, 40));
+    let files = damage::every_kind(random, [120, 20, 20, 60, 30, 80, 40]);
     let one = |file| record_of(file, PLACES);
     files.into_iter().map(one).collect()
 }

@@ -8,12 +8,10 @@
 //! instants of a run that passes none twice, so at most 33 guards with numbers up to 1,000 in size, and a
 //! test joins at most three entries and a guard.
 
-use super::{Case, Reply};
+use super::{case, Case, Reply};
 use crate::bound::Expr;
 use crate::samples::{along, at_most, range};
 use crate::sheet::{Guard, Parameter, Sheet, MOST_GUARDS};
-use crate::windows::PLACES;
-use crate::writer;
 use Reply::{Counts, Refused, Zones};
 
 /// All cases.
@@ -23,16 +21,6 @@ pub fn cases() -> Vec<Case> {
     list.extend(both());
     list.extend(nothing());
     list
-}
-
-/// A case with a table of 32 places.
-fn case(name: &str, sheet: &Sheet, result: Reply) -> Case {
-    Case {
-        name: name.to_string(),
-        file: writer::file(sheet),
-        places: PLACES,
-        result,
-    }
 }
 
 /// 0 - 1 at most k^2 - 2kp, for each k.
@@ -215,7 +203,6 @@ fn nothing() -> Vec<Case> {
 #[cfg(test)]
 mod tests {
     use super::*;
-    use crate::sheet::read;
     use crate::windows::{cut, windows, Limits};
 
     /// Windows gives the results that are written here.
@@ -242,8 +229,7 @@ mod tests {
             } else {
                 limits.zones = usize::MAX;
             }
-            let sheet = read(&writer::file(&deep_zone(first))).unwrap();
-            let refusal = cut(&sheet, limits).unwrap_err();
+            let refusal = cut(&deep_zone(first), limits).unwrap_err();
             assert_eq!((refusal.number, refusal.place), (number, 7));
         }
     }

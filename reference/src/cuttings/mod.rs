@@ -9,18 +9,21 @@
 mod built;
 pub mod drawn;
 pub mod edges;
-pub mod held;
+#[cfg(test)]
+mod held;
 pub mod paper;
 mod table;
 #[cfg(test)]
 mod tests;
 
 use crate::bound::Expr;
+use crate::family::Family;
 use crate::random::Random;
 use crate::sheet::{Refusal, Sheet};
-use crate::windows::{windows, Outcome, PLACES};
+use crate::vectors;
+use crate::windows::{windows, Outcome, Windows, PLACES};
 use crate::writer;
-use table::digest;
+use table::digest_of;
 
 /// The names of the families whose records are the cases of `paper` and of `edges`.
 pub const PAPER: &str = "results written by hand";
@@ -33,14 +36,8 @@ pub struct Record {
     pub places: u8,
 }
 
-/// Records of one kind, in order.
-pub struct Family {
-    pub name: &'static str,
-    pub records: Vec<Record>,
-}
-
 /// All the families, in the order in which they are stored.
-pub fn families() -> Vec<Family> {
+pub fn families() -> Vec<Family<Record>> {
     let random = &mut Random::new(3);
     let mut list = Vec::new();
     let mut add = |name, records| list.push(Family { name, records });
@@ -78,8 +75,23 @@ pub struct Case {
     pub result: Reply,
 }
 
+/// A case with a table of 32 places.
+fn case(name: &str, sheet: &Sheet, result: Reply) -> Case {
+    file_case(name, writer::file(sheet), PLACES, result)
+}
+
+/// A case.
+fn file_case(name: &str, file: Vec<u8>, places: usize, result: Reply) -> Case {
+    Case {
+        name: name.to_string(),
+        file,
+        places,
+        result,
+    }
+}
+
 impl Case {
-    /// The case as it is stored.
+    /// The case as a record.
     fn record(&self) -> Record {
         record_of(self.file.clone(), self.places)
     }
@@ -100,75 +112,43 @@ impl Case {
     }
 }
 
-/// The lines of the records, each with a line end.
-pub fn lines<'a>(records: impl Iterator<Item = &'a Record>) -> String {
-    records
-        .map(|record| line(record, &answer(record)))
-        .collect()
-}
-
 /// What Windows answers to a record.
 pub fn answer(record: &Record) -> Outcome {
     windows(&record.file, usize::from(record.places))
 }
 
-/// The line of a record to which Windows answers so, with its line end.
-pub fn line(record: &Record, answer: &Outcome) -> String {
-    let (refusal, counts, zones) = match answer {
-        Err(Refusal { number, place }) => ((*number, *place), [0; 3], &[][..]),
-        Ok(found) => {
-            let counts = [found.zones.len(), found.kept, found.cut];
-            ((0, 0), counts, &found.zones[..])
+/// The line of a record, with its line end.
+pub fn line(record: &Record) -> String {
+    let length = record.file.len();
+    let table = |zones| digest_of(zones, usize::from(record.places));
+    match answer(record) {
+        Err(Refusal { number, place }) => {
+            let blank = table(&[]);
+            format!("{length} bytes {number}/{place} 0 0 0 {blank}\n")
         }
-    };
-    let [n, kept, cut] = counts;
-    format!(
-        "{} bytes {}/{} {n} {kept} {cut} {}\n",
-        record.file.len(),
-        refusal.0,
-        refusal.1,
-        digest(zones, usize::from(record.places))
-    )
+        Ok(Windows { zones, kept, cut }) => {
+            let (count, filled) = (zones.len(), table(&zones));
+            format!("{length} bytes 0/0 {count} {kept} {cut} {filled}\n")
+        }
+    }
 }
 
-/// The records as they are stored.
-pub fn store<'a>(records: impl Iterator<Item = &'a Record>) -> Vec<u8> {
-    let mut bytes = Vec::new();
-    for Record { file, places } in records {
-        bytes.extend((file.len() as u16).to_le_bytes());
-        bytes.extend(file);
-        bytes.push(*places);
-    }
+/// A record as it is stored.
+pub fn stored(record: &Record) -> Vec<u8> {
+    let mut bytes = vectors::stored(&record.file);
+    bytes.push(record.places);
     bytes
-}
-
-/// The records that are stored in those bytes, or nothing where one is not whole.
-pub fn stored(mut bytes: &[u8]) -> Option<Vec<Record>> {
-    let mut records = Vec::new();
-    while !bytes.is_empty() {
-        let (length, rest) = bytes.split_first_chunk()?;
-        let length = usize::from(u16::from_le_bytes(*length));
-        let (file, rest) = rest.split_at_checked(length)?;
-        let (&places, rest) = rest.split_first()?;
-        let file = file.to_vec();
-        records.push(Record { file, places });
-        bytes = rest;
-    }
-    Some(records)
 }
 
 #[cfg(test)]
 mod stored_tests {
     use super::*;
 
-    /// What is stored is found again, and a record that is not whole is told apart.
+    /// A record is stored as its file and the places of its table.
     #[test]
-    fn stored_is_found() {
-        let records = vec![record_of(vec![], 0), record_of(vec![1, 2, 3], 40)];
-        let bytes = store(records.iter());
-        assert_eq!(bytes, [0, 0, 0, 3, 0, 1, 2, 3, 40]);
-        assert_eq!(stored(&bytes), Some(records));
-        assert_eq!(stored(&bytes[..bytes.len() - 1]), None);
+    fn stored_with_places() {
+        let record = record_of(vec![1, 2, 3], 40);
+        assert_eq!(stored(&record), [3, 0, 1, 2, 3, 40]);
     }
 
     /// A blank table has the digest 0; sheet A's is that of its numbers one after the other.
@@ -192,10 +172,10 @@ mod stored_tests {
         let h = numbers
             .iter()
             .fold(0, |h, x| (h * 1_000_003 + x) % 1_000_000_007);
-        assert_eq!(digest(&found.zones, places), h);
-        assert_eq!(digest(&[], 40), 0);
+        assert_eq!(digest_of(&found.zones, places), h);
+        assert_eq!(digest_of(&[], 40), 0);
         assert_eq!(
-            line(&record_of(case.file.clone(), 33), &Ok(found)),
+            line(&record_of(case.file.clone(), 33)),
             format!("62 bytes 0/0 1 8 3 {h}\n")
         );
     }

@@ -1,38 +1,20 @@
 //! The rows of paper 01, "Sheets to try", with their results, and tables and files that are refused.
 
-use super::{Case, Reply};
+use super::{case, file_case, Case, Reply};
 use crate::bound::Expr;
-use crate::samples::{at_most, below, range, sheet_a};
-use crate::sheet::Sheet;
-use crate::sweeps::paper::{
-    one_move, one_stay, sheet_a_strict, sheets as sweep_sheets, two_clocks, up_p, up_q,
-};
+use crate::rows;
+use crate::samples::{a_with, at_most, range, sheet_a};
 use crate::windows::PLACES;
 use crate::writer;
 use Reply::{Counts, Refused, Zones};
 
 /// All cases; sheet A is the first.
 pub fn cases() -> Vec<Case> {
-    let mut list = rows();
+    let mut list = paper_rows();
     list.extend(ranges_and_routes());
     list.extend(tables());
     list.extend(refused_files());
     list
-}
-
-/// A case with a table of 32 places.
-fn case(name: &str, sheet: &Sheet, result: Reply) -> Case {
-    file_case(name, writer::file(sheet), PLACES, result)
-}
-
-/// A case.
-fn file_case(name: &str, file: Vec<u8>, places: usize, result: Reply) -> Case {
-    Case {
-        name: name.to_string(),
-        file,
-        places,
-        result,
-    }
 }
 
 /// Zones with those inequalities, and the counts of valuations kept and cut.
@@ -42,93 +24,60 @@ fn zones(lists: &[&[Expr]], kept: usize, cut: usize) -> Reply {
 }
 
 /// The rows, in the paper's order.
-fn rows() -> Vec<Case> {
-    let box_of = [range(0, 5), range(0, 5)];
-    let pq = one_stay(&box_of, &[up_p(), up_q()]);
-    let qp = one_stay(&box_of, &[up_q(), up_p()]);
-    let zero = one_stay(&[range(0, 0)], &[below(1, 0, 0, [1, 0, 0])]);
-    let down = one_move(&[range(-5, 5)], &[], &[at_most(0, 1, 0, [1, 0, 0])]);
-    let meets = |g| one_move(&[], &[at_most(1, 0, 0, [0; 3])], &[g]);
-    // 1 - 0 at most that many times p, and at least 5: the run is there from 5 on
-    let fives = |p, factor: i16| {
-        let stay = [at_most(1, 0, 0, [factor, 0, 0])];
-        one_move(&[p], &stay, &[at_most(0, 1, -5, [0; 3])])
-    };
+fn paper_rows() -> Vec<Case> {
     let p_and_q = zones(&[&[[-1, 1, -1, 0]], &[[0, -1, 1, 0]]], 36, 0);
     let q_and_p = zones(&[&[[-1, -1, 1, 0]], &[[0, 1, -1, 0]]], 36, 0);
     vec![
         case("A", &sheet_a(), zones(&[&[[-3, 1, 0, 0]]], 8, 3)),
         case(
             "A with <",
-            &sheet_a_strict(),
+            &rows::a_strict(),
             zones(&[&[[-1, 1, 0, 0], [-4, 1, 0, 0]]], 7, 4),
         ),
-        case("<= p, <= q", &pq, p_and_q),
-        case("<= q, <= p", &qp, q_and_p),
-        case("no limits", &one_stay(&[], &[]), zones(&[&[]], 1, 0)),
-        case("< p, p in 0..0", &zero, zones(&[], 0, 1)),
+        case("<= p, <= q", &rows::p_then_q(), p_and_q),
+        case("<= q, <= p", &rows::q_then_p(), q_and_p),
+        case("no limits", &rows::no_limits(), zones(&[&[]], 1, 0)),
+        case("< p, p in 0..0", &rows::below_zero(), zones(&[], 0, 1)),
         case(
             "0 - 1 <= p",
-            &down,
+            &rows::from_minus_p(),
             zones(&[&[[-1, -1, 0, 0]], &[[0, 1, 0, 0]]], 11, 0),
         ),
         case(
             "-2p - 5 >= 0 in -10..0",
-            &fives(range(-10, 0), -2),
+            &rows::minus_two_p(),
             zones(&[&[[-5, -2, 0, 0]]], 8, 3),
         ),
         case(
             "2p - 5 >= 0 in 0..10",
-            &fives(range(0, 10), 2),
+            &rows::two_p(),
             zones(&[&[[-5, 2, 0, 0]]], 8, 3),
         ),
         case(
             "standing <= 0, 0 - 1 <= 0",
-            &meets(at_most(0, 1, 0, [0; 3])),
+            &rows::at_once(),
             zones(&[&[]], 1, 0),
         ),
-        case(
-            "standing <= 0, 0 - 1 < 0",
-            &meets(below(0, 1, 0, [0; 3])),
-            zones(&[], 0, 1),
-        ),
+        case("standing <= 0, 0 - 1 < 0", &rows::never(), zones(&[], 0, 1)),
         case(
             "two clocks",
-            &two_clocks(at_most(1, 0, 5, [0; 3])),
+            &rows::two_clocks(at_most(1, 0, 5, [0; 3])),
             zones(&[&[]], 1, 0),
         ),
     ]
 }
 
-/// Sheet A with a change.
-fn a_with(change: impl Fn(&mut Sheet)) -> Sheet {
-    let mut sheet = sheet_a();
-    change(&mut sheet);
-    sheet
-}
-
-/// Sheet A with a route of that many moves, without a guard, that come back to location 0.
-fn a_around(moves: usize) -> Sheet {
-    a_with(|s| {
-        s.transitions[0].to = 0;
-        s.transitions[0].guards.clear();
-        s.route = vec![0; moves];
-    })
-}
-
 /// The widest range, the longest route, and one past them.
 fn ranges_and_routes() -> Vec<Case> {
     let wide = |highest| a_with(|s| s.parameters[0] = range(0, highest));
-    let three = [range(0, 63), range(0, 63), range(0, 63)];
-    let least = [up_p(), up_q(), at_most(1, 0, 0, [0, 0, 1])];
     vec![
         case("range 0..63", &wide(63), zones(&[&[[-3, 1, 0, 0]]], 61, 3)),
         case("range 0..64", &wide(64), Refused(4, 25)),
-        case("route of 32", &a_around(32), zones(&[&[]], 11, 0)),
-        case("route of 33", &a_around(33), Refused(4, 48)),
+        case("route of 32", &rows::a_around(32), zones(&[&[]], 11, 0)),
+        case("route of 33", &rows::a_around(33), Refused(4, 48)),
         case(
             "three ranges of 64",
-            &one_stay(&three, &least),
+            &rows::least_of_three(),
             Counts(4, 262_144, 0),
         ),
     ]
@@ -151,7 +100,7 @@ fn tables() -> Vec<Case> {
             places,
             short,
         ));
-        let [pq, zero] = [2, 5].map(|k| writer::file(&sweep_sheets()[k]));
+        let [pq, zero] = [rows::p_then_q(), rows::below_zero()].map(|s| writer::file(&s));
         let of_pq = result(Counts(2, 36, 0));
         list.push(file_case(&name("<= p, <= q"), pq, places, of_pq));
         let nothing = result(Counts(0, 0, 1));
@@ -163,7 +112,6 @@ fn tables() -> Vec<Case> {
 /// Files that are refused.
 fn refused_files() -> Vec<Case> {
     let a = writer::file(&sheet_a());
-    let apart = a_with(|s| s.route = vec![0, 0]);
     let empty = writer::assemble(&Default::default());
     let refused = |name, file, number, place| file_case(name, file, PLACES, Refused(number, place));
     vec![
@@ -173,7 +121,7 @@ fn refused_files() -> Vec<Case> {
         refused("22 bytes of A", a[..22].to_vec(), 3, 5),
         refused("22 bytes, lengths 0", empty, 4, 22),
         refused("61 bytes of A", a[..61].to_vec(), 3, 20),
-        case("a move from elsewhere", &apart, Refused(5, 62)),
+        case("a move from elsewhere", &rows::a_apart(), Refused(5, 62)),
     ]
 }
 

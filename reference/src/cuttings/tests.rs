@@ -2,6 +2,7 @@
 
 use super::held::held;
 use super::{answer, families};
+use crate::family::records;
 use crate::planned::{crossed, planned, random_shape};
 use crate::random::Random;
 use crate::samples::{along, at_most, range};
@@ -31,6 +32,22 @@ fn zones_agree_with_sweep() {
     let several: usize = zones[2..].iter().sum();
     let many: usize = zones[9..].iter().sum();
     assert!(several > 700 && many > 120 && refused < 100, "{zones:?}");
+}
+
+/// The zones of every stored sheet agree with Sweep, at all its valuations or at some.
+#[test]
+fn stored_zones_agree_with_sweep() {
+    let random = &mut Random::new(5);
+    let mut swept = 0;
+    for (n, record) in (1..).zip(records(&families())) {
+        if let Ok(found) = answer(record) {
+            let sheet = read(&record.file).unwrap();
+            let agrees = held(random, &sheet, &found);
+            assert_eq!(agrees, Ok(()), "record {n}");
+            swept += 1;
+        }
+    }
+    assert!(swept > 2000, "{swept}");
 }
 
 /// A sheet of one location without invariants, and moves with those guards.
@@ -86,7 +103,7 @@ fn numbers_stay_small() {
         number: 100_001,
         ..Limits::PAPER
     };
-    for record in families().iter().flat_map(|family| &family.records) {
+    for record in records(&families()) {
         if let Ok(sheet) = read(&record.file) {
             if record.places >= 32 {
                 assert_eq!(cut(&sheet, limits), answer(record));

@@ -9,13 +9,15 @@
 
 pub mod paper;
 
+use crate::digest::{digest, signed};
+use crate::family::Family;
 use crate::planned::{planned, random_shape, Planned, Shape};
 use crate::random::Random;
-use crate::samples::{at_most, biggest_sheet, location, random_sheet, range, transition, Size};
+use crate::samples::{along, at_most, biggest_sheet, random_sheet, range, Size};
 use crate::sheet::{Sheet, MOST_CLOCKS, MOST_PARAMETERS, MOST_ROUTE};
 use crate::sweep::{sweep, Matrix, ZEROS};
 use crate::valuations::{all, beyond, corners, some, Valuation};
-use crate::vectors::{damage, limits};
+use crate::vectors::{self, damage, limits};
 use crate::weight::Weight;
 use crate::writer;
 
@@ -29,14 +31,8 @@ pub struct Record {
     pub valuations: Vec<Valuation>,
 }
 
-/// Records of one kind, in order.
-pub struct Family {
-    pub name: &'static str,
-    pub records: Vec<Record>,
-}
-
 /// All the families, in the order in which they are stored.
-pub fn families() -> Vec<Family> {
+pub fn families() -> Vec<Family<Record>> {
     let random = &mut Random::new(2);
     let mut list = Vec::new();
     let mut add = |name, records| list.push(Family { name, records });
@@ -98,13 +94,8 @@ pub fn meetings() -> Vec<Record> {
         } else {
             (vec![], vec![second])
         };
-        let sheet = Sheet {
-            parameters: vec![range(-2, 2), range(-2, 2)],
-            clocks: 2,
-            locations: vec![location(&[first]), location(&there)],
-            transitions: vec![transition(0, 1, resets, &back)],
-            route: vec![0],
-        };
+        let (box_of, stays) = ([range(-2, 2); 2], [vec![first], there]);
+        let sheet = along(&box_of, 2, &stays, &[0, 1], &[(resets, back)]);
         list.push(record(&sheet, all(&sheet.parameters)));
     }
     list
@@ -215,13 +206,7 @@ fn at_limits() -> Vec<Record> {
 
 /// Damaged files of every kind, at zeros and at numbers that are no valuation of any sheet.
 fn damaged(random: &mut Random) -> Vec<Record> {
-    let mut files = damage::changed(random, 250);
-    files.extend(damage::cut(random, 30));
-    files.extend(damage::lengthened(random, 30));
-    files.extend(damage::resized(random, 120));
-    files.extend(damage::moved(random, 50));
-    files.extend(damage::rerouted(random, 150));
-    files.extend(damage::noise(random, 80));
+    let files = damage::every_kind(random, [250, 30, 30, 120, 50, 150, 80]);
     let one = |file| Record {
         file,
         valuations: vec![[0; 3], [0, 1001, i64::MIN]],
@@ -229,13 +214,8 @@ fn damaged(random: &mut Random) -> Vec<Record> {
     files.into_iter().map(one).collect()
 }
 
-/// The lines of the records, each with a line end.
-pub fn lines<'a>(records: impl Iterator<Item = &'a Record>) -> String {
-    records.map(line).collect()
-}
-
 /// The line of a record, with its line end.
-fn line(record: &Record) -> String {
+pub fn line(record: &Record) -> String {
     let mut text = format!("{} bytes", record.file.len());
     for &v in &record.valuations {
         text += &answer(&record.file, v);
@@ -250,90 +230,47 @@ fn answer(file: &[u8], v: Valuation) -> String {
         Ok(None) => (1, 0, ZEROS),
         Err(refusal) => (refusal.number, refusal.place, ZEROS),
     };
-    format!(" {number}/{place}/{}", digest(&matrix))
+    format!(" {number}/{place}/{}", digest(numbers(&matrix)))
 }
 
-/// The digest of a matrix: each number x takes the digest h to (h * 1000003 + x) mod 1000000007, and
-/// h starts at 0. The numbers are, entry by entry in row order: 1 if it is none, 1 if it is strict, 1
-/// if its number is negative, each 0 otherwise, and then the number x, or -1 - x if it is negative.
-fn digest(matrix: &Matrix) -> u64 {
-    let numbers = matrix.iter().flatten().flat_map(|&weight| {
+/// The numbers of a matrix, entry by entry in row order: 1 if it is none, 1 if it is strict, each 0 otherwise,
+/// and then its number with sign, which is 0 for none.
+fn numbers(matrix: &Matrix) -> impl Iterator<Item = u64> + '_ {
+    matrix.iter().flatten().flat_map(|&weight| {
         let (none, strict, value) = match weight {
             Weight::None => (true, false, 0),
             Weight::At { value, strict } => (false, strict, value),
         };
-        let size = if value < 0 { -1 - value } else { value };
-        let marks = [none, strict, value < 0].map(u64::from);
-        [marks[0], marks[1], marks[2], size as u64]
-    });
-    numbers.fold(0, |h, x| {
-        (h * 1_000_003 + x % 1_000_000_007) % 1_000_000_007
+        let [negative, size] = signed(value);
+        [u64::from(none), u64::from(strict), negative, size]
     })
 }
 
-/// The records as they are stored.
-pub fn store<'a>(records: impl Iterator<Item = &'a Record>) -> Vec<u8> {
-    let mut bytes = Vec::new();
-    for Record { file, valuations } in records {
-        bytes.extend((file.len() as u16).to_le_bytes());
-        bytes.extend(file);
-        bytes.push(u8::try_from(valuations.len()).expect("a record has at most 255 valuations"));
-        for x in valuations.iter().flatten() {
-            bytes.extend(x.to_le_bytes());
-        }
+/// A record as it is stored.
+pub fn stored(record: &Record) -> Vec<u8> {
+    let Record { file, valuations } = record;
+    let mut bytes = vectors::stored(file);
+    bytes.push(u8::try_from(valuations.len()).expect("a record has at most 255 valuations"));
+    for x in valuations.iter().flatten() {
+        bytes.extend(x.to_le_bytes());
     }
     bytes
-}
-
-/// The records that are stored in those bytes, or nothing where one is not whole.
-pub fn stored(mut bytes: &[u8]) -> Option<Vec<Record>> {
-    let mut records = Vec::new();
-    while !bytes.is_empty() {
-        let length = u16::from_le_bytes(take(&mut bytes)?);
-        let (file, rest) = bytes.split_at_checked(usize::from(length))?;
-        bytes = rest;
-        let [count] = take(&mut bytes)?;
-        let mut valuations = Vec::new();
-        for _ in 0..count {
-            valuations.push(next_valuation(&mut bytes)?);
-        }
-        let file = file.to_vec();
-        records.push(Record { file, valuations });
-    }
-    Some(records)
-}
-
-/// Takes a valuation off the bytes.
-fn next_valuation(bytes: &mut &[u8]) -> Option<Valuation> {
-    let mut v = [0; MOST_PARAMETERS];
-    for x in &mut v {
-        *x = i64::from_le_bytes(take(bytes)?);
-    }
-    Some(v)
-}
-
-/// Takes the first N bytes off.
-fn take<const N: usize>(bytes: &mut &[u8]) -> Option<[u8; N]> {
-    let (first, rest) = bytes.split_first_chunk()?;
-    *bytes = rest;
-    Some(*first)
 }
 
 #[cfg(test)]
 mod tests {
     use super::*;
 
-    /// What is stored is found again, and a record that is not whole is told apart.
+    /// A record is stored as its file, the count of its valuations, and these.
     #[test]
-    fn stored_is_found() {
-        let one = |file: &[u8], valuations: &[Valuation]| Record {
-            file: file.to_vec(),
-            valuations: valuations.to_vec(),
+    fn stored_with_valuations() {
+        let record = Record {
+            file: vec![1, 2, 3],
+            valuations: vec![[i64::MIN, -1, 258]],
         };
-        let ends = [i64::MIN, -1, i64::MAX];
-        let records = vec![one(&[], &[]), one(&[1, 2, 3], &[ends, [0, 1, 2]])];
-        let bytes = store(records.iter());
-        assert_eq!(stored(&bytes), Some(records));
-        assert_eq!(stored(&bytes[..bytes.len() - 1]), None);
+        let mut right = vec![3, 0, 1, 2, 3, 1, 0, 0, 0, 0, 0, 0, 0, 128];
+        right.extend([255; 8]);
+        right.extend([2, 1, 0, 0, 0, 0, 0, 0]);
+        assert_eq!(stored(&record), right);
     }
 }

@@ -1,8 +1,9 @@
 //! Sheets at one valuation with results written by hand: the rows of paper 01, "Sheets to try", that
 //! concern Sweep, its "Wrong turns", and the order of the refusals. A test holds Sweep to them.
 
-use crate::samples::{at_most, below, location, range, sheet_a, transition};
-use crate::sheet::{Guard, Parameter, Sheet};
+use crate::rows;
+use crate::samples::{a_with, at_most, below, range, sheet_a};
+use crate::sheet::Sheet;
 use crate::weight::Weight;
 use crate::writer;
 use Reply::{Refused, Run, Void};
@@ -26,7 +27,7 @@ pub struct Case {
 
 /// All cases.
 pub fn cases() -> Vec<Case> {
-    let mut list = rows();
+    let mut list = paper_rows();
     list.extend(wrong_turns());
     list.extend(refused_files());
     list.extend(refused_numbers());
@@ -37,22 +38,18 @@ pub fn cases() -> Vec<Case> {
 pub fn sheets() -> Vec<Sheet> {
     vec![
         sheet_a(),
-        sheet_a_strict(),
-        one_stay(&[range(0, 5), range(0, 5)], &[up_p(), up_q()]),
-        one_stay(&[range(0, 5), range(0, 5)], &[up_q(), up_p()]),
-        one_stay(&[], &[]),
-        one_stay(&[range(0, 0)], &[below(1, 0, 0, [1, 0, 0])]),
-        one_move(&[range(-5, 5)], &[], &[at_most(0, 1, 0, [1, 0, 0])]),
-        one_move(
-            &[],
-            &[at_most(1, 0, 0, [0; 3])],
-            &[at_most(0, 1, 0, [0; 3])],
-        ),
-        one_move(&[], &[at_most(1, 0, 0, [0; 3])], &[below(0, 1, 0, [0; 3])]),
-        two_clocks(at_most(1, 0, 5, [0; 3])),
-        two_clocks(below(1, 0, 5, [0; 3])),
-        wait_keeps(),
-        three_clocks(),
+        rows::a_strict(),
+        rows::p_then_q(),
+        rows::q_then_p(),
+        rows::no_limits(),
+        rows::below_zero(),
+        rows::from_minus_p(),
+        rows::at_once(),
+        rows::never(),
+        rows::two_clocks(at_most(1, 0, 5, [0; 3])),
+        rows::two_clocks(below(1, 0, 5, [0; 3])),
+        rows::wait_keeps(),
+        rows::three_clocks(),
     ]
 }
 
@@ -100,98 +97,13 @@ fn file_case(name: &'static str, file: Vec<u8>, valuation: [i64; 3], result: Rep
     }
 }
 
-/// Sheet A with 1 - 0 < p.
-pub(crate) fn sheet_a_strict() -> Sheet {
-    let mut sheet = sheet_a();
-    sheet.locations[0].invariants[0].strict = true;
-    sheet
-}
-
-/// 1 - 0 <= p.
-pub(crate) fn up_p() -> Guard {
-    at_most(1, 0, 0, [1, 0, 0])
-}
-
-/// 1 - 0 <= q.
-pub(crate) fn up_q() -> Guard {
-    at_most(1, 0, 0, [0, 1, 0])
-}
-
-/// One clock, one location with those invariants, and an empty route.
-pub(crate) fn one_stay(parameters: &[Parameter], invariants: &[Guard]) -> Sheet {
-    Sheet {
-        parameters: parameters.to_vec(),
-        clocks: 1,
-        locations: vec![location(invariants)],
-        transitions: vec![],
-        route: vec![],
-    }
-}
-
-/// One clock, a location with those invariants, and a move with those guards to one without any.
-pub(crate) fn one_move(parameters: &[Parameter], invariants: &[Guard], guards: &[Guard]) -> Sheet {
-    Sheet {
-        parameters: parameters.to_vec(),
-        clocks: 1,
-        locations: vec![location(invariants), location(&[])],
-        transitions: vec![transition(0, 1, 0, guards)],
-        route: vec![0],
-    }
-}
-
-/// Two clocks: a stay that ends with that guard and clock 1 at least 3, a move that resets clock 2,
-/// and a stay that ends with clock 2 at most 2.
-pub(crate) fn two_clocks(first: Guard) -> Sheet {
-    Sheet {
-        parameters: vec![],
-        clocks: 2,
-        locations: vec![location(&[first]), location(&[at_most(2, 0, 2, [0; 3])])],
-        transitions: vec![transition(0, 1, 0b10, &[at_most(0, 1, -3, [0; 3])])],
-        route: vec![0],
-    }
-}
-
-/// Two clocks, at least 4 and at most 6 minutes in the first stay, a reset of clock 2, and a last
-/// stay without an end.
-fn wait_keeps() -> Sheet {
-    Sheet {
-        parameters: vec![],
-        clocks: 2,
-        locations: vec![
-            location(&[at_most(1, 0, 6, [0; 3]), at_most(0, 1, -4, [0; 3])]),
-            location(&[]),
-        ],
-        transitions: vec![transition(0, 1, 0b10, &[])],
-        route: vec![0],
-    }
-}
-
-/// Three clocks: a first stay of at most 4 minutes, a reset of clock 1, a stay, a reset of clock 3, and a
-/// last stay that ends with clock 3 at least 1 and clock 1 at most 5.
-fn three_clocks() -> Sheet {
-    Sheet {
-        parameters: vec![],
-        clocks: 3,
-        locations: vec![
-            location(&[at_most(2, 0, 4, [0; 3])]),
-            location(&[]),
-            location(&[at_most(0, 3, -1, [0; 3]), at_most(1, 0, 5, [0; 3])]),
-        ],
-        transitions: vec![transition(0, 1, 0b001, &[]), transition(1, 2, 0b100, &[])],
-        route: vec![0, 1],
-    }
-}
-
 /// Rows of "Sheets to try".
-fn rows() -> Vec<Case> {
+fn paper_rows() -> Vec<Case> {
     let a = sheet_a();
-    let strict = sheet_a_strict();
-    let box_of = [range(0, 5), range(0, 5)];
-    let pq = one_stay(&box_of, &[up_p(), up_q()]);
-    let qp = one_stay(&box_of, &[up_q(), up_p()]);
-    let zero = one_stay(&[range(0, 0)], &[below(1, 0, 0, [1, 0, 0])]);
-    let down = one_move(&[range(-5, 5)], &[], &[at_most(0, 1, 0, [1, 0, 0])]);
-    let meets = |g| one_move(&[], &[at_most(1, 0, 0, [0; 3])], &[g]);
+    let strict = rows::a_strict();
+    let pq = rows::p_then_q();
+    let qp = rows::q_then_p();
+    let down = rows::from_minus_p();
     let at_3 = || run1(le(-3), NONE);
     vec![
         case("A at 0", &a, [0, 0, 0], Void),
@@ -207,27 +119,22 @@ fn rows() -> Vec<Case> {
         case("<= q, <= p: 5, 5", &qp, [5, 5, 0], run1(le(0), le(5))),
         case(
             "no limits, empty route",
-            &one_stay(&[], &[]),
+            &rows::no_limits(),
             [0, 0, 0],
             run1(le(0), NONE),
         ),
-        case("< p, p in 0..0", &zero, [0, 0, 0], Void),
+        case("< p, p in 0..0", &rows::below_zero(), [0, 0, 0], Void),
         case("0 - 1 <= p at -5", &down, [-5, 0, 0], run1(le(-5), NONE)),
         case("0 - 1 <= p at -1", &down, [-1, 0, 0], run1(le(-1), NONE)),
         case("0 - 1 <= p at 0", &down, [0, 0, 0], run1(le(0), NONE)),
         case("0 - 1 <= p at 5", &down, [5, 0, 0], run1(le(0), NONE)),
         case(
             "standing <= 0, 0 - 1 <= 0",
-            &meets(at_most(0, 1, 0, [0; 3])),
+            &rows::at_once(),
             [0, 0, 0],
             run1(le(0), NONE),
         ),
-        case(
-            "standing <= 0, 0 - 1 < 0",
-            &meets(below(0, 1, 0, [0; 3])),
-            [0, 0, 0],
-            Void,
-        ),
+        case("standing <= 0, 0 - 1 < 0", &rows::never(), [0, 0, 0], Void),
     ]
 }
 
@@ -261,20 +168,20 @@ fn wrong_turns() -> Vec<Case> {
     vec![
         case(
             "two clocks",
-            &two_clocks(at_most(1, 0, 5, [0; 3])),
+            &rows::two_clocks(at_most(1, 0, 5, [0; 3])),
             zeros,
             closed,
         ),
         case(
             "two clocks, <",
-            &two_clocks(below(1, 0, 5, [0; 3])),
+            &rows::two_clocks(below(1, 0, 5, [0; 3])),
             zeros,
             open,
         ),
-        case("a wait keeps differences", &wait_keeps(), zeros, kept),
+        case("a wait keeps differences", &rows::wait_keeps(), zeros, kept),
         case(
             "a limit reaches all entries",
-            &three_clocks(),
+            &rows::three_clocks(),
             zeros,
             pushed,
         ),
@@ -284,25 +191,16 @@ fn wrong_turns() -> Vec<Case> {
 /// Files that are refused, whatever the numbers.
 fn refused_files() -> Vec<Case> {
     let a = writer::file(&sheet_a());
-    let with = |change: &dyn Fn(&mut Sheet)| {
-        let mut sheet = sheet_a();
-        change(&mut sheet);
-        writer::file(&sheet)
-    };
-    let wide = with(&|s| s.parameters[0] = range(0, 64));
-    let long = with(&|s| {
+    let up_to = |highest| writer::file(&a_with(|s| s.parameters[0] = range(0, highest)));
+    let (whole, wide) = (up_to(63), up_to(64));
+    let long = writer::file(&a_with(|s| {
         s.transitions[0].to = 0;
         s.route = vec![0; 33];
-    });
-    let most = with(&|s| {
-        s.transitions[0].to = 0;
-        s.transitions[0].guards.clear();
-        s.route = vec![0; 32];
-    });
-    let apart = with(&|s| s.route = vec![0, 0]);
+    }));
+    let most = writer::file(&rows::a_around(32));
+    let apart = writer::file(&rows::a_apart());
     let empty = writer::assemble(&Default::default());
     let far = [i64::MIN, i64::MAX, 1];
-    let whole = with(&|s| s.parameters[0] = range(0, 63));
     vec![
         file_case("range 0..63", whole, [63, 0, 0], run1(le(-3), NONE)),
         file_case("range 0..64", wide.clone(), [0, 0, 0], Refused(4, 25)),
@@ -322,8 +220,8 @@ fn refused_files() -> Vec<Case> {
 /// Numbers that are no valuation.
 fn refused_numbers() -> Vec<Case> {
     let a = sheet_a();
-    let bare = one_stay(&[], &[]);
-    let mut three = one_stay(&[range(-1, 1), range(0, 0), range(-1000, -937)], &[]);
+    let bare = rows::no_limits();
+    let mut three = rows::one_stay(&[range(-1, 1), range(0, 0), range(-1000, -937)], &[]);
     three.clocks = 4;
     let free = run([
         [le(0); 5],

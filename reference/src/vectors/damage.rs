@@ -41,6 +41,13 @@ fn changes(file: &[u8], values: impl Fn(u8) -> Vec<u8>) -> Vec<Vec<u8>> {
     files
 }
 
+/// Damaged files of every kind that is random, that many of each, in the order of the functions below.
+pub fn every_kind(random: &mut Random, counts: [usize; 7]) -> Vec<Vec<u8>> {
+    let kinds = [changed, cut, lengthened, resized, moved, rerouted, noise];
+    let files = kinds.into_iter().zip(counts);
+    files.flat_map(|(kind, n)| kind(random, n)).collect()
+}
+
 /// That many small good files, each with one to three bytes changed.
 pub fn changed(random: &mut Random, count: usize) -> Vec<Vec<u8>> {
     many(count, || {

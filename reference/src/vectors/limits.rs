@@ -9,7 +9,7 @@
 
 use crate::random::Random;
 use crate::samples::{
-    at_most, below, biggest_sheet, location, range, sheet_a, sheet_b, transition,
+    self, at_most, below, biggest_sheet, location, range, sheet_a, sheet_b, transition,
 };
 use crate::sheet::{Guard, Refusal, Sheet};
 use crate::writer;
@@ -61,9 +61,7 @@ fn case(name: &'static str, file: Vec<u8>, result: Reply) -> Case {
 
 /// The file of sheet A after a change of the sheet.
 fn a_with(change: impl Fn(&mut Sheet)) -> Vec<u8> {
-    let mut sheet = sheet_a();
-    change(&mut sheet);
-    writer::file(&sheet)
+    writer::file(&samples::a_with(change))
 }
 
 /// The file of sheet A with a byte changed at each of those offsets.

@@ -5,8 +5,11 @@
 
 pub mod damage;
 pub mod limits;
+mod lines;
 
-use crate::digest::line;
+pub use lines::line;
+
+use crate::family::Family;
 use crate::random::Random;
 use crate::samples::{biggest_sheet, random_sheet, sheet_a, sheet_b, Size};
 use crate::sheet::{MOST_CLOCKS, MOST_PARAMETERS};
@@ -15,19 +18,13 @@ use crate::writer;
 /// The name of the family whose files are the cases of `limits`.
 pub const LIMITS: &str = "at a limit and past it";
 
-/// Files of one kind, in order.
-pub struct Family {
-    pub name: &'static str,
-    pub files: Vec<Vec<u8>>,
-}
-
-/// All the families, in the order in which they are stored.
-pub fn families() -> Vec<Family> {
+/// All the families of files, in the order in which they are stored.
+pub fn families() -> Vec<Family<Vec<u8>>> {
     let a = writer::file(&sheet_a());
     let b = writer::file(&sheet_b());
     let random = &mut Random::new(1);
     let mut list = Vec::new();
-    let mut add = |name, files| list.push(Family { name, files });
+    let mut add = |name, records| list.push(Family { name, records });
     add("sheet A", vec![a.clone()]);
     add("sheet A cut short", damage::prefixes(&a));
     add("sheet A with a byte changed", damage::many_changes(&a));
@@ -52,32 +49,10 @@ pub fn families() -> Vec<Family> {
     list
 }
 
-/// The lines of the files, each with a line end.
-pub fn lines<'a>(files: impl Iterator<Item = &'a Vec<u8>>) -> String {
-    files.map(|file| line(file) + "\n").collect()
-}
-
-/// The files as they are stored.
-pub fn store<'a>(files: impl Iterator<Item = &'a Vec<u8>>) -> Vec<u8> {
-    let mut bytes = Vec::new();
-    for file in files {
-        bytes.extend((file.len() as u16).to_le_bytes());
-        bytes.extend(file);
-    }
-    bytes
-}
-
-/// The files that are stored in those bytes, or nothing where a record is not whole.
-pub fn stored(mut bytes: &[u8]) -> Option<Vec<Vec<u8>>> {
-    let mut files = Vec::new();
-    while !bytes.is_empty() {
-        let (length, rest) = bytes.split_at_checked(2)?;
-        let length = u16::from_le_bytes([length[0], length[1]]);
-        let (file, rest) = rest.split_at_checked(usize::from(length))?;
-        files.push(file.to_vec());
-        bytes = rest;
-    }
-    Some(files)
+/// A file as it is stored.
+pub fn stored(file: &[u8]) -> Vec<u8> {
+    let length = u16::try_from(file.len()).expect("a stored file has at most 65,535 bytes");
+    [&length.to_le_bytes(), file].concat()
 }
 
 /// That many good files up to that size.
@@ -103,13 +78,12 @@ fn biggest(random: &mut Random) -> Vec<Vec<u8>> {
 mod tests {
     use super::*;
 
-    /// What is stored is found again, and a record that is not whole is told apart.
+    /// A file is stored behind its length.
     #[test]
-    fn stored_is_found() {
-        let files = vec![vec![], vec![1, 2, 3], vec![9; 300]];
-        let bytes = store(files.iter());
-        assert_eq!(stored(&bytes), Some(files));
-        assert_eq!(stored(&bytes[..bytes.len() - 1]), None);
+    fn stored_with_length() {
+        assert_eq!(stored(&[]), [0, 0]);
+        assert_eq!(stored(&[7, 8, 9]), [3, 0, 7, 8, 9]);
+        assert_eq!(stored(&[5; 300])[..3], [44, 1, 5]);
     }
 
     /// Sheet A is the paper's: its length and where its bodies lie.
