@@ -7,6 +7,7 @@ use Prim.Native.Nat.{ℕ, zero, suc, _≤_}
 use native.Mathlib.Omega.{arith}
 use lib.IntN.{ℤ}
 use lib.ListN.{getD}
+use Rattle.dbm.specs.Entries.{up-to-4}
 use Rattle.dbm.specs.Matrix.{Matrix, Outcome, void, kept}
 use Rattle.expr.specs.Limit.{Limit, none, limit, sumW, tighterW, zeroW, saturated}
 use Rattle.expr.specs.Three.{weighed, weightOf}
@@ -41,15 +42,6 @@ pick-of true x y = refl
 pick-of false x y = refl
 
 -- ---- entries
--- what holds at 0 to 4 holds up to 4
-pub up-to-4 : (P : ℕ → Type 0) → P 0 → P 1 → P 2 → P 3 → P 4 → (i : ℕ) → i ≤ 4 → P i
-up-to-4 P a b c d e zero h = a
-up-to-4 P a b c d e (suc zero) h = b
-up-to-4 P a b c d e (suc (suc zero)) h = c
-up-to-4 P a b c d e (suc (suc (suc zero))) h = d
-up-to-4 P a b c d e (suc (suc (suc (suc zero)))) h = e
-up-to-4 P a b c d e (suc (suc (suc (suc (suc i))))) h = absurd (omega arith)
-
 module _ (f : Matrix (Limit ℤ)) where
   pub row-at : (i : ℕ) → i ≤ 4 → rowOf (table f) i ≡ row f i
   unfolding table

@@ -1,18 +1,17 @@
 -- What the code does to the table of a matrix in a wait, under a guard and in a reset is what Walk does to the matrix, where there are at most four clocks
--- and no number is past 2 ^ 56. A void table stays as it is.
+-- and no number is past 2 ^ 57. A void table stays as it is.
 use mathlib.Core.Path.{_≡_, refl, sym, ap, _∙_}
 use mathlib.Core.Logic.{inl, inr}
 use mathlib.Core.List.{List, [], _∷_}
 use mathlib.Core.Bool.{Bool, true, false, cond}
 use Prim.Native.Nat.{ℕ, suc, _/_, _%_, _^_, _≤_}
-use native.Mathlib.Nat.{div-one}
 use native.Mathlib.Omega.{arith}
 use lib.Dec.{ltb, leb, eqb}
 use lib.IntN.{ℤ}
 use lib.ListN.{getD, set}
 use borrow.Author.Tests.{ltb-true, ltb-false, leb-true, eqb-true, eqb-false, le-ltb, eq-eqb, ne-eqb}
-use Rattle.dbm.specs.Matrix.{Matrix, delayed, resetAt, resetM, limitedM, void, kept, guarded}
-use Rattle.dbm.specs.Entries.{inside-yes, limited-inside, limited-outside, delayed-none, delayed-zero, delayed-stays, delayed-outside, reset-outside}
+use Rattle.dbm.specs.Matrix.{Matrix, delayed, resetAt, resetM, resetsM, limitedM, void, kept, guarded}
+use Rattle.dbm.specs.Entries.{up-to-4, resetBit, bits-resets, inside-yes, limited-inside, limited-outside, delayed-none, delayed-zero, delayed-stays, delayed-outside, reset-outside}
 use Rattle.dbm.specs.Guard.{way}
 use Rattle.dbm.specs.Size.{AtMost, Small}
 use Rattle.expr.specs.Limit.{Limit, none, sumW, tighterW, zeroW, saturated, atV}
@@ -20,9 +19,8 @@ use Rattle.expr.specs.Three.{weightOf, limitOf}
 use Rattle.expr.specs.declared.weight.Weight.{Weight}
 use Rattle.sheet.specs.declared.Guard.{Guard}
 use Rattle.sweep.specs.Tables.{zeroWeight, voidTable, rowOf, entryOf, pick, sumC, tighterC, limitedEntry, limitedRow, limitedLine, limitedTable, guardedTable, delayedRow, delayedTable, resetEntry, resetRow, resetLine, resetTable, resetIf, resetsTable, guardTable, guardsTable}
-use Rattle.sweep.specs.Walk.{pickM, resetSteps}
 use Rattle.sweep.specs.Sizes.{loop-exact, way-exact}
-use Rattle.sweep.specs.Coded.{row, table, coded, tighter-of, sum-of, pick-of, up-to-4, row-at, in-row, entry-at, table-not-void, row-of, table-of, row-same}
+use Rattle.sweep.specs.Coded.{row, table, coded, tighter-of, sum-of, pick-of, row-at, in-row, entry-at, table-not-void, row-of, table-of, row-same}
 
 -- ---- a wait
 module _ (w : ℕ) (m : Matrix (Limit ℤ)) where
@@ -53,7 +51,7 @@ delayed-void w = refl
 
 -- ---- a guard
 module _ {w i j : ℕ} {m : Matrix (Limit ℤ)} {e : Limit ℤ} (four : w ≤ 4) (hi : i ≤ w) (hj : j ≤ w)
-    (small : Small w (2 ^ 56) m) (few : AtMost 3001000 e) where
+    (small : Small w (2 ^ 57) m) (few : AtMost 3001000 e) where
   -- the code's sums are exact here
   way-coded : (k l : ℕ) → k ≤ w → l ≤ w → sumC (sumC (weightOf (m k i)) (weightOf e)) (weightOf (m j l)) ≡ weightOf (way i j e m k l)
   way-coded k l hk hl = ap (λ (a : Weight). sumC a (weightOf (m j l))) (sum-of (m k i) e) ∙ sum-of (sumW (saturated (m k i)) (saturated e)) (m j l)
@@ -190,36 +188,18 @@ module _ {w r : ℕ} (m : Matrix (Limit ℤ)) (four : w ≤ 4) (hr : r ≤ w) wh
   reset-coded = table-of (resetM w r m) (reset-line 0 (omega arith)) (reset-line 1 (omega arith)) (reset-line 2 (omega arith))
       (reset-line 3 (omega arith)) (reset-line 4 (omega arith))
 
--- a reset where the bit is 1, and where there is such a clock
-abbrev resetBit : ℕ → ℕ → ℕ → Matrix (Limit ℤ) → Matrix (Limit ℤ)
-resetBit w r bit m = pickM (eqb bit 1) (pickM (leb r w) (resetM w r m) m) m
-
 reset-if : (w r bit : ℕ) (m : Matrix (Limit ℤ)) → w ≤ 4 → resetIf (table m) w r bit ≡ table (resetBit w r bit m)
 unfolding resetIf
 reset-if w r bit m four = by (eqb bit 1) (leb r w) refl
   where
-    by : (b c : Bool) → leb r w ≡ c → pick b (pick c (resetTable (table m) w r) (table m)) (table m) ≡ table (pickM b (pickM c (resetM w r m) m) m)
+    by : (b c : Bool) → leb r w ≡ c → pick b (pick c (resetTable (table m) w r) (table m)) (table m) ≡ table (cond b (cond c (resetM w r m) m) m)
     by true true h = reset-coded m four (leb-true r w h)
     by true false h = refl
     by false c h = refl
 
--- all four bits
-abbrev resetBits : ℕ → ℕ → Matrix (Limit ℤ) → Matrix (Limit ℤ)
-resetBits w bits m = resetBit w 4 (bits / 8 % 2) (resetBit w 3 (bits / 4 % 2) (resetBit w 2 (bits / 2 % 2) (resetBit w 1 (bits % 2) m)))
-
-pickM-same : (b : Bool) (m : Matrix (Limit ℤ)) → pickM b m m ≡ m
-pickM-same true m = refl
-pickM-same false m = refl
-
--- bits of clocks that are not there do nothing
-bits-steps : (bits : ℕ) (m : Matrix (Limit ℤ)) (w : ℕ) → w ≤ 4 → resetBits w bits m ≡ resetSteps w bits w m
-unfolding resetSteps
-bits-steps bits m = up-to-4 (λ w. resetBits w bits m ≡ resetSteps w bits w m)
-    (simp pickM-same) (simp (pickM-same, div-one)) (simp (pickM-same, div-one)) (simp (pickM-same, div-one)) (simp div-one)
-
-pub resets-coded : (w bits : ℕ) (m : Matrix (Limit ℤ)) → w ≤ 4 → m 0 0 ≡ zeroW → resetsTable (table m) w bits ≡ table (resetSteps w bits w m)
+pub resets-coded : (w bits : ℕ) (m : Matrix (Limit ℤ)) → w ≤ 4 → m 0 0 ≡ zeroW → resetsTable (table m) w bits ≡ table (resetsM w bits w m)
 unfolding resetsTable
-resets-coded w bits m four e = rw (table-not-void m e) (rw (← bits-steps bits m w four) (rw (reset-if w 1 (bits % 2) m four)
+resets-coded w bits m four e = rw (table-not-void m e) (rw (← bits-resets bits m w four) (rw (reset-if w 1 (bits % 2) m four)
     (rw (reset-if w 2 (bits / 2 % 2) (resetBit w 1 (bits % 2) m) four)
     (rw (reset-if w 3 (bits / 4 % 2) (resetBit w 2 (bits / 2 % 2) (resetBit w 1 (bits % 2) m)) four)
     (reset-if w 4 (bits / 8 % 2) (resetBit w 3 (bits / 4 % 2) (resetBit w 2 (bits / 2 % 2) (resetBit w 1 (bits % 2) m))) four)))))

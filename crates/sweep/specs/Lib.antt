@@ -9,7 +9,6 @@ pub mod Moves
 pub mod Padding
 pub mod Proofs
 pub mod Reply
-pub mod Right
 pub mod Route
 pub mod Sizes
 pub mod Steps

@@ -12,8 +12,7 @@ use Rattle.sheet.specs.declared.Guard.{Guard}
 use Rattle.sheet.specs.declared.Location.{Location}
 use Rattle.sheet.specs.declared.Sheet.{Sheet}
 use Rattle.sheet.specs.declared.Transition.{Transition}
-use Rattle.sheet.specs.Route.{noTransition}
-use Rattle.sheet.specs.WellFormed.{noLocation}
+use Rattle.timed.specs.Indexed.{locationC, transitionC}
 
 abbrev pub Table : Type 0
 Table = List (List Weight)
@@ -138,16 +137,6 @@ stayTable m clocks v here = guardsTable (delayedTable m clocks) clocks v (take (
 
 unfoldable pub moveTable : Table → ℕ → List ℤ → Transition → Table
 moveTable m clocks v t = resetsTable (guardsTable m clocks v (take (t .count) (t .guards))) clocks (t .resets)
-
--- an index past the list's end stands for the first place: no accepted sheet has one
-abbrev pub at : ℕ → ℕ → ℕ
-at n i = pick (ltb i n) i 0
-
-unfoldable pub locationC : Sheet → ℕ → Location
-locationC s l = getD (s .location) (at 16 l) noLocation
-
-unfoldable pub transitionC : Sheet → ℕ → Transition
-transitionC s n = getD (s .transition) (at 32 n) noTransition
 
 unfoldable pub walkTable : Sheet → List ℤ → ℕ → List ℕ → Table → Table
 walkTable s v l [] m = stayTable m (s .clocks) v (locationC s l)

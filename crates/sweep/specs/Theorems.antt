@@ -7,6 +7,7 @@ use Prim.Native.Nat.{ℕ, _≤_}
 use native.Mathlib.Omega.{arith}
 use lib.IntN.{ℤ}
 use lib.ListN.{getD}
+use Rattle.dbm.specs.Entries.{up-to-4}
 use Rattle.dbm.specs.Matrix.{Matrix, Outcome, void, kept}
 use Rattle.expr.specs.Limit.{Limit}
 use Rattle.expr.specs.Three.{weighed}
@@ -14,7 +15,7 @@ use Rattle.fields.specs.declared.Refusal.the-variants.{Nothing}
 use Rattle.sheet.specs.Accepted.{read-well-formed}
 use Rattle.sheet.specs.File.{readOf}
 use Rattle.sheet.specs.declared.Sheet.{Sheet}
-use Rattle.sweep.specs.Coded.{row, in-row, up-to-4, weighed-of}
+use Rattle.sweep.specs.Coded.{row, in-row, weighed-of}
 use Rattle.sweep.specs.Proofs.{void-iff-no-run, entries-tightest}
 use Rattle.sweep.specs.Reply.{rowRecord, blankReply, swept, inRange, sheetReply, readingReply, replyOf}
 use Rattle.sweep.specs.Tables.{zeroWeight}
