@@ -3,29 +3,32 @@ use mathlib.Core.Path.{_≡_, refl, sym, ap, _∙_}
 use mathlib.Core.List.{List, [], _∷_, _++_, map}
 use mathlib.Core.Bool.{Bool, true, false, _&&_, cond}
 use Prim.Native.Nat.{ℕ, zero, suc, _+_, _-_, _/_, _%_, _^_, _≤_, _<_}
-use native.Mathlib.Nat.{div-one}
 use native.Mathlib.Omega.{arith}
 use lib.Dec.{eqb, ltb, leb}
 use lib.ListN.{length, replicate, length-take}
-use Rattle.cutting.specs.Cutting.{Bounds, startB, Listing, listed, refused, guardZones, andThen, guardsZones, onBounds, resetBounds, stayZones, moveZones, cutRoute, zonesOf}
+use Rattle.cutting.specs.Cutting.{Bounds, startB, startZone, Listing, listed, refused, onBounds, stepZones, andThen, cutSteps, zonesAlong, zonesOf}
 use Rattle.cutting.specs.Cutting as cutting
-use Rattle.dbm.specs.Matrix.{inside, delayed, resetAt, resetM}
+use Rattle.cutting.specs.Listings.{on-length, steps-append}
+use Rattle.dbm.specs.Entries.{up-to-4, resetBit, bits-resets}
+use Rattle.dbm.specs.Matrix.{inside, delayed, resetAt, resetM, resetsM}
 use Rattle.expr.specs.Affine.{Affine}
 use Rattle.expr.specs.Limit.{Limit, none}
 use Rattle.expr.specs.Three.{rangeList}
 use Rattle.expr.specs.declared.bound.Bound.{Bound}
+use Rattle.expr.specs.declared.ranges.Ranges.{Ranges}
 use Rattle.sheet.specs.declared.Guard.{Guard}
 use Rattle.sheet.specs.declared.Sheet.{Sheet}
+use Rattle.sheet.specs.declared.Transition.{Transition}
 use Rattle.sheet.specs.WellFormed.{WellFormed}
-use Rattle.sweep.specs.Coded.{up-to-4}
-use Rattle.sweep.specs.CodedWalk.{location-in, transition-in}
-use Rattle.sweep.specs.Right.{AllOf, GuardsAll, filled-all, invariants-right, guards-right}
-use Rattle.sweep.specs.Tables.{locationC, transitionC}
-use Rattle.timed.specs.Runs.{invariants, guardsOf, routeOf, transitionAt}
+use Rattle.timed.specs.Automaton.{invariants, guardsOf, routeOf, transitionAt}
+use Rattle.timed.specs.Indexed.{locationC, transitionC, location-in, transition-in}
+use Rattle.timed.specs.Right.{AllOf, StepRight, StepsAll, all-append, filled-all, stay-right, move-right}
+use Rattle.timed.specs.Steps.{Step, delay, guard, resets, staySteps, moveSteps, stepsFrom, stepsOf}
 use Rattle.zones.specs.Coded.{rowOf, boundsOf, zoneOf, zonesIn, coded}
 use Rattle.zones.specs.CodedGuard.{NarrowZone, Sound, guard-sound, guard-coded}
 use Rattle.zones.specs.CodedTests.{NarrowB, NarrowM, zero-narrow}
-use Rattle.zones.specs.Listed.{pick, blankZone}
+use Rattle.zones.specs.Guarded.{guardedC}
+use Rattle.zones.specs.Listed.{blankZone}
 use Rattle.zones.specs.Walked.{delayedB, resetPair, resetB, resetIfB, resetsB, onFirst, delayedZone, resetsZone, delayedAll, resetsAll, atVisit, guardsAll, stayAll, moveAll, walkAll, startAll, zonesAll}
 use Rattle.zones.specs.declared.zone.Zone.{Zone}
 use Rattle.zones.specs.declared.zone.Zones.{Zones}
@@ -45,11 +48,8 @@ delayed-narrow w m n = record { entry = λ i j. cond-narrow (ltb 0 i && (leb i w
 
 -- ---- resets
 -- clock r, if there is such a clock
-abbrev resetIn : ℕ → ℕ → Bounds → Bounds
-resetIn w r m = cutting.pick (ltb w r) m (resetM w r m)
-
 abbrev Resets : Bounds → ℕ → ℕ → Type 0
-Resets m r w = pick (ltb w r) (boundsOf m) (resetB w r (boundsOf m)) ≡ boundsOf (resetIn w r m)
+Resets m r w = cond (ltb w r) (boundsOf m) (resetB w r (boundsOf m)) ≡ boundsOf (cond (leb r w) (resetM w r m) m)
 
 module _ (m : Bounds) where
   reset-1 : (w : ℕ) → w ≤ 4 → Resets m 1 w
@@ -69,38 +69,21 @@ module _ (m : Bounds) where
   reset-4 = up-to-4 (Resets m 4) refl refl refl refl refl
 
 -- where the bit is 1
-abbrev resetBit : ℕ → ℕ → ℕ → Bounds → Bounds
-resetBit w r bit m = cutting.pick (eqb bit 1) (resetIn w r m) m
-
 reset-if : (w r bit : ℕ) (m : Bounds) → Resets m r w → resetIfB w r bit (boundsOf m) ≡ boundsOf (resetBit w r bit m)
 unfolding resetIfB
 reset-if w r bit m h = by (eqb bit 1)
   where
-    by : (b : Bool) → pick b (pick (ltb w r) (boundsOf m) (resetB w r (boundsOf m))) (boundsOf m) ≡ boundsOf (cutting.pick b (resetIn w r m) m)
+    by : (b : Bool) → cond b (cond (ltb w r) (boundsOf m) (resetB w r (boundsOf m))) (boundsOf m) ≡ boundsOf (cond b (cond (leb r w) (resetM w r m) m) m)
     by true = h
     by false = refl
 
--- all four bits
-abbrev resetBits : ℕ → ℕ → Bounds → Bounds
-resetBits w bits m = resetBit w 4 (bits / 8 % 2) (resetBit w 3 (bits / 4 % 2) (resetBit w 2 (bits / 2 % 2) (resetBit w 1 (bits % 2) m)))
-
-pick-same : {A : Type 0} (b : Bool) (a : A) → cutting.pick b a a ≡ a
-pick-same true a = refl
-pick-same false a = refl
-
--- bits of clocks that are not there do nothing
-bits-steps : (bits : ℕ) (m : Bounds) (w : ℕ) → w ≤ 4 → resetBits w bits m ≡ resetBounds w bits w m
-unfolding resetBounds
-bits-steps bits m = up-to-4 (λ w. resetBits w bits m ≡ resetBounds w bits w m)
-    (simp pick-same) (simp (pick-same, div-one)) (simp (pick-same, div-one)) (simp (pick-same, div-one)) (simp div-one)
-
-resets-coded : (w bits : ℕ) (m : Bounds) → w ≤ 4 → resetsB w bits (boundsOf m) ≡ boundsOf (resetBounds w bits w m)
+resets-coded : (w bits : ℕ) (m : Bounds) → w ≤ 4 → resetsB w bits (boundsOf m) ≡ boundsOf (resetsM w bits w m)
 unfolding resetsB
 resets-coded w bits m four =
     let m₁ = resetBit w 1 (bits % 2) m in
     let m₂ = resetBit w 2 (bits / 2 % 2) m₁ in
     let m₃ = resetBit w 3 (bits / 4 % 2) m₂ in
-    rw (← bits-steps bits m w four)
+    rw (← bits-resets bits m w four)
     (ap (λ (l : List Bound). resetIfB w 4 (bits / 8 % 2) (resetIfB w 3 (bits / 4 % 2) (resetIfB w 2 (bits / 2 % 2) l))) (reset-if w 1 (bits % 2) m (reset-1 m w four))
     ∙ ap (λ (l : List Bound). resetIfB w 4 (bits / 8 % 2) (resetIfB w 3 (bits / 4 % 2) l)) (reset-if w 2 (bits / 2 % 2) m₁ (reset-2 m₁ w four))
     ∙ ap (λ (l : List Bound). resetIfB w 4 (bits / 8 % 2) l) (reset-if w 3 (bits / 4 % 2) m₂ (reset-3 m₂ w four))
@@ -116,13 +99,13 @@ reset-narrow : (w r : ℕ) (m : Bounds) → NarrowM m → NarrowM (resetM w r m)
 unfolding resetM
 reset-narrow w r m n = record { entry = λ i j. cond-narrow (inside w i j) (resetAt m (eqb i r) (eqb j r) i j) (m i j) (resetAt-narrow m (eqb i r) (eqb j r) i j n) (n .entry i j) }
 
-resets-narrow : (w bits k : ℕ) (m : Bounds) → NarrowM m → NarrowM (resetBounds w bits k m)
-unfolding resetBounds
+resets-narrow : (w bits k : ℕ) (m : Bounds) → NarrowM m → NarrowM (resetsM w bits k m)
+unfolding resetsM
 resets-narrow w bits zero m n = n
 resets-narrow w bits (suc k) m n = by (eqb (bits / 2 ^ k % 2) 1) (resets-narrow w bits k m n)
   where
-    by : (b : Bool) → NarrowM (resetBounds w bits k m) → NarrowM (cutting.pick b (resetM w (suc k) (resetBounds w bits k m)) (resetBounds w bits k m))
-    by true ih = reset-narrow w (suc k) (resetBounds w bits k m) ih
+    by : (b : Bool) → NarrowM (resetsM w bits k m) → NarrowM (cond b (resetM w (suc k) (resetsM w bits k m)) (resetsM w bits k m))
+    by true ih = reset-narrow w (suc k) (resetsM w bits k m) ih
     by false ih = ih
 
 -- ---- a step on every zone's matrix
@@ -132,11 +115,6 @@ module _ (f : Zone → Zone) (h : Bounds → Bounds) where
   unfolding onFirst onBounds
   on-first e [] rest = refl
   on-first e (z ∷ zs) rest = rw (e z, on-first e zs rest) refl
-
-  on-length : (zs : List cutting.Zone) → length (onBounds h zs) ≡ length zs
-  unfolding onBounds
-  on-length [] = refl
-  on-length (z ∷ zs) = ap suc (on-length zs)
 
   on-narrow : ((m : Bounds) → NarrowM m → NarrowM (h m)) → (zs : List cutting.Zone) → AllOf NarrowZone zs → AllOf NarrowZone (onBounds h zs)
   unfolding onBounds
@@ -148,7 +126,7 @@ module _ (f : Zone → Zone) (h : Bounds → Bounds) where
   unfolding coded zonesIn
   on-list e visit zs =
       ap (λ (l : List Zone). record { refusal = 0; visit = visit; count = length zs; list = l }) (on-first e zs (replicate (32 - length zs) blankZone))
-      ∙ ap (λ (k : ℕ). record { refusal = 0; visit = visit; count = k; list = map zoneOf (onBounds h zs) ++ replicate (32 - k) blankZone }) (sym (on-length zs))
+      ∙ ap (λ (k : ℕ). record { refusal = 0; visit = visit; count = k; list = map zoneOf (onBounds h zs) ++ replicate (32 - k) blankZone }) (sym (on-length h zs))
 
 -- the step after a listing
 abbrev steps : (Bounds → Bounds) → Listing → Listing
@@ -166,11 +144,11 @@ delayed-all w visit four (listed zs) = on-list (delayedZone w) (delayed w none) 
     one z = rw (delayed-coded (z .bounds) w four) refl
 delayed-all w visit four (refused n k) = refl
 
-resets-all : (w bits visit : ℕ) → w ≤ 4 → (o : Listing) → resetsAll w bits (coded visit o) ≡ coded visit (steps (resetBounds w bits w) o)
+resets-all : (w bits visit : ℕ) → w ≤ 4 → (o : Listing) → resetsAll w bits (coded visit o) ≡ coded visit (steps (resetsM w bits w) o)
 unfolding resetsAll coded onFirst zoneOf
-resets-all w bits visit four (listed zs) = on-list (resetsZone w bits) (resetBounds w bits w) one visit zs
+resets-all w bits visit four (listed zs) = on-list (resetsZone w bits) (resetsM w bits w) one visit zs
   where
-    one : (z : cutting.Zone) → resetsZone w bits (zoneOf z) ≡ zoneOf (record { ineqs = z .ineqs; bounds = resetBounds w bits w (z .bounds) })
+    one : (z : cutting.Zone) → resetsZone w bits (zoneOf z) ≡ zoneOf (record { ineqs = z .ineqs; bounds = resetsM w bits w (z .bounds) })
     one z = rw (resets-coded w bits (z .bounds) four) refl
 resets-all w bits visit four (refused n k) = refl
 
@@ -180,130 +158,148 @@ unfolding atVisit coded
 next-visit visit k (listed zs) s = refl
 next-visit visit k (refused n j) s = rw s refl
 
--- ---- guards in file order
-then-then : (o : Listing) (f g : List cutting.Zone → Listing) → andThen (andThen o f) g ≡ andThen o (λ zs. andThen (f zs) g)
-then-then (listed zs) f g = refl
-then-then (refused n k) f g = refl
+-- ---- any steps of one visit
+-- a step of the code on its zones, and steps in order; a guard belongs to the visit that the zones are at
+unfoldable pub stepAll : Ranges → ℕ → Step → Zones → Zones
+stepAll b w delay zs = delayedAll w zs
+stepAll b w (guard visit g) zs = guardedC b w g zs
+stepAll b w (resets bits) zs = resetsAll w bits zs
+
+unfoldable pub stepsAll : Ranges → ℕ → List Step → Zones → Zones
+stepsAll b w [] zs = zs
+stepsAll b w (s ∷ steps) zs = stepsAll b w steps (stepAll b w s zs)
+
+-- a guard, if it is one, is at that visit
+abbrev pub At : ℕ → Step → Type 0
+At visit delay = Unit {0}
+At visit (guard k g) = k ≡ visit
+At visit (resets bits) = Unit {0}
+
+module _ (parameters : ℕ) (b : Ranges) {w : ℕ} (four : w ≤ 4) where
+  small : {i : ℕ} → i ≤ w → i ≤ 4
+  small h = omega arith
+
+  step-sound : (s : Step) → StepRight parameters w s → (o : Listing) → Sound o → Sound (andThen o (stepZones (rangeList b) w s))
+  unfolding stepZones
+  step-sound delay r o n = steps-sound (delayed w none) (delayed-narrow w) o n
+  step-sound (guard visit g) r o n = guard-sound b visit w g four (small (r .left)) (small (r .right)) o n
+  step-sound (resets bits) r o n = steps-sound (resetsM w bits w) (resets-narrow w bits w) o n
+
+  step-coded : (visit : ℕ) (s : Step) → At visit s → StepRight parameters w s → (o : Listing) → Sound o
+      → stepAll b w s (coded visit o) ≡ coded visit (andThen o (stepZones (rangeList b) w s))
+  unfolding stepAll stepZones
+  step-coded visit delay a r o n = delayed-all w visit four o
+  step-coded visit (guard k g) a r o n = rw (← a) (guard-coded b k w g four (small (r .left)) (small (r .right)) o n)
+  step-coded visit (resets bits) a r o n = resets-all w bits visit four o
+
+  none-is : (o : Listing) → o ≡ andThen o (cutSteps (rangeList b) w [])
+  unfolding cutSteps
+  none-is (listed zs) = refl
+  none-is (refused n k) = refl
+
+  next-is : (s : Step) (steps : List Step) (o : Listing)
+      → andThen (andThen o (stepZones (rangeList b) w s)) (cutSteps (rangeList b) w steps) ≡ andThen o (cutSteps (rangeList b) w (s ∷ steps))
+  unfolding cutSteps
+  next-is s steps (listed zs) = refl
+  next-is s steps (refused n k) = refl
+
+  pub all-sound : (steps : List Step) → AllOf (StepRight parameters w) steps → (o : Listing) → Sound o → Sound (andThen o (cutSteps (rangeList b) w steps))
+  all-sound [] r o n = rw (← none-is o) n
+  all-sound (s ∷ steps) r o n =
+      rw (← next-is s steps o) (all-sound steps (r .1) (andThen o (stepZones (rangeList b) w s)) (step-sound s (r .0) o n))
+
+  pub all-coded : (visit : ℕ) (steps : List Step) → AllOf (At visit) steps → AllOf (StepRight parameters w) steps → (o : Listing) → Sound o
+      → stepsAll b w steps (coded visit o) ≡ coded visit (andThen o (cutSteps (rangeList b) w steps))
+  unfolding stepsAll
+  all-coded visit [] a r o n = ap (coded visit) (none-is o)
+  all-coded visit (s ∷ steps) a r o n =
+      ap (stepsAll b w steps) (step-coded visit s (a .0) (r .0) o n)
+      ∙ all-coded visit steps (a .1) (r .1) (andThen o (stepZones (rangeList b) w s)) (step-sound s (r .0) o n)
+      ∙ ap (coded visit) (next-is s steps o)
+
+-- ---- the code's stay and transition make the steps of one visit
+all-append-is : (b : Ranges) (w : ℕ) (xs ys : List Step) (zs : Zones) → stepsAll b w ys (stepsAll b w xs zs) ≡ stepsAll b w (xs ++ ys) zs
+unfolding stepsAll
+all-append-is b w [] ys zs = refl
+all-append-is b w (s ∷ xs) ys zs = all-append-is b w xs ys (stepAll b w s zs)
+
+guards-are : (b : Ranges) (w visit : ℕ) (gs : List Guard) (zs : Zones) → guardsAll b w gs zs ≡ stepsAll b w (map (guard visit) gs) zs
+unfolding guardsAll stepsAll stepAll
+guards-are b w visit [] zs = refl
+guards-are b w visit (g ∷ gs) zs = guards-are b w visit gs (guardedC b w g zs)
+
+guards-at : (visit : ℕ) (gs : List Guard) → AllOf (At visit) (map (guard visit) gs)
+guards-at visit [] = tt
+guards-at visit (g ∷ gs) = (refl, guards-at visit gs)
 
 module _ {s : Sheet} (f : WellFormed s) where
-  abbrev cutGuards : ℕ → List Guard → Listing → Listing
-  cutGuards visit gs o = andThen o (guardsZones (rangeList (s .ranges)) visit (s .clocks) gs)
+  abbrev cuts : List Step → Listing → Listing
+  cuts steps o = andThen o (cutSteps (rangeList (s .ranges)) (s .clocks) steps)
 
-  abbrev cutGuard : ℕ → Guard → Listing → Listing
-  cutGuard visit g o = andThen o (λ zs. guardZones (rangeList (s .ranges)) visit (s .clocks) g zs (listed []))
+  abbrev goes : List Step → Zones → Zones
+  goes steps zs = stepsAll (s .ranges) (s .clocks) steps zs
 
-  one-first : (visit : ℕ) (g : Guard) (gs : List Guard) (o : Listing) → cutGuards visit gs (cutGuard visit g o) ≡ cutGuards visit (g ∷ gs) o
-  unfolding guardsZones
-  one-first visit g gs (listed zs) = refl
-  one-first visit g gs (refused n k) = refl
+  stay-at : (visit l : ℕ) → AllOf (At visit) (staySteps s visit l)
+  unfolding staySteps
+  stay-at visit l = (tt, guards-at visit (invariants s l))
 
-  none-first : (visit : ℕ) (o : Listing) → o ≡ cutGuards visit [] o
-  unfolding guardsZones
-  none-first visit (listed zs) = refl
-  none-first visit (refused n k) = refl
+  move-at : (visit n : ℕ) → AllOf (At visit) (moveSteps s visit n)
+  unfolding moveSteps
+  move-at visit n =
+      all-append (At visit) (map (guard visit) (guardsOf s n)) (resets (transitionAt s n .resets) ∷ []) (guards-at visit (guardsOf s n)) (tt, tt)
 
-  small : {i : ℕ} → i ≤ s .clocks → i ≤ 4
-  small h = let c = f .clocks in omega arith
+  stay-is : (visit l : ℕ) → l < s .locations → (zs : Zones) → stayAll (s .ranges) (s .clocks) (locationC s l) zs ≡ goes (staySteps s visit l) zs
+  unfolding stayAll staySteps stepsAll stepAll invariants
+  stay-is visit l hl zs =
+      rw (location-in s l (omega (arith, f .location .few))) (guards-are (s .ranges) (s .clocks) visit (invariants s l) (delayedAll (s .clocks) zs))
 
-  guards-sound : (visit : ℕ) (gs : List Guard) → GuardsAll s gs → (o : Listing) → Sound o → Sound (cutGuards visit gs o)
-  guards-sound visit [] r o n = rw (← none-first visit o) n
-  guards-sound visit (g ∷ gs) r o n =
-      rw (← one-first visit g gs o) (guards-sound visit gs (r .1) (cutGuard visit g o)
-      (guard-sound (s .ranges) visit (s .clocks) g (f .clocks) (small (r .0 .left)) (small (r .0 .right)) o n))
-
-  guards-coded : (visit : ℕ) (gs : List Guard) → GuardsAll s gs → (o : Listing) → Sound o → guardsAll s gs (coded visit o) ≡ coded visit (cutGuards visit gs o)
-  unfolding guardsAll
-  guards-coded visit [] r o n = ap (coded visit) (none-first visit o)
-  guards-coded visit (g ∷ gs) r o n =
-      ap (guardsAll s gs) (guard-coded (s .ranges) visit (s .clocks) g (f .clocks) (small (r .0 .left)) (small (r .0 .right)) o n)
-      ∙ guards-coded visit gs (r .1) (cutGuard visit g o) (guard-sound (s .ranges) visit (s .clocks) g (f .clocks) (small (r .0 .left)) (small (r .0 .right)) o n)
-      ∙ ap (coded visit) (one-first visit g gs o)
-
-  -- ---- a stay
-  abbrev cutStay : ℕ → ℕ → Listing → Listing
-  cutStay visit l o = andThen o (stayZones s visit l)
-
-  stay-is : (visit l : ℕ) (o : Listing) → cutGuards visit (invariants s l) (steps (delayed (s .clocks) none) o) ≡ cutStay visit l o
-  unfolding stayZones
-  stay-is visit l (listed zs) = refl
-  stay-is visit l (refused n k) = refl
-
-  stay-sound : (visit l : ℕ) (o : Listing) → Sound o → Sound (cutStay visit l o)
-  stay-sound visit l o n =
-      rw (← stay-is visit l o) (guards-sound visit (invariants s l) (invariants-right f l) (steps (delayed (s .clocks) none) o)
-      (steps-sound (delayed (s .clocks) none) (delayed-narrow (s .clocks)) o n))
-
-  stay-coded : (visit l : ℕ) → l < s .locations → (o : Listing) → Sound o → stayAll s (locationC s l) (coded visit o) ≡ coded visit (cutStay visit l o)
-  unfolding stayAll invariants
-  stay-coded visit l hl o n =
-      rw (location-in s l (omega (arith, f .location .few)))
-      (ap (guardsAll s (invariants s l)) (delayed-all (s .clocks) visit (f .clocks) o)
-      ∙ guards-coded visit (invariants s l) (invariants-right f l) (steps (delayed (s .clocks) none) o) (steps-sound (delayed (s .clocks) none) (delayed-narrow (s .clocks)) o n)
-      ∙ ap (coded visit) (stay-is visit l o))
-
-  -- ---- a transition
-  abbrev cutMove : ℕ → ℕ → Listing → Listing
-  cutMove visit n o = andThen o (moveZones s visit n)
-
-  abbrev resets : ℕ → Bounds → Bounds
-  resets n = resetBounds (s .clocks) (transitionAt s n .resets) (s .clocks)
-
-  move-is : (visit n : ℕ) (o : Listing) → steps (resets n) (cutGuards visit (guardsOf s n) o) ≡ cutMove visit n o
-  unfolding moveZones
-  move-is visit n (listed zs) = refl
-  move-is visit n (refused a k) = refl
-
-  move-sound : (visit n : ℕ) (o : Listing) → Sound o → Sound (cutMove visit n o)
-  move-sound visit n o h =
-      rw (← move-is visit n o) (steps-sound (resets n) (resets-narrow (s .clocks) (transitionAt s n .resets) (s .clocks)) (cutGuards visit (guardsOf s n) o)
-      (guards-sound visit (guardsOf s n) (guards-right f n) o h))
-
-  move-coded : (visit n : ℕ) → n < s .transitions → (o : Listing) → Sound o → moveAll s visit (transitionC s n) (coded visit o) ≡ coded (suc visit) (cutMove visit n o)
-  unfolding moveAll guardsOf
-  move-coded visit n hn o h =
+  move-is : (visit n : ℕ) → n < s .transitions → (zs : Zones)
+      → moveAll (s .ranges) (s .clocks) visit (transitionC s n) zs ≡ atVisit (suc visit) (goes (moveSteps s visit n) zs)
+  unfolding moveAll moveSteps stepsAll stepAll guardsOf
+  move-is visit n hn zs =
       let bits = transitionAt s n .resets in
       rw (transition-in s n (omega (arith, f .transition .few)))
-      (ap (λ (z : Zones). atVisit (suc visit) (resetsAll (s .clocks) bits z)) (guards-coded visit (guardsOf s n) (guards-right f n) o h)
-      ∙ ap (atVisit (suc visit)) (resets-all (s .clocks) bits visit (f .clocks) (cutGuards visit (guardsOf s n) o) ∙ ap (coded visit) (move-is visit n o))
-      ∙ next-visit visit (suc visit) (cutMove visit n o) (move-sound visit n o h))
+      (ap (atVisit (suc visit)) (ap (resetsAll (s .clocks) bits) (guards-are (s .ranges) (s .clocks) visit (guardsOf s n) zs)
+      ∙ all-append-is (s .ranges) (s .clocks) (map (guard visit) (guardsOf s n)) (resets bits ∷ []) zs))
+
+  stay-coded : (visit l : ℕ) → l < s .locations → (o : Listing) → Sound o
+      → stayAll (s .ranges) (s .clocks) (locationC s l) (coded visit o) ≡ coded visit (cuts (staySteps s visit l) o)
+  stay-coded visit l hl o n =
+      stay-is visit l hl (coded visit o) ∙ all-coded (s .parameters) (s .ranges) (f .clocks) visit (staySteps s visit l) (stay-at visit l) (stay-right f visit l) o n
+
+  move-coded : (visit n : ℕ) → n < s .transitions → (o : Listing) → Sound o
+      → moveAll (s .ranges) (s .clocks) visit (transitionC s n) (coded visit o) ≡ coded (suc visit) (cuts (moveSteps s visit n) o)
+  move-coded visit n hn o h =
+      move-is visit n hn (coded visit o)
+      ∙ ap (atVisit (suc visit)) (all-coded (s .parameters) (s .ranges) (f .clocks) visit (moveSteps s visit n) (move-at visit n) (move-right f visit n) o h)
+      ∙ next-visit visit (suc visit) (cuts (moveSteps s visit n) o) (all-sound (s .parameters) (s .ranges) (f .clocks) (moveSteps s visit n) (move-right f visit n) o h)
 
   -- ---- the rest of a route
-  abbrev cutRest : ℕ → ℕ → List ℕ → Listing → Listing
-  cutRest visit l ns o = andThen o (cutRoute s visit l ns)
-
-  last-is : (visit l : ℕ) (o : Listing) → cutStay visit l o ≡ cutRest visit l [] o
-  unfolding cutRoute
-  last-is visit l (listed zs) = refl
-  last-is visit l (refused n k) = refl
-
-  next-is : (visit l n : ℕ) (ns : List ℕ) (o : Listing)
-      → cutRest (suc visit) (transitionAt s n .to) ns (cutMove visit n (cutStay visit l o)) ≡ cutRest visit l (n ∷ ns) o
-  unfolding cutRoute
-  next-is visit l n ns (listed zs) = then-then (stayZones s visit l zs) (moveZones s visit n) (cutRoute s (suc visit) (transitionAt s n .to) ns)
-  next-is visit l n ns (refused a k) = refl
-
   rest-coded : (ns : List ℕ) → AllOf (λ n. n < s .transitions) ns → (visit l : ℕ) → l < s .locations → (o : Listing) → Sound o
-      → walkAll s visit l ns (coded visit o) ≡ coded (visit + length ns) (cutRest visit l ns o)
-  unfolding walkAll
+      → walkAll s visit l ns (coded visit o) ≡ coded (visit + length ns) (cuts (stepsFrom s visit l ns) o)
+  unfolding walkAll stepsFrom
   rest-coded [] r visit l hl o h =
       let e : visit ≡ visit + 0 = omega arith in
-      stay-coded visit l hl o h ∙ ap (coded visit) (last-is visit l o) ∙ ap (λ (k : ℕ). coded k (cutRest visit l [] o)) e
+      stay-coded visit l hl o h ∙ ap (λ (k : ℕ). coded k (cuts (staySteps s visit l) o)) e
   rest-coded (n ∷ ns) (hn, r) visit l hl o h =
       let t = transitionC s n in
-      let to = transition-in s n (omega (arith, f .transition .few)) in
+      let to = transitionAt s n .to in
+      let rest = stepsFrom s (suc visit) to ns in
+      let stayed = cuts (staySteps s visit l) o in
+      let gone = cuts (moveSteps s visit n) stayed in
+      let sound = all-sound (s .parameters) (s .ranges) (f .clocks) (staySteps s visit l) (stay-right f visit l) o h in
       let e : suc visit + length ns ≡ visit + suc (length ns) = omega arith in
-      ap (λ (z : Zones). walkAll s (suc visit) (t .to) ns (moveAll s visit t z)) (stay-coded visit l hl o h)
-      ∙ ap (walkAll s (suc visit) (t .to) ns) (move-coded visit n hn (cutStay visit l o) (stay-sound visit l o h))
-      ∙ rw to (rest-coded ns r (suc visit) (transitionAt s n .to) (f .transition .each n hn .to) (cutMove visit n (cutStay visit l o))
-      (move-sound visit n (cutStay visit l o) (stay-sound visit l o h)))
-      ∙ ap (coded (suc visit + length ns)) (next-is visit l n ns o)
-      ∙ ap (λ (k : ℕ). coded k (cutRest visit l (n ∷ ns) o)) e
+      ap (λ (z : Zones). walkAll s (suc visit) (t .to) ns (moveAll (s .ranges) (s .clocks) visit t z)) (stay-coded visit l hl o h)
+      ∙ ap (walkAll s (suc visit) (t .to) ns) (move-coded visit n hn stayed sound)
+      ∙ ap (λ (k : ℕ). walkAll s (suc visit) k ns (coded (suc visit) gone)) (ap (λ (u : Transition). u .to) (transition-in s n (omega (arith, f .transition .few))))
+      ∙ rest-coded ns r (suc visit) to (f .transition .each n hn .to) gone
+      (all-sound (s .parameters) (s .ranges) (f .clocks) (moveSteps s visit n) (move-right f visit n) stayed sound)
+      ∙ ap (coded (suc visit + length ns)) (steps-append (rangeList (s .ranges)) (s .clocks) (moveSteps s visit n) rest stayed
+      ∙ steps-append (rangeList (s .ranges)) (s .clocks) (staySteps s visit l) (moveSteps s visit n ++ rest) o)
+      ∙ ap (λ (k : ℕ). coded k (cuts (staySteps s visit l ++ (moveSteps s visit n ++ rest)) o)) e
 
 -- ---- the whole route
-abbrev start : cutting.Zone
-start = record { ineqs = []; bounds = startB }
-
-start-coded : startAll ≡ coded 0 (listed (start ∷ []))
+start-coded : startAll ≡ coded 0 (listed (startZone ∷ []))
 unfolding startAll coded zonesIn zoneOf boundsOf rowOf startB
 start-coded = refl
 
@@ -320,8 +316,8 @@ route-length {s} f =
 
 -- what the code lists is what the cutting lists, or both are refused alike
 pub zones-coded : (s : Sheet) → WellFormed s → zonesAll s ≡ coded (s .moves) (zonesOf s)
-unfolding zonesAll zonesOf routeOf
+unfolding zonesAll zonesOf zonesAlong stepsOf routeOf
 zones-coded s f =
     ap (walkAll s 0 0 (routeOf s)) start-coded
-    ∙ rest-coded f (routeOf s) (filled-all (f .route)) 0 0 (omega (arith, f .some-location)) (listed (start ∷ [])) (record { bounds = start-narrow }, tt)
+    ∙ rest-coded f (routeOf s) (filled-all (f .route)) 0 0 (omega (arith, f .some-location)) (listed (startZone ∷ [])) (record { bounds = start-narrow }, tt)
     ∙ ap (λ (k : ℕ). coded k (zonesOf s)) (route-length f)
