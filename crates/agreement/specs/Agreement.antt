@@ -14,7 +14,8 @@ use lib.ListN.{length, getD, take}
 use lib.Signed.{leZ}
 use Rattle.cutting.specs.Cutting as cutting
 use Rattle.cutting.specs.Held.{HeldBy, InRanges, holds, at}
-use Rattle.cutting.specs.Theorems.{zones-apart, matrices-agree, zones-tightest, held-iff-run}
+use Rattle.cutting.specs.Disjoint.{zones-apart}
+use Rattle.soundness.specs.Theorems.{matrices-agree, zones-tightest, held-iff-run}
 use Rattle.dbm.specs.Matrix.{Matrix, kept}
 use Rattle.expr.specs.IntervalLaws.{In, and-left, and-right}
 use Rattle.expr.specs.Limit.{Limit, atV}

@@ -1,26 +1,22 @@
--- What the zones are worth, along any route: for every valuation in the ranges a zone holds it exactly if a run follows the route under it; no two
--- zones hold it; and the zone's matrix, with it put in, is Sweep's, its entries the tightest bounds.
+-- What the zones are worth, along any route: for every valuation in the ranges a zone holds it exactly if a run follows the route under it, and
+-- the zone's matrix, with it put in, is Sweep's, its entries the tightest bounds.
 use mathlib.Core.Path.{_≡_, refl, sym, ap, subst, _∙_}
 use mathlib.Core.Logic.{_↔_, _⊎_, inl, inr}
 use mathlib.Core.List.{List, [], _∷_, List·Memᴰ, List·Memᴰ·head, List·Memᴰ·tail, List·Memᴰ·not-nil, List·Memᴰ·cases-cons, List·Memᴰ·eq-of-singleton}
 use mathlib.Core.Bool.{Bool, true, false, cond}
-use Prim.Native.Nat.{ℕ, zero, suc, _≤_, _<_}
+use Prim.Native.Nat.{ℕ, _≤_}
 use native.Mathlib.Omega.{arith}
 use lib.IntN.{ℤ, pos}
-use lib.ListN.{length, getD}
-use Rattle.dbm.specs.Matrix.{Matrix, start, Outcome, void, kept}
-use Rattle.expr.specs.IntervalLaws.{Inside}
+use Rattle.dbm.specs.Matrix.{Matrix, Outcome, void, kept}
 use Rattle.expr.specs.Limit.{Limit, none, limit}
-use Rattle.expr.specs.declared.ranges.Range.{Range}
 use Rattle.sheet.specs.declared.Sheet.{Sheet}
 use Rattle.sheet.specs.WellFormed.{WellFormed}
 use Rattle.sweep.specs.Proofs.{along-right}
-use Rattle.sweep.specs.Walk.{walk, sweepAlong}
+use Rattle.sweep.specs.Walk.{sweepAlong}
 use Rattle.timed.specs.Runs.{RunAlong, TightestAlong}
-use Rattle.timed.specs.Steps.{Step}
-use Rattle.cutting.specs.Cutting.{Zone, startZone, listed, cutSteps, zonesAlong}
+use Rattle.cutting.specs.Cutting.{Zone, listed, zonesAlong}
 use Rattle.cutting.specs.Held.{HeldBy, InRanges, holds, at, found, listOf}
-use Rattle.cutting.specs.Agree.{found-steps, found-along}
+use Rattle.soundness.specs.Agree.{found-along}
 
 -- ---- zones found and zones that hold
 found-has : (v : List ℤ) (zs : List Zone) (z : Zone) → List·Memᴰ z zs → holds v z ≡ true → List·Memᴰ (at v (z .bounds)) (found v zs)
@@ -51,57 +47,16 @@ one-kept : (r : Outcome) (m : Matrix (Limit ℤ)) → List·Memᴰ m (listOf r) 
 one-kept void m i = absurd (List·Memᴰ·not-nil i)
 one-kept (kept m′) m i = ap kept (sym (List·Memᴰ·eq-of-singleton i))
 
-at-most-one : (r : Outcome) → length (listOf r) ≤ 1
-at-most-one void = omega arith
-at-most-one (kept m) = omega arith
-
 tightest-run : {s : Sheet} {route : List ℕ} {v : List ℤ} (i j : ℕ) (b : Limit ℤ) → TightestAlong s route v i j b → RunAlong s route v
 tightest-run i j none t = t (pos 0) .0
 tightest-run i j (limit false c) t = t .1 .0
 tightest-run i j (limit true c) t = t .1 1 (omega arith) .0
-
-holder-counts : (v : List ℤ) (zs : List Zone) (d : Zone) (i : ℕ) → i < length zs → holds v (getD zs i d) ≡ true → 1 ≤ length (found v zs)
-unfolding found
-holder-counts v [] d i h k = absurd (omega arith)
-holder-counts v (z ∷ zs) d zero h k = rw k (omega arith)
-holder-counts v (z ∷ zs) d (suc i) h k = by (holds v z) (holder-counts v zs d i (omega arith) k)
-  where
-    by : (b : Bool) → 1 ≤ length (found v zs) → 1 ≤ length (cond b (at v (z .bounds) ∷ found v zs) (found v zs))
-    by true g = omega arith
-    by false g = g
-
-fewer : (b : Bool) (m : Matrix (Limit ℤ)) (ms : List (Matrix (Limit ℤ))) → length (cond b (m ∷ ms) ms) ≤ 1 → length ms ≤ 1
-fewer true m ms h = omega arith
-fewer false m ms h = h
-
-both-count : (m : Matrix (Limit ℤ)) (ms : List (Matrix (Limit ℤ))) → length (m ∷ ms) ≤ 1 → 1 ≤ length ms → ⊥
-both-count m ms h k = omega arith
-
-pub one-place : (v : List ℤ) (zs : List Zone) → length (found v zs) ≤ 1 → (d : Zone) (i j : ℕ) → i < length zs → j < length zs
-    → holds v (getD zs i d) ≡ true → holds v (getD zs j d) ≡ true → i ≡ j
-unfolding found
-one-place v [] l d i j a b e g = absurd (omega arith)
-one-place v (z ∷ zs) l d zero zero a b e g = refl
-one-place v (z ∷ zs) l d zero (suc j) a b e g = absurd (both-count (at v (z .bounds)) (found v zs) (rw e at l) (holder-counts v zs d j (omega arith) g))
-one-place v (z ∷ zs) l d (suc i) zero a b e g = absurd (both-count (at v (z .bounds)) (found v zs) (rw g at l) (holder-counts v zs d i (omega arith) e))
-one-place v (z ∷ zs) l d (suc i) (suc j) a b e g =
-    ap suc (one-place v zs (fewer (holds v z) (at v (z .bounds)) (found v zs) l) d i j (omega arith) (omega arith) e g)
-
--- ---- any list of steps: at most one zone holds v
-pub steps-disjoint : (rs : List Range) (w : ℕ) (steps : List Step) (zs : List Zone) → cutSteps rs w steps (startZone ∷ []) ≡ listed zs
-    → (v : List ℤ) → Inside v rs → length (found v zs) ≤ 1
-steps-disjoint rs w steps zs q v i =
-    subst (λ (l : List (Matrix (Limit ℤ))). length l ≤ 1) (sym (found-steps rs v i w steps zs q)) (at-most-one (walk w v steps start))
 
 -- ---- any route
 module _ (s : Sheet) (route : List ℕ) (zs : List Zone) (q : zonesAlong s route ≡ listed zs) (v : List ℤ) (i : InRanges s v) where
   -- the zones that hold v, with v put in, are what Sweep leaves
   pub along-found : found v zs ≡ listOf (sweepAlong s route v)
   along-found = found-along s route v i zs q
-
-  -- at most one zone holds v
-  pub along-disjoint : length (found v zs) ≤ 1
-  along-disjoint = subst (λ (l : List (Matrix (Limit ℤ))). length l ≤ 1) (sym along-found) (at-most-one (sweepAlong s route v))
 
   -- what is found is Sweep's matrix
   pub along-found-one : (m : Matrix (Limit ℤ)) → found v zs ≡ m ∷ [] → sweepAlong s route v ≡ kept m

@@ -1,5 +1,5 @@
 -- What the zones are worth along the sheet's own route, for every sheet that is well formed and not refused, and every valuation in its ranges: a
--- zone holds it exactly if a run follows the route under it; no two zones hold it; and the zone's matrix, with it put in, is Sweep's, its entries
+-- zone holds it exactly if a run follows the route under it, and the zone's matrix, with it put in, is Sweep's, its entries
 -- the tightest bounds.
 use mathlib.Core.Path.{_≡_}
 use mathlib.Core.Logic.{_↔_}
@@ -16,24 +16,14 @@ use Rattle.sweep.specs.Proofs.{entries-tightest}
 use Rattle.sweep.specs.Walk.{sweepAt}
 use Rattle.timed.specs.Automaton.{routeOf}
 use Rattle.timed.specs.Runs.{Run, Tightest}
-use Rattle.cutting.specs.Along.{one-place, along-found, along-disjoint, along-found-one, along-agree, along-tightest, along-held}
+use Rattle.soundness.specs.Along.{along-found, along-found-one, along-agree, along-tightest, along-held}
 use Rattle.cutting.specs.Cutting.{Zone, listed, zonesOf}
 use Rattle.cutting.specs.Held.{HeldBy, InRanges, holds, at, found, listOf}
 
 -- ---- the statements
 -- a zone holds v exactly if a run follows the route under v
 abbrev pub HeldIffRun : Type 0
 HeldIffRun = (s : Sheet) → WellFormed s → (zs : List Zone) → zonesOf s ≡ listed zs → (v : List ℤ) → InRanges s v → HeldBy v zs ↔ Run s v
-
--- at most one zone holds v
-abbrev pub PiecesDisjoint : Type 0
-PiecesDisjoint = (s : Sheet) (zs : List Zone) → zonesOf s ≡ listed zs → (v : List ℤ) → InRanges s v → length (found v zs) ≤ 1
-
--- that is: zones at different places of the list have no valuation of the ranges in common
-abbrev pub ZonesApart : Type 0
-ZonesApart =
-    (s : Sheet) (zs : List Zone) → zonesOf s ≡ listed zs → (v : List ℤ) → InRanges s v → (d : Zone) (i j : ℕ) → i < length zs → j < length zs
-    → holds v (getD zs i d) ≡ true → holds v (getD zs j d) ≡ true → i ≡ j
 
 -- the zones that hold v, with v put in, are what Sweep leaves
 abbrev pub FoundSweep : Type 0
@@ -60,13 +50,6 @@ EntriesAgree =
 pub found-is-sweep : FoundSweep
 unfolding zonesOf sweepAt
 found-is-sweep s zs q v i = along-found s (routeOf s) zs q v i
-
-pub pieces-disjoint : PiecesDisjoint
-unfolding zonesOf
-pieces-disjoint s zs q v i = along-disjoint s (routeOf s) zs q v i
-
-pub zones-apart : ZonesApart
-zones-apart s zs q v i = one-place v zs (pieces-disjoint s zs q v i)
 
 pub matrices-agree : MatricesAgree
 unfolding zonesOf sweepAt

@@ -17,10 +17,10 @@ use Rattle.sweep.specs.Proofs.{along-right}
 use Rattle.sweep.specs.Walk.{sweepAlong}
 use Rattle.timed.specs.Automaton.{routeOf}
 use Rattle.timed.specs.Runs.{Run, RunAlong}
-use Rattle.cutting.specs.Along.{found-held, along-found, along-held}
+use Rattle.soundness.specs.Along.{found-held, along-found, along-held}
 use Rattle.cutting.specs.Cutting.{Zone, listed, zonesAlong, zonesOf}
 use Rattle.cutting.specs.Held.{InRanges, holds, at, found, listOf}
 use Rattle.cutting.specs.Kept.{Counted, nil, has, lacks, keptOf, cutOf}
 
 -- ---- the statements
 -- kept is the number of valuations of the ranges with a run

@@ -1,5 +1,5 @@
--- The cutting against Sweep, over any list of steps: the zones that hold a valuation, with it put in, are what Sweep leaves at it: none where that
--- is void, else one, with the same matrix.
+-- What steps list for one valuation: working a tree lists just what the tree comes to, and a guard, a delay or resets over all zones do to the
+-- zones that hold the valuation what the rules of the matrices do there.
 use mathlib.Core.Path.{_≡_, refl, sym, ap, subst, fun-ext, _∙_}
 use mathlib.Core.List.{List, [], _∷_, _++_, append-assoc}
 use mathlib.Core.Bool.{Bool, true, false, _&&_, not, cond}
@@ -17,21 +17,18 @@ use Rattle.expr.specs.Limit.{Limit, none, atV}
 use Rattle.expr.specs.IntervalLaws.{Inside, and-left, and-right}
 use Rattle.expr.specs.Laws.{opposite-holds}
 use Rattle.expr.specs.SearchLaws.{first-none}
-use Rattle.expr.specs.Three.{limitOf, rangeList}
+use Rattle.expr.specs.Three.{limitOf}
 use Rattle.expr.specs.Valuations.{satisfies, first}
 use Rattle.expr.specs.declared.ranges.Range.{Range}
 use Rattle.sheet.specs.declared.Guard.{Guard}
-use Rattle.sheet.specs.declared.Sheet.{Sheet}
-use Rattle.sweep.specs.Walk.{step, walk, sweepAlong}
-use Rattle.sweep.specs.Walk as sweep
-use Rattle.timed.specs.Steps.{Step, delay, guard, resets, stepsOf}
-use Rattle.cutting.specs.Cutting.{Bounds, startB, startZone, Zone, Tree, cut, keep, wideTree, asks, guardTree, Listing, listed, refused, INEQS, ZONES, never, listZone, worked, guardZones, onBounds, stepZones, cutSteps, zonesAlong}
+use Rattle.timed.specs.Steps.{delay, guard, resets}
+use Rattle.cutting.specs.Cutting.{Bounds, startB, Zone, Tree, cut, keep, wideTree, asks, guardTree, Listing, listed, refused, INEQS, ZONES, never, listZone, worked, guardZones, onBounds, stepZones}
 use Rattle.cutting.specs.Held.{holds, at, found, listOf}
-use Rattle.cutting.specs.Listings.{listed-same, not-listed, worked-refused, guards-refused, listed-first}
+use Rattle.cutting.specs.Listings.{listed-same, not-listed, worked-refused, guards-refused}
 use Rattle.cutting.specs.Comes.{Comes, guard-comes}
 
 -- ---- lists
-append-nil : {A : Type 0} (xs : List A) → xs ++ [] ≡ xs
+pub append-nil : {A : Type 0} (xs : List A) → xs ++ [] ≡ xs
 append-nil [] = refl
 append-nil (x ∷ xs) = ap (λ ys. x ∷ ys) (append-nil xs)
 
@@ -188,28 +185,10 @@ unfoldable pub each : (Matrix (Limit ℤ) → Outcome) → List (Matrix (Limit �
 each f [] = []
 each f (m ∷ ms) = listOf (f m) ++ each f ms
 
-each-kept : (ms : List (Matrix (Limit ℤ))) → each kept ms ≡ ms
+pub each-kept : (ms : List (Matrix (Limit ℤ))) → each kept ms ≡ ms
 unfolding each
 each-kept [] = refl
 each-kept (m ∷ ms) = ap (λ (l : List (Matrix (Limit ℤ))). m ∷ l) (each-kept ms)
-
-each-append : (f : Matrix (Limit ℤ) → Outcome) (xs ys : List (Matrix (Limit ℤ))) → each f (xs ++ ys) ≡ each f xs ++ each f ys
-unfolding each
-each-append f [] ys = refl
-each-append f (x ∷ xs) ys = ap (λ (l : List (Matrix (Limit ℤ))). listOf (f x) ++ l) (each-append f xs ys) ∙ sym (append-assoc (listOf (f x)) (each f xs) (each f ys))
-
-each-outcome : (g : Matrix (Limit ℤ) → Outcome) (r : Outcome) → each g (listOf r) ≡ listOf (sweep.andThen r g)
-unfolding each
-each-outcome g void = refl
-each-outcome g (kept m) = append-nil (listOf (g m))
-
-each-then : (f g : Matrix (Limit ℤ) → Outcome) (ms : List (Matrix (Limit ℤ))) → each g (each f ms) ≡ each (λ m. sweep.andThen (f m) g) ms
-unfolding each
-each-then f g [] = refl
-each-then f g (m ∷ ms) =
-    each-append g (listOf (f m)) (each f ms)
-    ∙ ap (λ (l : List (Matrix (Limit ℤ))). l ++ each g (each f ms)) (each-outcome g (f m))
-    ∙ ap (λ (l : List (Matrix (Limit ℤ))). listOf (sweep.andThen (f m) g) ++ l) (each-then f g ms)
 
 -- ---- a guard
 one-more : (b : Bool) (f : Matrix (Limit ℤ) → Outcome) (m : Matrix (Limit ℤ)) (xs ms : List (Matrix (Limit ℤ)))
@@ -219,7 +198,7 @@ one-more true f m xs ms = append-assoc xs (listOf (f m)) (each f ms)
 one-more false f m xs ms = ap (λ (l : List (Matrix (Limit ℤ))). l ++ each f ms) (append-nil xs)
 
 -- the guard's rules at v
-abbrev guardAt : ℕ → List ℤ → Guard → Matrix (Limit ℤ) → Outcome
+abbrev pub guardAt : ℕ → List ℤ → Guard → Matrix (Limit ℤ) → Outcome
 guardAt w v g m = guarded w (g .left) (g .right) (atV v (limitOf (g .bound))) m
 
 module _ (rs : List Range) (visit : ℕ) (v : List ℤ) (inside-ranges : Inside v rs) (w : ℕ) where
@@ -285,38 +264,20 @@ resets-at v w bits (suc i) m = by (eqb (bits / 2 ^ i % 2) 1) (resets-at v w bits
     by true ih = reset-at v w (suc i) (resetsM w bits i m) ∙ ap (resetM w (suc i)) ih
     by false ih = ih
 
--- ---- any list of steps
-module _ (rs : List Range) (v : List ℤ) (inside-ranges : Inside v rs) (w : ℕ) where
-  step-zones : (s : Step) (zs zs′ : List Zone) → stepZones rs w s zs ≡ listed zs′ → found v zs′ ≡ each (step w v s) (found v zs)
-  unfolding stepZones step found
-  step-zones delay zs zs′ q = ap (found v) (sym (listed-same q)) ∙ on-found v (delayed w none) (delayed w none) (delay-at v w) zs
-  step-zones (guard visit g) zs zs′ q = guard-zones rs visit v inside-ranges w g zs [] zs′ q
-  step-zones (resets bits) zs zs′ q = ap (found v) (sym (listed-same q)) ∙ on-found v (resetsM w bits w) (resetsM w bits w) (resets-at v w bits w) zs
+-- ---- each kind of step
+module _ (rs : List Range) (v : List ℤ) (inside-ranges : Inside v rs) (w : ℕ) (zs zs′ : List Zone) where
+  pub delay-found : stepZones rs w delay zs ≡ listed zs′ → found v zs′ ≡ each (λ m. kept (delayed w none m)) (found v zs)
+  unfolding stepZones
+  delay-found q = ap (found v) (sym (listed-same q)) ∙ on-found v (delayed w none) (delayed w none) (delay-at v w) zs
 
-  pub found-walk : (steps : List Step) (zs zs′ : List Zone) → cutSteps rs w steps zs ≡ listed zs′ → found v zs′ ≡ each (walk w v steps) (found v zs)
-  unfolding cutSteps walk
-  found-walk [] zs zs′ q = ap (found v) (sym (listed-same q)) ∙ sym (each-kept (found v zs))
-  found-walk (s ∷ steps) zs zs′ q =
-      let (zs₁, a, b) = listed-first (stepZones rs w s zs) (cutSteps rs w steps) zs′ q in
-      found-walk steps zs₁ zs′ b
-      ∙ ap (each (walk w v steps)) (step-zones s zs zs₁ a)
-      ∙ each-then (step w v s) (walk w v steps) (found v zs)
+  pub guard-found : (visit : ℕ) (g : Guard) → stepZones rs w (guard visit g) zs ≡ listed zs′ → found v zs′ ≡ each (guardAt w v g) (found v zs)
+  unfolding stepZones found
+  guard-found visit g q = guard-zones rs visit v inside-ranges w g zs [] zs′ q
 
-start-at : (v : List ℤ) → at v startB ≡ start
+  pub resets-found : (bits : ℕ) → stepZones rs w (resets bits) zs ≡ listed zs′ → found v zs′ ≡ each (λ m. kept (resetsM w bits w m)) (found v zs)
+  unfolding stepZones
+  resets-found bits q = ap (found v) (sym (listed-same q)) ∙ on-found v (resetsM w bits w) (resetsM w bits w) (resets-at v w bits w) zs
+
+pub start-at : (v : List ℤ) → at v startB ≡ start
 unfolding at startB start atV value dot
 start-at v = refl
-
--- from one zone, the zones that hold v are what Sweep leaves at v
-pub found-steps : (rs : List Range) (v : List ℤ) → Inside v rs → (w : ℕ) (steps : List Step) (zs : List Zone) → cutSteps rs w steps (startZone ∷ []) ≡ listed zs
-    → found v zs ≡ listOf (walk w v steps start)
-unfolding found each satisfies
-found-steps rs v i w steps zs q =
-    found-walk rs v i w steps (startZone ∷ []) zs q
-    ∙ ap (λ (m : Matrix (Limit ℤ)). each (walk w v steps) (m ∷ [])) (start-at v)
-    ∙ append-nil (listOf (walk w v steps start))
-
--- along a route
-pub found-along : (s : Sheet) (route : List ℕ) (v : List ℤ) → Inside v (rangeList (s .ranges)) → (zs : List Zone) → zonesAlong s route ≡ listed zs
-    → found v zs ≡ listOf (sweepAlong s route v)
-unfolding zonesAlong sweepAlong
-found-along s route v i zs q = found-steps (rangeList (s .ranges)) v i (s .clocks) (stepsOf s route) zs q
