@@ -197,7 +197,7 @@ resetBit w r bit m = cond (eqb bit 1) (cond (leb r w) (resetM w r m) m) m
 abbrev pub resetBits : {A : Type 0} → ℕ → ℕ → Matrix A → Matrix A
 resetBits w bits m = resetBit w 4 (bits / 8 % 2) (resetBit w 3 (bits / 4 % 2) (resetBit w 2 (bits / 2 % 2) (resetBit w 1 (bits % 2) m)))
 
-cond-same : {A : Type 0} (b : Bool) (a : A) → cond b a a ≡ a
+pub cond-same : {A : Type 0} (b : Bool) (a : A) → cond b a a ≡ a
 cond-same true a = refl
 cond-same false a = refl
 

@@ -1,7 +1,7 @@
 -- The cases of the reply, with the branches' tests.
 use mathlib.Core.Path.{_≡_, refl, sym, _∙_, ap}
 use mathlib.Core.List.{List, [], _∷_}
-use mathlib.Core.Bool.{Bool, true, false, not, _&&_}
+use mathlib.Core.Bool.{Bool, true, false, not, _&&_, cond as pick}
 use native.Mathlib.Omega.{arith}
 use Prim.Native.Nat.{ℕ}
 use lib.IntN.{ℤ}
@@ -20,7 +20,7 @@ use Rattle.sheet.specs.File.{readOf}
 use Rattle.sweep.specs.Faithful.{sheet-faithful}
 use Rattle.sweep.specs.Reply.{blankReply, inRange, sheetReply, readingReply, replyOf}
 use Rattle.sweep.specs.TableReply.{sweptTable, sheetTable}
-use Rattle.sweep.specs.Tables.{pick, sweepTable}
+use Rattle.sweep.specs.Tables.{sweepTable}
 use Rattle.sweep.specs.declared.reply.Answer.the-variants as answer
 use Rattle.sweep.specs.declared.reply.Reply.{Reply}
 

@@ -1,7 +1,7 @@
 -- The cases of the code's steps on tables, with the branches' tests.
 use mathlib.Core.Path.{_≡_, refl, sym, _∙_, ap}
 use mathlib.Core.List.{List, [], _∷_}
-use mathlib.Core.Bool.{Bool, true, false}
+use mathlib.Core.Bool.{Bool, true, false, cond}
 use Prim.Native.Nat.{ℕ, suc, _+_, _≤_, _<_, min}
 use native.Mathlib.Numerals.{add-one}
 use native.Mathlib.Omega.{arith}
@@ -15,7 +15,7 @@ use Rattle.sheet.specs.declared.Guard.{Guard}
 use Rattle.sheet.specs.declared.Location.{Location}
 use Rattle.sheet.specs.declared.Sheet.{Sheet}
 use Rattle.sheet.specs.declared.Transition.{Transition}
-use Rattle.sweep.specs.Tables.{Table, zeroWeight, voidTable, entryOf, rowOf, isVoid, pick, sumC, tighterC, limitedEntry, limitedTable, guardedTable, guardTable, guardsTable, stayTable, moveTable, walkTable}
+use Rattle.sweep.specs.Tables.{Table, zeroWeight, voidTable, entryOf, rowOf, isVoid, sumC, tighterC, limitedEntry, limitedTable, guardedTable, guardTable, guardsTable, stayTable, moveTable, walkTable}
 use Rattle.timed.specs.Indexed.{locationC, transitionC}
 
 pub list5 : {A : Type 0} {a b c d e a′ b′ c′ d′ e′ : A} → a ≡ a′ → b ≡ b′ → c ≡ c′ → d ≡ d′ → e ≡ e′

@@ -12,7 +12,7 @@ use Rattle.dbm.specs.Matrix.{Matrix, Outcome, void, kept}
 use Rattle.expr.specs.Limit.{Limit, none, limit, sumW, tighterW, zeroW, saturated}
 use Rattle.expr.specs.Three.{weighed, weightOf}
 use Rattle.expr.specs.declared.weight.Weight.{Weight}
-use Rattle.sweep.specs.Tables.{Table, zeroWeight, voidTable, rowOf, entryOf, isVoid, pick, sumC, tighterC}
+use Rattle.sweep.specs.Tables.{Table, zeroWeight, voidTable, rowOf, entryOf, isVoid, sumC, tighterC}
 
 -- row i
 unfoldable pub row : Matrix (Limit ℤ) → ℕ → List Weight
@@ -37,9 +37,9 @@ sum-of a b = rw (weighed-of a, weighed-of b) refl
 pub tighter-of : (a b : Limit ℤ) → tighterC (weightOf a) (weightOf b) ≡ tighterW a b
 tighter-of a b = rw (weighed-of a, weighed-of b) refl
 
-pub pick-of : (b : Bool) (x y : Limit ℤ) → pick b (weightOf x) (weightOf y) ≡ weightOf (cond b x y)
-pick-of true x y = refl
-pick-of false x y = refl
+pub cond-of : (b : Bool) (x y : Limit ℤ) → cond b (weightOf x) (weightOf y) ≡ weightOf (cond b x y)
+cond-of true x y = refl
+cond-of false x y = refl
 
 -- ---- entries
 module _ (f : Matrix (Limit ℤ)) where

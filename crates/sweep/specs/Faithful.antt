@@ -1,7 +1,7 @@
 -- What the code replies, with its matrix as a table, is Sweep's reply.
 use mathlib.Core.Path.{_≡_, refl, sym, _∙_, ap}
 use mathlib.Core.List.{List, [], _∷_}
-use mathlib.Core.Bool.{Bool, true, false, _&&_}
+use mathlib.Core.Bool.{Bool, true, false, _&&_, cond}
 use Prim.Native.Nat.{ℕ, zero-le}
 use lib.Dec.{lit≤}
 use lib.IntN.{ℤ}
@@ -18,7 +18,7 @@ use Rattle.sweep.specs.CodedWalk.{sweep-coded}
 use Rattle.sweep.specs.Reply.{rowRecord, blankReply, swept, inRange, sheetReply}
 use Rattle.sweep.specs.Sizes.{Thousands, Visited, start-visited, walk-visited}
 use Rattle.sweep.specs.TableReply.{sweptTable, sheetTable}
-use Rattle.sweep.specs.Tables.{Table, rowOf, isVoid, pick, sweepTable}
+use Rattle.sweep.specs.Tables.{Table, rowOf, isVoid, sweepTable}
 use Rattle.sweep.specs.Walk.{sweepAlong, sweepAt}
 use Rattle.sweep.specs.declared.reply.Answer.the-variants as answer
 use Rattle.sweep.specs.declared.reply.Reply.{Reply}
@@ -51,8 +51,8 @@ unfolding sheetTable sheetReply
 sheet-faithful s f p q r = by (inRange (s .ranges .p) p) (inRange (s .ranges .q) q) (inRange (s .ranges .r) r) refl refl refl
   where
     by : (a b c : Bool) → inRange (s .ranges .p) p ≡ a → inRange (s .ranges .q) q ≡ b → inRange (s .ranges .r) r ≡ c
-        → pick a (pick b (pick c (sweptTable (sweepTable s (p ∷ q ∷ r ∷ []))) (blankReply (answer.Outside 2))) (blankReply (answer.Outside 1))) (blankReply (answer.Outside 0))
-        ≡ pick a (pick b (pick c (swept (sweepAt s (p ∷ q ∷ r ∷ []))) (blankReply (answer.Outside 2))) (blankReply (answer.Outside 1))) (blankReply (answer.Outside 0))
+        → cond a (cond b (cond c (sweptTable (sweepTable s (p ∷ q ∷ r ∷ []))) (blankReply (answer.Outside 2))) (blankReply (answer.Outside 1))) (blankReply (answer.Outside 0))
+        ≡ cond a (cond b (cond c (swept (sweepAt s (p ∷ q ∷ r ∷ []))) (blankReply (answer.Outside 2))) (blankReply (answer.Outside 1))) (blankReply (answer.Outside 0))
     by false b c e g h = refl
     by true false c e g h = refl
     by true true false e g h = refl

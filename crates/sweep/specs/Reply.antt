@@ -1,7 +1,7 @@
 -- What Sweep replies, for every file and every three numbers (paper 01, rows 2 to 6 of "When no piece is given", and "Runs"): refused by 2 to 5,
 -- the whole file for each; else by 6; else void, or a run with the matrix of tightest bounds. With a refusal or void every entry is zero, not strict.
 use mathlib.Core.List.{List, [], _∷_}
-use mathlib.Core.Bool.{Bool, true, false, _&&_}
+use mathlib.Core.Bool.{Bool, true, false, _&&_, cond as pick}
 use Prim.Native.Nat.{ℕ}
 use lib.IntN.{ℤ}
 use lib.Signed.{leZ}
@@ -16,7 +16,7 @@ use Rattle.sheet.specs.declared.Sheet.{Sheet}
 use Rattle.sheet.specs.declared.Reading.{Reading}
 use Rattle.sheet.specs.File.{readOf}
 use Rattle.sweep.specs.Coded.{row}
-use Rattle.sweep.specs.Tables.{pick, zeroRow}
+use Rattle.sweep.specs.Tables.{zeroRow}
 use Rattle.sweep.specs.Walk.{sweepAt}
 use Rattle.sweep.specs.declared.reply.Answer.{Answer}
 use Rattle.sweep.specs.declared.reply.Answer.the-variants as answer

@@ -97,14 +97,14 @@ then-kept : (P Q : Matrix (Limit ℤ) → Type 0) (f : Matrix (Limit ℤ) → Ou
 then-kept P Q f b void a = tt
 then-kept P Q f b (kept m) a = b m a
 
-reset-picked : {w B C : ℕ} {m : Matrix (Limit ℤ)} (r : ℕ) (b : Bool) → r ≤ w → Visit w B C m → Visit w B C (cond b (resetM w r m) m)
-reset-picked r true hr a = reset-visit r hr a
-reset-picked r false hr a = a
+reset-cond : {w B C : ℕ} {m : Matrix (Limit ℤ)} (r : ℕ) (b : Bool) → r ≤ w → Visit w B C m → Visit w B C (cond b (resetM w r m) m)
+reset-cond r true hr a = reset-visit r hr a
+reset-cond r false hr a = a
 
 resets-visit : {w B C : ℕ} {m : Matrix (Limit ℤ)} (bits k : ℕ) → k ≤ w → Visit w B C m → Visit w B C (resetsM w bits k m)
 unfolding resetsM
 resets-visit bits zero h a = a
-resets-visit bits (suc k) h a = reset-picked (suc k) (eqb (bits / 2 ^ k % 2) 1) h (resets-visit bits k (omega arith) a)
+resets-visit bits (suc k) h a = reset-cond (suc k) (eqb (bits / 2 ^ k % 2) 1) h (resets-visit bits k (omega arith) a)
 
 -- ---- any list of steps
 -- the number of delays after a step

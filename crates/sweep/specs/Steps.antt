@@ -233,14 +233,14 @@ resets-moves {w} {m} bits c = moves-as w m (Puts bits w) (Resets bits) to from (
     from : (D : ℕ) (x y : Clocks) → Resets bits D x y → (y′ : Clocks) × Puts bits w D x y′ × Same w y y′
     from D x y e = let (z, a) = puts-total bits w D x in (z, a, λ i hi. ap (λ (u : Clocks). u i) e ∙ sym (puts-told bits w D x z a .done i hi))
 
-pick-times : (K : ℕ) (b : Bool) (z : ℤ) → pos K *ℤ cond b (pos 0) z ≡ cond b (pos 0) (pos K *ℤ z)
-pick-times K true z = *ℤ-zero (pos K)
-pick-times K false z = refl
+cond-times : (K : ℕ) (b : Bool) (z : ℤ) → pos K *ℤ cond b (pos 0) z ≡ cond b (pos 0) (pos K *ℤ z)
+cond-times K true z = *ℤ-zero (pos K)
+cond-times K false z = refl
 
 times-resets-at : (K bits : ℕ) (x : Clocks) (i : ℕ) → times K (afterResets bits x) i ≡ afterResets bits (times K x) i
 unfolding times afterResets
 times-resets-at K bits x zero = refl
-times-resets-at K bits x (suc i) = pick-times K (eqb (bits / 2 ^ i % 2) 1) (x (suc i))
+times-resets-at K bits x (suc i) = cond-times K (eqb (bits / 2 ^ i % 2) 1) (x (suc i))
 
 times-resets : (K bits : ℕ) (x : Clocks) → times K (afterResets bits x) ≡ afterResets bits (times K x)
 times-resets K bits x = fun-ext (times-resets-at K bits x)

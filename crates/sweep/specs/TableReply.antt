@@ -1,9 +1,10 @@
 -- What the code replies, with its matrix as a table.
+use mathlib.Core.Bool.{cond as pick}
 use mathlib.Core.List.{[], _∷_}
 use lib.IntN.{ℤ}
 use Rattle.sheet.specs.declared.Sheet.{Sheet}
 use Rattle.sweep.specs.Reply.{rowRecord, blankReply, inRange}
-use Rattle.sweep.specs.Tables.{Table, rowOf, isVoid, pick, sweepTable}
+use Rattle.sweep.specs.Tables.{Table, rowOf, isVoid, sweepTable}
 use Rattle.sweep.specs.declared.reply.Answer.the-variants as answer
 use Rattle.sweep.specs.declared.reply.Reply.{Reply}
 

@@ -1,9 +1,9 @@
 -- What an accepted sheet says of the guards that a run meets, and of the steps along a route: each guard is on one clock of the sheet, and has a
--- bound; a route has at most 32 transitions, and so 33 delays.
-use mathlib.Core.Path.{_≡_, refl, ap}
+-- bound; the sheet's own route has at most 32 transitions, and so 33 delays.
+use mathlib.Core.Path.{_≡_, refl}
 use mathlib.Core.List.{List, [], _∷_, _++_, map}
 use mathlib.Core.Bool.{Bool, true, false}
-use Prim.Native.Nat.{ℕ, zero, suc, _+_, _≤_, _<_}
+use Prim.Native.Nat.{ℕ, zero, suc, _≤_, _<_}
 use native.Mathlib.Omega.{arith}
 use lib.Dec.{ltb}
 use lib.ListN.{length, getD, take, length-take, List·getD-eq-default}
@@ -15,6 +15,7 @@ use Rattle.sheet.specs.Filled.{Filled}
 use Rattle.sheet.specs.WellFormed.{GuardRight, WellFormed}
 use Rattle.timed.specs.Automaton.{invariants, guardsOf, transitionAt, routeOf}
 use Rattle.timed.specs.Steps.{Step, delay, guard, resets, staySteps, moveSteps, stepsFrom, stepsOf, delays}
+use Rattle.timed.specs.Visits.{steps-delays}
 
 -- all of a list have P
 abbrev pub AllOf : {A : Type 0} → (A → Type 0) → List A → Type 0
@@ -108,43 +109,5 @@ module _ {s : Sheet} (f : WellFormed s) where
   unfolding routeOf
   route-short = let few = f .route .few in simp length-take (omega arith)
 
--- ---- one delay more than transitions
-delays-append : (xs ys : List Step) → delays (xs ++ ys) ≡ delays xs + delays ys
-unfolding delays
-delays-append [] ys = omega arith
-delays-append (delay ∷ xs) ys = let h = delays-append xs ys in omega arith
-delays-append (guard visit g ∷ xs) ys = delays-append xs ys
-delays-append (resets bits ∷ xs) ys = delays-append xs ys
-
-guards-delays : (visit : ℕ) (gs : List Guard) → delays (map (guard visit) gs) ≡ 0
-unfolding delays
-guards-delays visit [] = refl
-guards-delays visit (g ∷ gs) = guards-delays visit gs
-
-stay-delays : (s : Sheet) (visit l : ℕ) → delays (staySteps s visit l) ≡ 1
-unfolding staySteps delays
-stay-delays s visit l = ap suc (guards-delays visit (invariants s l))
-
-move-delays : (s : Sheet) (visit n : ℕ) → delays (moveSteps s visit n) ≡ 0
-unfolding moveSteps delays
-move-delays s visit n =
-    let a = delays-append (map (guard visit) (guardsOf s n)) (resets (transitionAt s n .resets) ∷ []) in
-    omega (arith, guards-delays visit (guardsOf s n))
-
-from-delays : (s : Sheet) (ns : List ℕ) (visit l : ℕ) → delays (stepsFrom s visit l ns) ≡ suc (length ns)
-unfolding stepsFrom
-from-delays s [] visit l = stay-delays s visit l
-from-delays s (n ∷ ns) visit l =
-    let rest = stepsFrom s (suc visit) (transitionAt s n .to) ns in
-    let a = delays-append (staySteps s visit l) (moveSteps s visit n ++ rest) in
-    let b = delays-append (moveSteps s visit n) rest in
-    let c = from-delays s ns (suc visit) (transitionAt s n .to) in
-    omega (arith, stay-delays s visit l, move-delays s visit n)
-
-pub steps-delays : (s : Sheet) (route : List ℕ) → delays (stepsOf s route) ≡ suc (length route)
-unfolding stepsOf
-steps-delays s route = from-delays s route 0 0
-
--- so the sheet's own route has at most 33
-pub route-delays : {s : Sheet} → WellFormed s → delays (stepsOf s (routeOf s)) ≤ 33
-route-delays {s} f = let short = route-short f in omega (arith, steps-delays s (routeOf s))
+  pub route-delays : delays (stepsOf s (routeOf s)) ≤ 33
+  route-delays = omega (arith, route-short, steps-delays s (routeOf s))

@@ -36,3 +36,10 @@ delays [] = 0
 delays (delay ∷ steps) = suc (delays steps)
 delays (guard visit g ∷ steps) = delays steps
 delays (resets bits ∷ steps) = delays steps
+
+-- how many transitions: each ends in one step of resets
+unfoldable pub moves : List Step → ℕ
+moves [] = 0
+moves (delay ∷ steps) = moves steps
+moves (guard visit g ∷ steps) = moves steps
+moves (resets bits ∷ steps) = suc (moves steps)

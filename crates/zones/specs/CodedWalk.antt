@@ -8,7 +8,7 @@ use lib.Dec.{eqb, ltb, leb}
 use lib.ListN.{length, replicate, length-take}
 use Rattle.cutting.specs.Cutting.{Bounds, startB, startZone, Listing, listed, refused, onBounds, stepZones, andThen, cutSteps, zonesAlong, zonesOf}
 use Rattle.cutting.specs.Cutting as cutting
-use Rattle.cutting.specs.Listings.{on-length, steps-append}
+use Rattle.cutting.specs.Listings.{on-length}
 use Rattle.dbm.specs.Entries.{up-to-4, resetBit, bits-resets}
 use Rattle.dbm.specs.Matrix.{inside, delayed, resetAt, resetM, resetsM}
 use Rattle.expr.specs.Affine.{Affine}
@@ -22,8 +22,9 @@ use Rattle.sheet.specs.declared.Transition.{Transition}
 use Rattle.sheet.specs.WellFormed.{WellFormed}
 use Rattle.timed.specs.Automaton.{invariants, guardsOf, routeOf, transitionAt}
 use Rattle.timed.specs.Indexed.{locationC, transitionC, location-in, transition-in}
-use Rattle.timed.specs.Right.{AllOf, StepRight, StepsAll, all-append, filled-all, stay-right, move-right}
-use Rattle.timed.specs.Steps.{Step, delay, guard, resets, staySteps, moveSteps, stepsFrom, stepsOf}
+use Rattle.timed.specs.Right.{AllOf, StepRight, filled-all, steps-right}
+use Rattle.timed.specs.Steps.{Step, delay, guard, resets, staySteps, moveSteps, stepsFrom, stepsOf, moves}
+use Rattle.timed.specs.Visits.{Visits, steps-visits, steps-moves}
 use Rattle.zones.specs.Coded.{rowOf, boundsOf, zoneOf, zonesIn, coded}
 use Rattle.zones.specs.CodedGuard.{NarrowZone, Sound, guard-sound, guard-coded}
 use Rattle.zones.specs.CodedTests.{NarrowB, NarrowM, zero-narrow}
@@ -158,145 +159,137 @@ unfolding atVisit coded
 next-visit visit k (listed zs) s = refl
 next-visit visit k (refused n j) s = rw s refl
 
--- ---- any steps of one visit
--- a step of the code on its zones, and steps in order; a guard belongs to the visit that the zones are at
-unfoldable pub stepAll : Ranges → ℕ → Step → Zones → Zones
-stepAll b w delay zs = delayedAll w zs
-stepAll b w (guard visit g) zs = guardedC b w g zs
-stepAll b w (resets bits) zs = resetsAll w bits zs
+-- ---- any list of steps
+-- a step of the code on its zones after k moves, and steps in order
+unfoldable pub stepAll : Ranges → ℕ → ℕ → Step → Zones → Zones
+stepAll b w k delay zs = delayedAll w zs
+stepAll b w k (guard visit g) zs = guardedC b w g zs
+stepAll b w k (resets bits) zs = atVisit (suc k) (resetsAll w bits zs)
 
-unfoldable pub stepsAll : Ranges → ℕ → List Step → Zones → Zones
-stepsAll b w [] zs = zs
-stepsAll b w (s ∷ steps) zs = stepsAll b w steps (stepAll b w s zs)
+-- the moves made after the step
+abbrev pub made : ℕ → Step → ℕ
+made k delay = k
+made k (guard visit g) = k
+made k (resets bits) = suc k
 
--- a guard, if it is one, is at that visit
-abbrev pub At : ℕ → Step → Type 0
-At visit delay = Unit {0}
-At visit (guard k g) = k ≡ visit
-At visit (resets bits) = Unit {0}
+unfoldable pub stepsAll : Ranges → ℕ → ℕ → List Step → Zones → Zones
+stepsAll b w k [] zs = zs
+stepsAll b w k (s ∷ steps) zs = stepsAll b w (made k s) steps (stepAll b w k s zs)
+
+made-moves : (k : ℕ) (s : Step) (steps : List Step) → made k s + moves steps ≡ k + moves (s ∷ steps)
+unfolding moves
+made-moves k delay steps = refl
+made-moves k (guard visit g) steps = refl
+made-moves k (resets bits) steps = omega arith
+
+none-made : (k : ℕ) → k ≡ k + moves []
+unfolding moves
+none-made k = omega arith
+
+first-visit : (k : ℕ) (s : Step) (steps : List Step) → Visits k (s ∷ steps) → Visits k (s ∷ []) × Visits (made k s) steps
+first-visit k delay steps h = (tt, h)
+first-visit k (guard visit g) steps h = ((h .0, tt), h .1)
+first-visit k (resets bits) steps h = (tt, h)
 
 module _ (parameters : ℕ) (b : Ranges) {w : ℕ} (four : w ≤ 4) where
   small : {i : ℕ} → i ≤ w → i ≤ 4
   small h = omega arith
 
-  step-sound : (s : Step) → StepRight parameters w s → (o : Listing) → Sound o → Sound (andThen o (stepZones (rangeList b) w s))
+  abbrev cutBy : Step → Listing → Listing
+  cutBy s o = andThen o (stepZones (rangeList b) w s)
+
+  abbrev cuts : List Step → Listing → Listing
+  cuts steps o = andThen o (cutSteps (rangeList b) w steps)
+
+  step-sound : (s : Step) → StepRight parameters w s → (o : Listing) → Sound o → Sound (cutBy s o)
   unfolding stepZones
   step-sound delay r o n = steps-sound (delayed w none) (delayed-narrow w) o n
   step-sound (guard visit g) r o n = guard-sound b visit w g four (small (r .left)) (small (r .right)) o n
   step-sound (resets bits) r o n = steps-sound (resetsM w bits w) (resets-narrow w bits w) o n
 
-  step-coded : (visit : ℕ) (s : Step) → At visit s → StepRight parameters w s → (o : Listing) → Sound o
-      → stepAll b w s (coded visit o) ≡ coded visit (andThen o (stepZones (rangeList b) w s))
+  step-coded : (k : ℕ) (s : Step) → Visits k (s ∷ []) → StepRight parameters w s → (o : Listing) → Sound o
+      → stepAll b w k s (coded k o) ≡ coded (made k s) (cutBy s o)
   unfolding stepAll stepZones
-  step-coded visit delay a r o n = delayed-all w visit four o
-  step-coded visit (guard k g) a r o n = rw (← a) (guard-coded b k w g four (small (r .left)) (small (r .right)) o n)
-  step-coded visit (resets bits) a r o n = resets-all w bits visit four o
+  step-coded k delay a r o n = delayed-all w k four o
+  step-coded k (guard visit g) a r o n = rw (← a .0) (guard-coded b visit w g four (small (r .left)) (small (r .right)) o n)
+  step-coded k (resets bits) a r o n =
+      ap (atVisit (suc k)) (resets-all w bits k four o)
+      ∙ next-visit k (suc k) (steps (resetsM w bits w) o) (steps-sound (resetsM w bits w) (resets-narrow w bits w) o n)
 
-  none-is : (o : Listing) → o ≡ andThen o (cutSteps (rangeList b) w [])
+  none-is : (o : Listing) → o ≡ cuts [] o
   unfolding cutSteps
   none-is (listed zs) = refl
   none-is (refused n k) = refl
 
-  next-is : (s : Step) (steps : List Step) (o : Listing)
-      → andThen (andThen o (stepZones (rangeList b) w s)) (cutSteps (rangeList b) w steps) ≡ andThen o (cutSteps (rangeList b) w (s ∷ steps))
+  next-is : (s : Step) (steps : List Step) (o : Listing) → cuts steps (cutBy s o) ≡ cuts (s ∷ steps) o
   unfolding cutSteps
   next-is s steps (listed zs) = refl
   next-is s steps (refused n k) = refl
 
-  pub all-sound : (steps : List Step) → AllOf (StepRight parameters w) steps → (o : Listing) → Sound o → Sound (andThen o (cutSteps (rangeList b) w steps))
-  all-sound [] r o n = rw (← none-is o) n
-  all-sound (s ∷ steps) r o n =
-      rw (← next-is s steps o) (all-sound steps (r .1) (andThen o (stepZones (rangeList b) w s)) (step-sound s (r .0) o n))
-
-  pub all-coded : (visit : ℕ) (steps : List Step) → AllOf (At visit) steps → AllOf (StepRight parameters w) steps → (o : Listing) → Sound o
-      → stepsAll b w steps (coded visit o) ≡ coded visit (andThen o (cutSteps (rangeList b) w steps))
+  pub all-coded : (steps : List Step) (k : ℕ) → Visits k steps → AllOf (StepRight parameters w) steps → (o : Listing) → Sound o
+      → stepsAll b w k steps (coded k o) ≡ coded (k + moves steps) (cuts steps o)
   unfolding stepsAll
-  all-coded visit [] a r o n = ap (coded visit) (none-is o)
-  all-coded visit (s ∷ steps) a r o n =
-      ap (stepsAll b w steps) (step-coded visit s (a .0) (r .0) o n)
-      ∙ all-coded visit steps (a .1) (r .1) (andThen o (stepZones (rangeList b) w s)) (step-sound s (r .0) o n)
-      ∙ ap (coded visit) (next-is s steps o)
+  all-coded [] k a r o n = ap (coded k) (none-is o) ∙ ap (λ (j : ℕ). coded j (cuts [] o)) (none-made k)
+  all-coded (s ∷ steps) k a r o n =
+      let (here, then) = first-visit k s steps a in
+      ap (stepsAll b w (made k s) steps) (step-coded k s here (r .0) o n)
+      ∙ all-coded steps (made k s) then (r .1) (cutBy s o) (step-sound s (r .0) o n)
+      ∙ ap (coded (made k s + moves steps)) (next-is s steps o)
+      ∙ ap (λ (j : ℕ). coded j (cuts (s ∷ steps) o)) (made-moves k s steps)
 
--- ---- the code's stay and transition make the steps of one visit
-all-append-is : (b : Ranges) (w : ℕ) (xs ys : List Step) (zs : Zones) → stepsAll b w ys (stepsAll b w xs zs) ≡ stepsAll b w (xs ++ ys) zs
-unfolding stepsAll
-all-append-is b w [] ys zs = refl
-all-append-is b w (s ∷ xs) ys zs = all-append-is b w xs ys (stepAll b w s zs)
+-- ---- the code's walk makes the steps along the route
+module _ (b : Ranges) (w k : ℕ) (rest : List Step) where
+  guards-then : (gs : List Guard) (zs : Zones) → stepsAll b w k rest (guardsAll b w gs zs) ≡ stepsAll b w k (map (guard k) gs ++ rest) zs
+  unfolding guardsAll stepsAll stepAll
+  guards-then [] zs = refl
+  guards-then (g ∷ gs) zs = guards-then gs (guardedC b w g zs)
 
-guards-are : (b : Ranges) (w visit : ℕ) (gs : List Guard) (zs : Zones) → guardsAll b w gs zs ≡ stepsAll b w (map (guard visit) gs) zs
+  ends-then : (bits : ℕ) (gs : List Guard) (zs : Zones)
+      → stepsAll b w (suc k) rest (atVisit (suc k) (resetsAll w bits (guardsAll b w gs zs))) ≡ stepsAll b w k ((map (guard k) gs ++ (resets bits ∷ [])) ++ rest) zs
+  unfolding guardsAll stepsAll stepAll
+  ends-then bits [] zs = refl
+  ends-then bits (g ∷ gs) zs = ends-then bits gs (guardedC b w g zs)
+
+guards-last : (b : Ranges) (w k : ℕ) (gs : List Guard) (zs : Zones) → guardsAll b w gs zs ≡ stepsAll b w k (map (guard k) gs) zs
 unfolding guardsAll stepsAll stepAll
-guards-are b w visit [] zs = refl
-guards-are b w visit (g ∷ gs) zs = guards-are b w visit gs (guardedC b w g zs)
-
-guards-at : (visit : ℕ) (gs : List Guard) → AllOf (At visit) (map (guard visit) gs)
-guards-at visit [] = tt
-guards-at visit (g ∷ gs) = (refl, guards-at visit gs)
+guards-last b w k [] zs = refl
+guards-last b w k (g ∷ gs) zs = guards-last b w k gs (guardedC b w g zs)
 
 module _ {s : Sheet} (f : WellFormed s) where
-  abbrev cuts : List Step → Listing → Listing
-  cuts steps o = andThen o (cutSteps (rangeList (s .ranges)) (s .clocks) steps)
+  abbrev goes : ℕ → List Step → Zones → Zones
+  goes k steps zs = stepsAll (s .ranges) (s .clocks) k steps zs
 
-  abbrev goes : List Step → Zones → Zones
-  goes steps zs = stepsAll (s .ranges) (s .clocks) steps zs
+  abbrev stays : ℕ → Zones → Zones
+  stays l zs = stayAll (s .ranges) (s .clocks) (locationC s l) zs
 
-  stay-at : (visit l : ℕ) → AllOf (At visit) (staySteps s visit l)
-  unfolding staySteps
-  stay-at visit l = (tt, guards-at visit (invariants s l))
-
-  move-at : (visit n : ℕ) → AllOf (At visit) (moveSteps s visit n)
-  unfolding moveSteps
-  move-at visit n =
-      all-append (At visit) (map (guard visit) (guardsOf s n)) (resets (transitionAt s n .resets) ∷ []) (guards-at visit (guardsOf s n)) (tt, tt)
-
-  stay-is : (visit l : ℕ) → l < s .locations → (zs : Zones) → stayAll (s .ranges) (s .clocks) (locationC s l) zs ≡ goes (staySteps s visit l) zs
+  last-is : (k l : ℕ) → l < s .locations → (zs : Zones) → stays l zs ≡ goes k (staySteps s k l) zs
   unfolding stayAll staySteps stepsAll stepAll invariants
-  stay-is visit l hl zs =
-      rw (location-in s l (omega (arith, f .location .few))) (guards-are (s .ranges) (s .clocks) visit (invariants s l) (delayedAll (s .clocks) zs))
+  last-is k l hl zs =
+      rw (location-in s l (omega (arith, f .location .few))) (guards-last (s .ranges) (s .clocks) k (invariants s l) (delayedAll (s .clocks) zs))
 
-  move-is : (visit n : ℕ) → n < s .transitions → (zs : Zones)
-      → moveAll (s .ranges) (s .clocks) visit (transitionC s n) zs ≡ atVisit (suc visit) (goes (moveSteps s visit n) zs)
-  unfolding moveAll moveSteps stepsAll stepAll guardsOf
-  move-is visit n hn zs =
-      let bits = transitionAt s n .resets in
-      rw (transition-in s n (omega (arith, f .transition .few)))
-      (ap (atVisit (suc visit)) (ap (resetsAll (s .clocks) bits) (guards-are (s .ranges) (s .clocks) visit (guardsOf s n) zs)
-      ∙ all-append-is (s .ranges) (s .clocks) (map (guard visit) (guardsOf s n)) (resets bits ∷ []) zs))
+  stay-then : (k l : ℕ) (rest : List Step) → l < s .locations → (zs : Zones) → goes k rest (stays l zs) ≡ goes k (staySteps s k l ++ rest) zs
+  unfolding stayAll staySteps stepsAll stepAll invariants
+  stay-then k l rest hl zs =
+      rw (location-in s l (omega (arith, f .location .few))) (guards-then (s .ranges) (s .clocks) k rest (invariants s l) (delayedAll (s .clocks) zs))
 
-  stay-coded : (visit l : ℕ) → l < s .locations → (o : Listing) → Sound o
-      → stayAll (s .ranges) (s .clocks) (locationC s l) (coded visit o) ≡ coded visit (cuts (staySteps s visit l) o)
-  stay-coded visit l hl o n =
-      stay-is visit l hl (coded visit o) ∙ all-coded (s .parameters) (s .ranges) (f .clocks) visit (staySteps s visit l) (stay-at visit l) (stay-right f visit l) o n
+  move-then : (k n : ℕ) (rest : List Step) → n < s .transitions → (zs : Zones)
+      → goes (suc k) rest (moveAll (s .ranges) (s .clocks) k (transitionC s n) zs) ≡ goes k (moveSteps s k n ++ rest) zs
+  unfolding moveAll moveSteps guardsOf
+  move-then k n rest hn zs =
+      rw (transition-in s n (omega (arith, f .transition .few))) (ends-then (s .ranges) (s .clocks) k rest (transitionAt s n .resets) (guardsOf s n) zs)
 
-  move-coded : (visit n : ℕ) → n < s .transitions → (o : Listing) → Sound o
-      → moveAll (s .ranges) (s .clocks) visit (transitionC s n) (coded visit o) ≡ coded (suc visit) (cuts (moveSteps s visit n) o)
-  move-coded visit n hn o h =
-      move-is visit n hn (coded visit o)
-      ∙ ap (atVisit (suc visit)) (all-coded (s .parameters) (s .ranges) (f .clocks) visit (moveSteps s visit n) (move-at visit n) (move-right f visit n) o h)
-      ∙ next-visit visit (suc visit) (cuts (moveSteps s visit n) o) (all-sound (s .parameters) (s .ranges) (f .clocks) (moveSteps s visit n) (move-right f visit n) o h)
-
-  -- ---- the rest of a route
-  rest-coded : (ns : List ℕ) → AllOf (λ n. n < s .transitions) ns → (visit l : ℕ) → l < s .locations → (o : Listing) → Sound o
-      → walkAll s visit l ns (coded visit o) ≡ coded (visit + length ns) (cuts (stepsFrom s visit l ns) o)
+  walk-is : (ns : List ℕ) → AllOf (λ n. n < s .transitions) ns → (k l : ℕ) → l < s .locations → (zs : Zones)
+      → walkAll s k l ns zs ≡ goes k (stepsFrom s k l ns) zs
   unfolding walkAll stepsFrom
-  rest-coded [] r visit l hl o h =
-      let e : visit ≡ visit + 0 = omega arith in
-      stay-coded visit l hl o h ∙ ap (λ (k : ℕ). coded k (cuts (staySteps s visit l) o)) e
-  rest-coded (n ∷ ns) (hn, r) visit l hl o h =
-      let t = transitionC s n in
+  walk-is [] r k l hl zs = last-is k l hl zs
+  walk-is (n ∷ ns) (hn, r) k l hl zs =
       let to = transitionAt s n .to in
-      let rest = stepsFrom s (suc visit) to ns in
-      let stayed = cuts (staySteps s visit l) o in
-      let gone = cuts (moveSteps s visit n) stayed in
-      let sound = all-sound (s .parameters) (s .ranges) (f .clocks) (staySteps s visit l) (stay-right f visit l) o h in
-      let e : suc visit + length ns ≡ visit + suc (length ns) = omega arith in
-      ap (λ (z : Zones). walkAll s (suc visit) (t .to) ns (moveAll (s .ranges) (s .clocks) visit t z)) (stay-coded visit l hl o h)
-      ∙ ap (walkAll s (suc visit) (t .to) ns) (move-coded visit n hn stayed sound)
-      ∙ ap (λ (k : ℕ). walkAll s (suc visit) k ns (coded (suc visit) gone)) (ap (λ (u : Transition). u .to) (transition-in s n (omega (arith, f .transition .few))))
-      ∙ rest-coded ns r (suc visit) to (f .transition .each n hn .to) gone
-      (all-sound (s .parameters) (s .ranges) (f .clocks) (moveSteps s visit n) (move-right f visit n) stayed sound)
-      ∙ ap (coded (suc visit + length ns)) (steps-append (rangeList (s .ranges)) (s .clocks) (moveSteps s visit n) rest stayed
-      ∙ steps-append (rangeList (s .ranges)) (s .clocks) (staySteps s visit l) (moveSteps s visit n ++ rest) o)
-      ∙ ap (λ (k : ℕ). coded k (cuts (staySteps s visit l ++ (moveSteps s visit n ++ rest)) o)) e
+      let rest = stepsFrom s (suc k) to ns in
+      let gone = moveAll (s .ranges) (s .clocks) k (transitionC s n) (stays l zs) in
+      ap (λ (j : ℕ). walkAll s (suc k) j ns gone) (ap (λ (t : Transition). t .to) (transition-in s n (omega (arith, f .transition .few))))
+      ∙ walk-is ns r (suc k) to (f .transition .each n hn .to) gone
+      ∙ move-then k n rest hn (stays l zs)
+      ∙ stay-then k l (moveSteps s k n ++ rest) hl zs
 
 -- ---- the whole route
 start-coded : startAll ≡ coded 0 (listed (startZone ∷ []))
@@ -318,6 +311,9 @@ route-length {s} f =
 pub zones-coded : (s : Sheet) → WellFormed s → zonesAll s ≡ coded (s .moves) (zonesOf s)
 unfolding zonesAll zonesOf zonesAlong stepsOf routeOf
 zones-coded s f =
-    ap (walkAll s 0 0 (routeOf s)) start-coded
-    ∙ rest-coded f (routeOf s) (filled-all (f .route)) 0 0 (omega (arith, f .some-location)) (listed (startZone ∷ [])) (record { bounds = start-narrow }, tt)
-    ∙ ap (λ (k : ℕ). coded k (zonesOf s)) (route-length f)
+    let steps = stepsOf s (routeOf s) in
+    walk-is f (routeOf s) (filled-all (f .route)) 0 0 (omega (arith, f .some-location)) startAll
+    ∙ ap (stepsAll (s .ranges) (s .clocks) 0 steps) start-coded
+    ∙ all-coded (s .parameters) (s .ranges) (f .clocks) steps 0 (steps-visits s (routeOf s)) (steps-right f (routeOf s)) (listed (startZone ∷ []))
+    (record { bounds = start-narrow }, tt)
+    ∙ ap (λ (k : ℕ). coded k (zonesOf s)) (ap (λ (k : ℕ). 0 + k) (steps-moves s (routeOf s)) ∙ route-length f)
