@@ -17,12 +17,13 @@ use Rattle.cutting.specs.Held.{HeldBy, InRanges, holds, at}
 use Rattle.cutting.specs.Disjoint.{zones-apart}
 use Rattle.soundness.specs.Theorems.{matrices-agree, zones-tightest, held-iff-run}
 use Rattle.dbm.specs.Matrix.{Matrix, kept}
-use Rattle.expr.specs.IntervalLaws.{In, and-left, and-right}
+use Rattle.expr.specs.Ranges.{In}
+use Rattle.integer.specs.Bools.{and-left, and-right}
 use Rattle.expr.specs.Limit.{Limit, atV}
 use Rattle.expr.specs.Three.{affine, limitOf}
-use Rattle.expr.specs.Valuations.{satisfies}
-use Rattle.expr.specs.declared.ranges.Range.{Range}
-use Rattle.fields.specs.declared.Refusal.the-variants.{Nothing}
+use Rattle.search.specs.Valuations.{satisfies}
+use Rattle.expr.specs.declared.range.Range.{Range}
+use Rattle.contents.specs.declared.Refusal.the-variants.{Nothing}
 use Rattle.integer.specs.Order.{leZ-true}
 use Rattle.sheet.specs.Accepted.{read-well-formed}
 use Rattle.sheet.specs.File.{readOf}

@@ -9,14 +9,14 @@ use lib.IntN.{ℤ}
 use lib.Signed.{leZ}
 use Rattle.soundness.specs.Counts.{kept-counts-runs, cut-counts-the-rest, kept-and-cut}
 use Rattle.cutting.specs.Kept.{Counted}
-use Rattle.expr.specs.IntervalLaws.{In, Inside}
-use Rattle.expr.specs.Once.{valuations-once}
-use Rattle.expr.specs.SearchLaws.{widths, valuations-inside, valuations-all}
+use Rattle.expr.specs.Ranges.{In, Inside}
+use Rattle.search.specs.Once.{valuations-once}
+use Rattle.search.specs.SearchLaws.{widths, valuations-inside, valuations-all}
 use Rattle.expr.specs.Three.{rangeList}
-use Rattle.expr.specs.Valuations.{valuations}
-use Rattle.expr.specs.declared.ranges.Range.{Range}
-use Rattle.expr.specs.declared.ranges.Ranges.{Ranges}
-use Rattle.fields.specs.declared.Refusal.the-variants.{Nothing}
+use Rattle.search.specs.Valuations.{valuations}
+use Rattle.expr.specs.declared.range.Range.{Range}
+use Rattle.expr.specs.declared.range.Ranges.{Ranges}
+use Rattle.contents.specs.declared.Refusal.the-variants.{Nothing}
 use Rattle.integer.specs.Order.{true-leZ}
 use Rattle.sheet.specs.Accepted.{read-well-formed}
 use Rattle.sheet.specs.File.{readOf}

@@ -12,7 +12,7 @@ use lib.Signed.{leZ}
 use Rattle.dbm.specs.Matrix.{Matrix, inside, tighterOf, limitedM, Outcome, void, kept, guarded}
 use Rattle.expr.specs.Affine.{Affine, value, dot, Judged, fine, wide}
 use Rattle.expr.specs.Limit.{Limit, atV, sumW, tighterW, zeroW, sumB, tighterB, Question, yes′, no′, ask, wide′}
-use Rattle.expr.specs.IntervalLaws.{and-left, and-right}
+use Rattle.integer.specs.Bools.{and-left, and-right}
 use Rattle.expr.specs.Laws.{same-test, answer, sum-at, tighter-at}
 use Rattle.cutting.specs.Cutting.{Bounds, zeroB, Tree, cut, keep, wideTree, asks, summed, tested, Place, putEntry, rowFrom, rowsFrom, places, pushed, guardTree}
 use Rattle.cutting.specs.Held.{at}

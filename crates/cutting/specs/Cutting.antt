@@ -11,8 +11,8 @@ use Rattle.dbm.specs.Matrix.{Matrix, delayed, resetsM}
 use Rattle.expr.specs.Affine.{Affine, opposite, Judged, fine, wide}
 use Rattle.expr.specs.Limit.{Limit, none, limit, sumB, tighterB, Question, yes′, no′, ask, wide′}
 use Rattle.expr.specs.Three.{limitOf, rangeList}
-use Rattle.expr.specs.Valuations.{first}
-use Rattle.expr.specs.declared.ranges.Range.{Range}
+use Rattle.search.specs.Valuations.{first}
+use Rattle.expr.specs.declared.range.Range.{Range}
 use Rattle.sheet.specs.declared.Guard.{Guard}
 use Rattle.sheet.specs.declared.Sheet.{Sheet}
 use Rattle.timed.specs.Automaton.{routeOf}

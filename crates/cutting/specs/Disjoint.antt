@@ -7,11 +7,11 @@ use native.Mathlib.Omega.{arith}
 use lib.IntN.{ℤ}
 use lib.ListN.{length, getD, length-append}
 use Rattle.dbm.specs.Matrix.{Matrix, Outcome, void, kept, delayed, resetsM}
-use Rattle.expr.specs.IntervalLaws.{Inside}
+use Rattle.expr.specs.Ranges.{Inside}
 use Rattle.expr.specs.Limit.{Limit, none}
 use Rattle.expr.specs.Three.{rangeList}
-use Rattle.expr.specs.Valuations.{satisfies}
-use Rattle.expr.specs.declared.ranges.Range.{Range}
+use Rattle.search.specs.Valuations.{satisfies}
+use Rattle.expr.specs.declared.range.Range.{Range}
 use Rattle.sheet.specs.declared.Sheet.{Sheet}
 use Rattle.timed.specs.Automaton.{routeOf}
 use Rattle.timed.specs.Steps.{Step, delay, guard, resets, stepsOf}

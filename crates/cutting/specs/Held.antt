@@ -4,10 +4,10 @@ use mathlib.Core.List.{List, [], _∷_, List·Memᴰ}
 use mathlib.Core.Bool.{Bool, true, cond}
 use lib.IntN.{ℤ}
 use Rattle.dbm.specs.Matrix.{Matrix, Outcome, void, kept}
-use Rattle.expr.specs.IntervalLaws.{Inside}
+use Rattle.expr.specs.Ranges.{Inside}
 use Rattle.expr.specs.Limit.{Limit, atV}
 use Rattle.expr.specs.Three.{rangeList}
-use Rattle.expr.specs.Valuations.{satisfies}
+use Rattle.search.specs.Valuations.{satisfies}
 use Rattle.sheet.specs.declared.Sheet.{Sheet}
 use Rattle.cutting.specs.Cutting.{Bounds, Zone}
 

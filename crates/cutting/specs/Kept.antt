@@ -2,9 +2,9 @@
 use mathlib.Core.List.{List, [], _∷_}
 use Prim.Native.Nat.{ℕ, suc, _+_, _-_}
 use lib.IntN.{ℤ}
-use Rattle.expr.specs.SearchLaws.{widths}
-use Rattle.expr.specs.Valuations.{count}
-use Rattle.expr.specs.declared.ranges.Range.{Range}
+use Rattle.search.specs.SearchLaws.{widths}
+use Rattle.search.specs.Valuations.{count}
+use Rattle.expr.specs.declared.range.Range.{Range}
 use Rattle.cutting.specs.Cutting.{Zone}
 
 -- n of the listed valuations have P

@@ -9,7 +9,7 @@ use lib.ListN.{length}
 use Rattle.cutting.specs.Cutting.{startZone, Zone, Tree, cut, keep, wideTree, asks, guardTree, Listing, listed, refused, ZONES, INEQS, never, listZone, worked, guardZones, andThen, stepZones, cutSteps, zonesAlong, zonesOf}
 use Rattle.expr.specs.Affine.{Affine, opposite}
 use Rattle.expr.specs.Three.{limitOf, rangeList}
-use Rattle.expr.specs.declared.ranges.Range.{Range}
+use Rattle.expr.specs.declared.range.Range.{Range}
 use Rattle.sheet.specs.declared.Guard.{Guard}
 use Rattle.sheet.specs.declared.Sheet.{Sheet}
 use Rattle.timed.specs.Automaton.{routeOf}

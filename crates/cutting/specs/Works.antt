@@ -14,12 +14,13 @@ use lib.Signed.{leZ}
 use Rattle.dbm.specs.Matrix.{Matrix, start, inside, delayed, resetAt, resetM, resetsM, Outcome, void, kept, guarded}
 use Rattle.expr.specs.Affine.{Affine, value, dot, opposite}
 use Rattle.expr.specs.Limit.{Limit, none, atV}
-use Rattle.expr.specs.IntervalLaws.{Inside, and-left, and-right}
+use Rattle.expr.specs.Ranges.{Inside}
+use Rattle.integer.specs.Bools.{and-left, and-right}
 use Rattle.expr.specs.Laws.{opposite-holds}
-use Rattle.expr.specs.SearchLaws.{first-none}
+use Rattle.search.specs.SearchLaws.{first-none}
 use Rattle.expr.specs.Three.{limitOf}
-use Rattle.expr.specs.Valuations.{satisfies, first}
-use Rattle.expr.specs.declared.ranges.Range.{Range}
+use Rattle.search.specs.Valuations.{satisfies, first}
+use Rattle.expr.specs.declared.range.Range.{Range}
 use Rattle.sheet.specs.declared.Guard.{Guard}
 use Rattle.timed.specs.Steps.{delay, guard, resets}
 use Rattle.cutting.specs.Cutting.{Bounds, startB, Zone, Tree, cut, keep, wideTree, asks, guardTree, Listing, listed, refused, INEQS, ZONES, never, listZone, worked, guardZones, onBounds, stepZones}

@@ -9,11 +9,11 @@ use Rattle.cutting.specs.Held.{found, listOf}
 use Rattle.cutting.specs.Listings.{listed-same, listed-first}
 use Rattle.cutting.specs.Works.{append-nil, each, each-kept, delay-found, guard-found, resets-found, start-at}
 use Rattle.dbm.specs.Matrix.{Matrix, start, Outcome, void, kept}
-use Rattle.expr.specs.IntervalLaws.{Inside}
+use Rattle.expr.specs.Ranges.{Inside}
 use Rattle.expr.specs.Limit.{Limit}
 use Rattle.expr.specs.Three.{rangeList}
-use Rattle.expr.specs.Valuations.{satisfies}
-use Rattle.expr.specs.declared.ranges.Range.{Range}
+use Rattle.search.specs.Valuations.{satisfies}
+use Rattle.expr.specs.declared.range.Range.{Range}
 use Rattle.sheet.specs.declared.Sheet.{Sheet}
 use Rattle.sweep.specs.Walk.{andThen, step, walk, sweepAlong}
 use Rattle.timed.specs.Steps.{Step, delay, guard, resets, stepsOf}

@@ -7,10 +7,10 @@ use native.Mathlib.Omega.{arith}
 use lib.IntN.{ℤ}
 use lib.ListN.{length}
 use Rattle.dbm.specs.Matrix.{Outcome, void, kept}
-use Rattle.expr.specs.SearchLaws.{valuations-inside, valuations-length, widths}
+use Rattle.search.specs.SearchLaws.{valuations-inside, valuations-length, widths}
 use Rattle.expr.specs.Three.{rangeList}
-use Rattle.expr.specs.Valuations.{valuations, satisfies, countIn, count, pickN}
-use Rattle.expr.specs.declared.ranges.Range.{Range}
+use Rattle.search.specs.Valuations.{valuations, satisfies, countIn, count, pickN}
+use Rattle.expr.specs.declared.range.Range.{Range}
 use Rattle.sheet.specs.declared.Sheet.{Sheet}
 use Rattle.sheet.specs.WellFormed.{WellFormed}
 use Rattle.sweep.specs.Proofs.{along-right}

@@ -8,10 +8,10 @@ use lib.IntN.{ℤ}
 use lib.Signed.{leZ}
 use mir.Syntax.{w16}
 use mir.Val.{SFits}
-use Rattle.expr.specs.IntervalLaws.{and-left, and-right}
-use Rattle.expr.specs.declared.ranges.Range.{Range}
-use Rattle.fields.specs.declared.Refusal.{Refusal}
-use Rattle.fields.specs.declared.Refusal.the-variants.{Nothing, Size, Contents, Body, Route}
+use Rattle.integer.specs.Bools.{and-left, and-right}
+use Rattle.expr.specs.declared.range.Range.{Range}
+use Rattle.contents.specs.declared.Refusal.{Refusal}
+use Rattle.contents.specs.declared.Refusal.the-variants.{Nothing, Size, Contents, Body, Route}
 use Rattle.integer.specs.Split.{split, split-all}
 use Rattle.sheet.specs.declared.Sheet.{Sheet}
 use Rattle.sheet.specs.declared.Reading.{Reading}

@@ -7,9 +7,9 @@ use lib.Dec.{lit≤}
 use lib.IntN.{ℤ}
 use lib.Signed.{leZ, _≤ℤ_}
 use Rattle.dbm.specs.Matrix.{Matrix, Outcome, void, kept}
-use Rattle.expr.specs.IntervalLaws.{and-left, and-right}
+use Rattle.integer.specs.Bools.{and-left, and-right}
 use Rattle.expr.specs.Limit.{Limit, zeroW}
-use Rattle.expr.specs.declared.ranges.Range.{Range}
+use Rattle.expr.specs.declared.range.Range.{Range}
 use Rattle.integer.specs.Order.{leZ-true, ≤ℤ-trans}
 use Rattle.sheet.specs.declared.Sheet.{Sheet}
 use Rattle.sheet.specs.WellFormed.{WellFormed, RangeRight, Small}

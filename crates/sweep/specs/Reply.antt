@@ -7,11 +7,11 @@ use lib.IntN.{ℤ}
 use lib.Signed.{leZ}
 use Rattle.dbm.specs.Matrix.{Matrix, Outcome, void, kept}
 use Rattle.expr.specs.Limit.{Limit}
-use Rattle.expr.specs.declared.ranges.Range.{Range}
+use Rattle.expr.specs.declared.range.Range.{Range}
 use Rattle.expr.specs.declared.weight.Weight.{Weight}
-use Rattle.fields.specs.declared.Refusal.{Refusal}
-use Rattle.fields.specs.declared.Refusal.the-variants.{Nothing, Size, Contents, Body, Route}
-use Rattle.fields.specs.Refusals.{numberOf, placeOf}
+use Rattle.contents.specs.declared.Refusal.{Refusal}
+use Rattle.contents.specs.declared.Refusal.the-variants.{Nothing, Size, Contents, Body, Route}
+use Rattle.contents.specs.Refusals.{numberOf, placeOf}
 use Rattle.sheet.specs.declared.Sheet.{Sheet}
 use Rattle.sheet.specs.declared.Reading.{Reading}
 use Rattle.sheet.specs.File.{readOf}

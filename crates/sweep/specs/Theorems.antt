@@ -11,7 +11,7 @@ use Rattle.dbm.specs.Entries.{up-to-4}
 use Rattle.dbm.specs.Matrix.{Matrix, Outcome, void, kept}
 use Rattle.expr.specs.Limit.{Limit}
 use Rattle.expr.specs.Three.{weighed}
-use Rattle.fields.specs.declared.Refusal.the-variants.{Nothing}
+use Rattle.contents.specs.declared.Refusal.the-variants.{Nothing}
 use Rattle.sheet.specs.Accepted.{read-well-formed}
 use Rattle.sheet.specs.File.{readOf}
 use Rattle.sheet.specs.declared.Sheet.{Sheet}

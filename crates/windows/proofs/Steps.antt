@@ -10,13 +10,13 @@ use lib.Dec.{ltb, eqb}
 use lib.ListN.{length, getD, set, take, drop, length-take, length-set, drop-of-length-le}
 use lib.Seq.{drop-cons, getD-take}
 use Rattle.expr.specs.Limit.{none}
-use Rattle.expr.specs.SearchLaws.{widths}
+use Rattle.search.specs.SearchLaws.{widths}
 use Rattle.expr.specs.Three.{affine, boundOf, rangeList}
-use Rattle.expr.specs.Valuations.{count}
+use Rattle.search.specs.Valuations.{count}
 use Rattle.expr.specs.declared.bound.Bound.{Bound}
-use Rattle.expr.specs.declared.ranges.Ranges.{Ranges}
-use Rattle.fields.specs.declared.Refusal.{Refusal}
-use Rattle.fields.specs.declared.Refusal.the-variants.{Nothing, Size, Contents, Body, Route}
+use Rattle.expr.specs.declared.range.Ranges.{Ranges}
+use Rattle.contents.specs.declared.Refusal.{Refusal}
+use Rattle.contents.specs.declared.Refusal.the-variants.{Nothing, Size, Contents, Body, Route}
 use Rattle.sheet.specs.declared.Guard.{Guard}
 use Rattle.sheet.specs.declared.Location.{Location}
 use Rattle.sheet.specs.declared.Reading.{Reading}

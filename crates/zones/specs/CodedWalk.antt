@@ -15,7 +15,7 @@ use Rattle.expr.specs.Affine.{Affine}
 use Rattle.expr.specs.Limit.{Limit, none}
 use Rattle.expr.specs.Three.{rangeList}
 use Rattle.expr.specs.declared.bound.Bound.{Bound}
-use Rattle.expr.specs.declared.ranges.Ranges.{Ranges}
+use Rattle.expr.specs.declared.range.Ranges.{Ranges}
 use Rattle.sheet.specs.declared.Guard.{Guard}
 use Rattle.sheet.specs.declared.Sheet.{Sheet}
 use Rattle.sheet.specs.declared.Transition.{Transition}

@@ -7,7 +7,7 @@ use lib.ListN.{getD, set, take, replicate}
 use Rattle.expr.specs.Limit.{none}
 use Rattle.expr.specs.Three.{boundOf}
 use Rattle.expr.specs.declared.bound.Bound.{Bound}
-use Rattle.expr.specs.declared.ranges.Ranges.{Ranges}
+use Rattle.expr.specs.declared.range.Ranges.{Ranges}
 use Rattle.sheet.specs.declared.Guard.{Guard}
 use Rattle.sheet.specs.declared.Location.{Location}
 use Rattle.sheet.specs.declared.Sheet.{Sheet}
