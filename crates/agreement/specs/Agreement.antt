@@ -13,8 +13,9 @@ use lib.IntN.{ℤ}
 use lib.ListN.{length, getD, take}
 use lib.Signed.{leZ}
 use Rattle.cutting.specs.Cutting as cutting
-use Rattle.cutting.specs.Held.{holds, at}
-use Rattle.cutting.specs.Theorems.{HeldBy, InRanges, zones-apart, matrices-agree, zones-tightest, held-iff-run}
+use Rattle.cutting.specs.Held.{HeldBy, InRanges, holds, at}
+use Rattle.cutting.specs.Disjoint.{zones-apart}
+use Rattle.soundness.specs.Theorems.{matrices-agree, zones-tightest, held-iff-run}
 use Rattle.dbm.specs.Matrix.{Matrix, kept}
 use Rattle.expr.specs.Ranges.{In}
 use Rattle.integer.specs.Bools.{and-left, and-right}
@@ -27,7 +28,8 @@ use Rattle.integer.specs.Order.{leZ-true}
 use Rattle.sheet.specs.Accepted.{read-well-formed}
 use Rattle.sheet.specs.File.{readOf}
 use Rattle.sheet.specs.declared.Sheet.{Sheet}
-use Rattle.sweep.specs.Coded.{row, in-row, up-to-4, weighed-of}
+use Rattle.dbm.specs.Entries.{up-to-4}
+use Rattle.sweep.specs.Coded.{row, in-row, weighed-of}
 use Rattle.sweep.specs.Reply.{rowRecord, blankReply, swept, inRange, sheetReply, readingReply, replyOf}
 use Rattle.sweep.specs.Theorems.{Asked, entryAt, sweep-right}
 use Rattle.sweep.specs.Walk.{sweepAt}

@@ -18,7 +18,7 @@ use Rattle.expr.specs.declared.bound.Bound.{Bound}
 use Rattle.expr.specs.declared.number.Expr.{Expr}
 use Rattle.expr.specs.declared.number.Valuation.{Valuation}
 use Rattle.expr.specs.declared.range.Range.{Range}
-use Rattle.sweep.specs.Right.{AllOf}
+use Rattle.timed.specs.Right.{AllOf}
 use Rattle.sheet.specs.declared.Sheet.{Sheet}
 use Rattle.timed.specs.Runs.{Run}
 use Rattle.agreement.specs.Agreement.{sheetOf, IsRun, IsVoid}

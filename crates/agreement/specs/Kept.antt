@@ -7,7 +7,8 @@ use mathlib.Core.Bool.{Bool, true, false, _&&_}
 use Prim.Native.Nat.{ℕ, _+_}
 use lib.IntN.{ℤ}
 use lib.Signed.{leZ}
-use Rattle.cutting.specs.Counts.{Counted, kept-counts-runs, cut-counts-the-rest, kept-and-cut}
+use Rattle.soundness.specs.Counts.{kept-counts-runs, cut-counts-the-rest, kept-and-cut}
+use Rattle.cutting.specs.Kept.{Counted}
 use Rattle.expr.specs.Ranges.{In, Inside}
 use Rattle.search.specs.Once.{valuations-once}
 use Rattle.search.specs.SearchLaws.{widths, valuations-inside, valuations-all}

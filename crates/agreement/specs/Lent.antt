@@ -10,7 +10,7 @@ use borrow.Author.Tests.{ltb-true, ltb-false}
 use lib.Dec.{ltb, eqb}
 use lib.ListN.{length, getD, replicate, length-append, List·getD-append}
 use lib.Seq.{getD-append-seam}
-use Rattle.cutting.specs.Counts.{keptOf, cutOf}
+use Rattle.cutting.specs.Kept.{keptOf, cutOf}
 use Rattle.cutting.specs.Cutting.{Listing, listed, refused, startB, zonesOf}
 use Rattle.cutting.specs.Cutting as cutting
 use Rattle.cutting.specs.Shape.{zones-shaped}

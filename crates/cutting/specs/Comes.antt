@@ -14,7 +14,7 @@ use Rattle.expr.specs.Affine.{Affine, value, dot, Judged, fine, wide}
 use Rattle.expr.specs.Limit.{Limit, atV, sumW, tighterW, zeroW, sumB, tighterB, Question, yes′, no′, ask, wide′}
 use Rattle.integer.specs.Bools.{and-left, and-right}
 use Rattle.expr.specs.Laws.{same-test, answer, sum-at, tighter-at}
-use Rattle.cutting.specs.Cutting.{Bounds, pick, zeroB, Tree, cut, keep, wideTree, asks, summed, tested, Place, putEntry, rowFrom, rowsFrom, places, pushed, guardTree}
+use Rattle.cutting.specs.Cutting.{Bounds, zeroB, Tree, cut, keep, wideTree, asks, summed, tested, Place, putEntry, rowFrom, rowsFrom, places, pushed, guardTree}
 use Rattle.cutting.specs.Held.{at}
 
 -- the path of v down the tree ends in r, unless it ends where a number leaves the range
@@ -70,18 +70,18 @@ pushW i j e old (p ∷ ps) new =
     pushW i j e old ps
     (cond (tighterW (through i j e old (p .row) (p .column)) (old (p .row) (p .column))) (putW p (through i j e old (p .row) (p .column)) new) new)
 
-put-pick : (v : List ℤ) (x y : Bool) (b c : Limit Affine) → atV v (pick x (pick y b c) c) ≡ cond (x && y) (atV v b) (atV v c)
-put-pick v true true b c = refl
-put-pick v true false b c = refl
-put-pick v false y b c = refl
+put-cond : (v : List ℤ) (x y : Bool) (b c : Limit Affine) → atV v (cond x (cond y b c) c) ≡ cond (x && y) (atV v b) (atV v c)
+put-cond v true true b c = refl
+put-cond v true false b c = refl
+put-cond v false y b c = refl
 
 put-at : (v : List ℤ) (p : Place) (b : Limit Affine) (m : Bounds) → at v (putEntry p b m) ≡ putW p (atV v b) (at v m)
 unfolding at putEntry putW
-put-at v p b m = fun-ext (λ k. fun-ext (λ l. put-pick v (eqb k (p .row)) (eqb l (p .column)) b (m k l)))
+put-at v p b m = fun-ext (λ k. fun-ext (λ l. put-cond v (eqb k (p .row)) (eqb l (p .column)) b (m k l)))
 
-pick-at : (v : List ℤ) (x : Bool) (a b : Bounds) → at v (pick x a b) ≡ cond x (at v a) (at v b)
-pick-at v true a b = refl
-pick-at v false a b = refl
+cond-at : (v : List ℤ) (x : Bool) (a b : Bounds) → at v (cond x a b) ≡ cond x (at v a) (at v b)
+cond-at v true a b = refl
+cond-at v false a b = refl
 
 pushed-comes : (v : List ℤ) (i j : ℕ) (e : Limit Affine) (old : Bounds) (ps : List Place) (new : Bounds)
     → Comes v (pushed i j e old ps new) (kept (pushW i j (atV v e) (at v old) ps (at v new)))
@@ -98,12 +98,12 @@ pushed-comes v i j e old (p ∷ ps) new =
 
     go : (t : Limit Affine) → atV v t ≡ through i j (atV v e) (at v old) (p .row) (p .column)
         → ((n : Bounds) → Comes v (pushed i j e old ps n) (kept (pushW i j (atV v e) (at v old) ps (at v n))))
-        → Comes v (pushed i j e old ps (pick (tighterW (atV v t) (atV v (old (p .row) (p .column)))) (putEntry p t new) new)) end
+        → Comes v (pushed i j e old ps (cond (tighterW (atV v t) (atV v (old (p .row) (p .column)))) (putEntry p t new) new)) end
     go t h ih =
         let o = at v old (p .row) (p .column) in
-        let next = pick (tighterW (atV v t) o) (putEntry p t new) new in
+        let next = cond (tighterW (atV v t) o) (putEntry p t new) new in
         subst (λ (m : Matrix (Limit ℤ)). Comes v (pushed i j e old ps next) (kept (pushW i j (atV v e) (at v old) ps m)))
-        (pick-at v (tighterW (atV v t) o) (putEntry p t new) new
+        (cond-at v (tighterW (atV v t) o) (putEntry p t new) new
         ∙ ap (λ (m : Matrix (Limit ℤ)). cond (tighterW (atV v t) o) m (at v new)) (put-at v p t new)
         ∙ ap (λ (x : Limit ℤ). cond (tighterW x o) (putW p x (at v new)) (at v new)) h)
         (ih next)
@@ -271,7 +271,7 @@ unfolding atV value dot
 zero-at v = refl
 
 stays-comes : (v : List ℤ) (w i j : ℕ) (e : Limit Affine) (m : Bounds) (b : Bool)
-    → Comes v (pick b (pushed i j e m (places w) m) (keep m)) (kept (cond b (limitedM w i j (atV v e) (at v m)) (at v m)))
+    → Comes v (cond b (pushed i j e m (places w) m) (keep m)) (kept (cond b (limitedM w i j (atV v e) (at v m)) (at v m)))
 stays-comes v w i j e m true =
     subst (λ (x : Matrix (Limit ℤ)). Comes v (pushed i j e m (places w) m) (kept x)) (push-all i j (atV v e) (at v m) w) (pushed-comes v i j e m (places w) m)
 stays-comes v w i j e m false = refl
@@ -290,9 +290,9 @@ guard-comes v w i j e m =
     end = guarded w i j (atV v e) (at v m)
 
     by : (back : Limit Affine) (b : Bool) → tighterW (sumW (atV v e) (at v m j i)) zeroW ≡ b
-        → Comes v (pick b cut (tested (tighterB e (m i j)) (λ tight. pick tight (pushed i j e m (places w) m) (keep m)))) end
+        → Comes v (cond b cut (tested (tighterB e (m i j)) (λ tight. cond tight (pushed i j e m (places w) m) (keep m)))) end
     by back true q = ap (λ (b : Bool). cond b void stays) q
     by back false q =
-        subst (λ (r : Outcome). Comes v (tested (tighterB e (m i j)) (λ tight. pick tight (pushed i j e m (places w) m) (keep m))) r)
+        subst (λ (r : Outcome). Comes v (tested (tighterB e (m i j)) (λ tight. cond tight (pushed i j e m (places w) m) (keep m))) r)
         (sym (ap (λ (b : Bool). cond b void stays) q))
-        (tested-comes v e (m i j) (λ tight. pick tight (pushed i j e m (places w) m) (keep m)) stays (stays-comes v w i j e m (tighterW (atV v e) (at v m i j))))
+        (tested-comes v e (m i j) (λ tight. cond tight (pushed i j e m (places w) m) (keep m)) stays (stays-comes v w i j e m (tighterW (atV v e) (at v m i j))))

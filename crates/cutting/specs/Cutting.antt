@@ -1,13 +1,13 @@
 -- The cutting of the ranges (paper 01, "Cutting the ranges"), for any number of parameters and clocks.
 use mathlib.Core.List.{List, [], _∷_, _++_, map}
-use mathlib.Core.Bool.{Bool, true, false}
+use mathlib.Core.Bool.{Bool, true, false, cond}
 use mathlib.Core.Option.{Option}
 use mathlib.Core.Option as option
-use Prim.Native.Nat.{ℕ, zero, suc, _/_, _%_, _^_}
+use Prim.Native.Nat.{ℕ, zero, suc}
 use lib.Dec.{eqb, ltb}
 use lib.IntN.{ℤ, pos}
 use lib.ListN.{length}
-use Rattle.dbm.specs.Matrix.{Matrix, delayed, resetM}
+use Rattle.dbm.specs.Matrix.{Matrix, delayed, resetsM}
 use Rattle.expr.specs.Affine.{Affine, opposite, Judged, fine, wide}
 use Rattle.expr.specs.Limit.{Limit, none, limit, sumB, tighterB, Question, yes′, no′, ask, wide′}
 use Rattle.expr.specs.Three.{limitOf, rangeList}
@@ -15,15 +15,12 @@ use Rattle.search.specs.Valuations.{first}
 use Rattle.expr.specs.declared.range.Range.{Range}
 use Rattle.sheet.specs.declared.Guard.{Guard}
 use Rattle.sheet.specs.declared.Sheet.{Sheet}
-use Rattle.timed.specs.Runs.{invariants, guardsOf, routeOf, transitionAt}
+use Rattle.timed.specs.Automaton.{routeOf}
+use Rattle.timed.specs.Steps.{Step, delay, guard, resets, stepsOf}
 
 -- a matrix of bounds
 abbrev pub Bounds : Type 0
 Bounds = Matrix (Limit Affine)
-
-abbrev pub pick : {A : Type 0} → Bool → A → A → A
-pick true a b = a
-pick false a b = b
 
 -- zero, not strict
 abbrev pub zeroB : Limit Affine
@@ -66,7 +63,7 @@ pub record Place : Type 0 where
 
 -- the matrix with one entry put in
 unfoldable pub putEntry : Place → Limit Affine → Bounds → Bounds
-putEntry p b m i j = pick (eqb i (p .row)) (pick (eqb j (p .column)) b (m i j)) (m i j)
+putEntry p b m i j = cond (eqb i (p .row)) (cond (eqb j (p .column)) b (m i j)) (m i j)
 
 -- n places of row k, from column l on
 unfoldable pub rowFrom : ℕ → ℕ → ℕ → List Place
@@ -89,7 +86,7 @@ pushed i j e old (p ∷ ps) new =
     summed (sumB (old (p .row) i) e) (λ s.
     summed (sumB s (old j (p .column))) (λ t.
     tested (tighterB t (old (p .row) (p .column))) (λ b.
-    pushed i j e old ps (pick b (putEntry p t new) new))))
+    pushed i j e old ps (cond b (putEntry p t new) new))))
 
 -- the three rules for a guard i - j with the bound e: (1) cut if e + (j, i) is tighter than zero, not strict; (2) the part stays if e isn't
 -- tighter than (i, j); (3) else pushed
@@ -97,9 +94,9 @@ unfoldable pub guardTree : ℕ → ℕ → ℕ → Limit Affine → Bounds → T
 guardTree w i j e m =
     summed (sumB e (m j i)) (λ back.
     tested (tighterB back zeroB) (λ void.
-    pick void cut
+    cond void cut
     (tested (tighterB e (m i j)) (λ tight.
-    pick tight (pushed i j e m (places w) m) (keep m)))))
+    cond tight (pushed i j e m (places w) m) (keep m)))))
 
 -- ---- zones listed in order, or a refusal
 
@@ -125,7 +122,7 @@ never rs is e = isNone (first rs (is ++ (e ∷ [])))
 
 -- a zone is listed, unless it would be the 33rd
 unfoldable pub listZone : ℕ → Zone → List Zone → Listing
-listZone visit z zs = pick (ltb (length zs) ZONES) (listed (zs ++ (z ∷ []))) (refused 7 visit)
+listZone visit z zs = cond (ltb (length zs) ZONES) (listed (zs ++ (z ∷ []))) (refused 7 visit)
 
 -- the tree worked on a zone's inequalities, what it keeps being listed after what was listed so far. A test is settled if none or all of the
 -- zone's valuations satisfy it, and nothing is added; otherwise it splits: the yes part gains the inequality, the no part its opposite, and the
@@ -135,9 +132,9 @@ worked rs visit cut is (listed zs) = listed zs
 worked rs visit (keep m) is (listed zs) = listZone visit (record { ineqs = is; bounds = m }) zs
 worked rs visit wideTree is (listed zs) = refused 9 visit
 worked rs visit (asks e f) is (listed zs) =
-    pick (never rs is e) (worked rs visit (f false) is (listed zs))
-    (pick (never rs is (opposite e)) (worked rs visit (f true) is (listed zs))
-    (pick (ltb (length is) INEQS)
+    cond (never rs is e) (worked rs visit (f false) is (listed zs))
+    (cond (never rs is (opposite e)) (worked rs visit (f true) is (listed zs))
+    (cond (ltb (length is) INEQS)
     (worked rs visit (f false) (is ++ (opposite e ∷ [])) (worked rs visit (f true) (is ++ (e ∷ [])) (listed zs)))
     (refused 8 visit)))
 worked rs visit cut is (refused n k) = refused n k
@@ -145,7 +142,7 @@ worked rs visit (keep m) is (refused n k) = refused n k
 worked rs visit wideTree is (refused n k) = refused n k
 worked rs visit (asks e f) is (refused n k) = refused n k
 
--- ---- the whole route
+-- ---- the steps along a route
 
 -- one guard over all zones in order
 unfoldable pub guardZones : List Range → ℕ → ℕ → Guard → List Zone → Listing → Listing
@@ -153,43 +150,34 @@ guardZones rs visit w g [] o = o
 guardZones rs visit w g (z ∷ zs) o =
     guardZones rs visit w g zs (worked rs visit (guardTree w (g .left) (g .right) (limitOf (g .bound)) (z .bounds)) (z .ineqs) o)
 
+-- a step on every zone's matrix
+unfoldable pub onBounds : (Bounds → Bounds) → List Zone → List Zone
+onBounds f zs = map (λ z. record { ineqs = z .ineqs; bounds = f (z .bounds) }) zs
+
+-- one step on all zones, a guard with a listing of its own
+unfoldable pub stepZones : List Range → ℕ → Step → List Zone → Listing
+stepZones rs w delay zs = listed (onBounds (delayed w none) zs)
+stepZones rs w (guard visit g) zs = guardZones rs visit w g zs (listed [])
+stepZones rs w (resets bits) zs = listed (onBounds (resetsM w bits w) zs)
+
 -- what follows a listing that is not refused
 abbrev pub andThen : Listing → (List Zone → Listing) → Listing
 andThen (listed zs) f = f zs
 andThen (refused n k) f = refused n k
 
--- guards in file order, each over all zones, each with a listing of its own
-unfoldable pub guardsZones : List Range → ℕ → ℕ → List Guard → List Zone → Listing
-guardsZones rs visit w [] zs = listed zs
-guardsZones rs visit w (g ∷ gs) zs = andThen (guardZones rs visit w g zs (listed [])) (guardsZones rs visit w gs)
+-- steps in order
+unfoldable pub cutSteps : List Range → ℕ → List Step → List Zone → Listing
+cutSteps rs w [] zs = listed zs
+cutSteps rs w (s ∷ steps) zs = andThen (stepZones rs w s zs) (cutSteps rs w steps)
 
--- a step on every zone's matrix
-unfoldable pub onBounds : (Bounds → Bounds) → List Zone → List Zone
-onBounds f zs = map (λ z. record { ineqs = z .ineqs; bounds = f (z .bounds) }) zs
+-- one zone without inequalities, all entries zero, not strict
+abbrev pub startZone : Zone
+startZone = record { ineqs = []; bounds = startB }
 
--- resets in rising order, of clocks 1 to n: bit i - 1 for clock i
-unfoldable pub resetBounds : ℕ → ℕ → ℕ → Bounds → Bounds
-resetBounds w bits zero m = m
-resetBounds w bits (suc i) m =
-    let before = resetBounds w bits i m in
-    pick (eqb (bits / 2 ^ i % 2) 1) (resetM w (suc i) before) before
+-- the zones along a route in order, or refusal 7, 8 or 9, the first met
+unfoldable pub zonesAlong : Sheet → List ℕ → Listing
+zonesAlong s route = cutSteps (rangeList (s .ranges)) (s .clocks) (stepsOf s route) (startZone ∷ [])
 
--- a stay: a wait, then the location's invariants
-unfoldable pub stayZones : Sheet → ℕ → ℕ → List Zone → Listing
-stayZones s visit l zs = guardsZones (rangeList (s .ranges)) visit (s .clocks) (invariants s l) (onBounds (delayed (s .clocks) none) zs)
-
--- a transition: its guards, which belong to the visit before it, then its resets
-unfoldable pub moveZones : Sheet → ℕ → ℕ → List Zone → Listing
-moveZones s visit n zs =
-    andThen (guardsZones (rangeList (s .ranges)) visit (s .clocks) (guardsOf s n) zs)
-    (λ ks. listed (onBounds (resetBounds (s .clocks) (transitionAt s n .resets) (s .clocks)) ks))
-
--- from location l along the rest of a route
-unfoldable pub cutRoute : Sheet → ℕ → ℕ → List ℕ → List Zone → Listing
-cutRoute s visit l [] zs = stayZones s visit l zs
-cutRoute s visit l (n ∷ ns) zs =
-    andThen (stayZones s visit l zs) (λ ks. andThen (moveZones s visit n ks) (cutRoute s (suc visit) (transitionAt s n .to) ns))
-
--- the zones of a sheet in order, or refusal 7, 8 or 9, the first met: from one zone without inequalities, all entries zero, not strict
+-- along the sheet's own route
 unfoldable pub zonesOf : Sheet → Listing
-zonesOf s = cutRoute s 0 0 (routeOf s) (record { ineqs = []; bounds = startB } ∷ [])
+zonesOf s = zonesAlong s (routeOf s)

@@ -2,23 +2,26 @@
 use mathlib.Core.Path.{_≡_, refl, subst}
 use mathlib.Core.Logic.{_⊎_, inl, inr}
 use mathlib.Core.List.{List, [], _∷_, _++_}
-use mathlib.Core.Bool.{Bool, true, false}
+use mathlib.Core.Bool.{Bool, true, false, cond}
 use Prim.Native.Nat.{ℕ, suc}
 use lib.Dec.{ltb}
 use lib.ListN.{length}
-use Rattle.cutting.specs.Cutting.{pick, startB, Zone, Tree, cut, keep, wideTree, asks, guardTree, Listing, listed, refused, ZONES, INEQS, never, listZone, worked, guardZones, andThen, guardsZones, onBounds, resetBounds, stayZones, moveZones, cutRoute, zonesOf}
-use Rattle.dbm.specs.Matrix.{delayed}
+use Rattle.cutting.specs.Cutting.{startZone, Zone, Tree, cut, keep, wideTree, asks, guardTree, Listing, listed, refused, ZONES, INEQS, never, listZone, worked, guardZones, andThen, stepZones, cutSteps, zonesAlong, zonesOf}
 use Rattle.expr.specs.Affine.{Affine, opposite}
-use Rattle.expr.specs.Limit.{none}
 use Rattle.expr.specs.Three.{limitOf, rangeList}
 use Rattle.expr.specs.declared.range.Range.{Range}
 use Rattle.sheet.specs.declared.Guard.{Guard}
 use Rattle.sheet.specs.declared.Sheet.{Sheet}
-use Rattle.timed.specs.Runs.{invariants, guardsOf, routeOf, transitionAt}
+use Rattle.timed.specs.Automaton.{routeOf}
+use Rattle.timed.specs.Steps.{Step, delay, guard, resets, stepsOf}
 
 -- ---- the statement
 abbrev pub SevenToNine : ℕ → Type 0
 SevenToNine m = (m ≡ 7) ⊎ ((m ≡ 8) ⊎ (m ≡ 9))
+
+-- along any route, and along the sheet's own
+abbrev pub AlongNumbered : Type 0
+AlongNumbered = (s : Sheet) (route : List ℕ) (m visit : ℕ) → zonesAlong s route ≡ refused m visit → SevenToNine m
 
 abbrev pub ZonesNumbered : Type 0
 ZonesNumbered = (s : Sheet) (m visit : ℕ) → zonesOf s ≡ refused m visit → SevenToNine m
@@ -28,9 +31,9 @@ abbrev Numbered : Listing → Type 0
 Numbered (listed zs) = Unit {0}
 Numbered (refused m visit) = SevenToNine m
 
-pick-numbered : (b : Bool) (o u : Listing) → Numbered o → Numbered u → Numbered (pick b o u)
-pick-numbered true o u h k = h
-pick-numbered false o u h k = k
+cond-numbered : (b : Bool) (o u : Listing) → Numbered o → Numbered u → Numbered (cond b o u)
+cond-numbered true o u h k = h
+cond-numbered false o u h k = k
 
 then-numbered : (o : Listing) (f : List Zone → Listing) → Numbered o → ((zs : List Zone) → Numbered (f zs)) → Numbered (andThen o f)
 then-numbered (listed zs) f h k = k zs
@@ -42,14 +45,14 @@ module _ (rs : List Range) (visit : ℕ) where
   worked-numbered cut is (listed zs) h = tt
   worked-numbered cut is (refused m k) h = h
   worked-numbered (keep b) is (listed zs) h =
-      pick-numbered (ltb (length zs) ZONES) (listed (zs ++ (record { ineqs = is; bounds = b } ∷ []))) (refused 7 visit) tt (inl refl)
+      cond-numbered (ltb (length zs) ZONES) (listed (zs ++ (record { ineqs = is; bounds = b } ∷ []))) (refused 7 visit) tt (inl refl)
   worked-numbered (keep b) is (refused m k) h = h
   worked-numbered wideTree is (listed zs) h = inr (inr refl)
   worked-numbered wideTree is (refused m k) h = h
   worked-numbered (asks e f) is (listed zs) h =
-      pick-numbered (never rs is e) _ _ (worked-numbered (f false) is (listed zs) h)
-      (pick-numbered (never rs is (opposite e)) _ _ (worked-numbered (f true) is (listed zs) h)
-      (pick-numbered (ltb (length is) INEQS) _ (refused 8 visit)
+      cond-numbered (never rs is e) _ _ (worked-numbered (f false) is (listed zs) h)
+      (cond-numbered (never rs is (opposite e)) _ _ (worked-numbered (f true) is (listed zs) h)
+      (cond-numbered (ltb (length is) INEQS) _ (refused 8 visit)
       (worked-numbered (f false) (is ++ (opposite e ∷ [])) (worked rs visit (f true) (is ++ (e ∷ [])) (listed zs)) (worked-numbered (f true) (is ++ (e ∷ [])) (listed zs) h))
       (inr (inl refl))))
   worked-numbered (asks e f) is (refused m k) h = h
@@ -61,31 +64,23 @@ module _ (rs : List Range) (visit : ℕ) where
     guard-numbered g (z ∷ zs) o h =
         guard-numbered g zs _ (worked-numbered (guardTree w (g .left) (g .right) (limitOf (g .bound)) (z .bounds)) (z .ineqs) o h)
 
-    guards-numbered : (gs : List Guard) (zs : List Zone) → Numbered (guardsZones rs visit w gs zs)
-    unfolding guardsZones
-    guards-numbered [] zs = tt
-    guards-numbered (g ∷ gs) zs =
-        then-numbered (guardZones rs visit w g zs (listed [])) (guardsZones rs visit w gs) (guard-numbered g zs (listed []) tt) (guards-numbered gs)
+-- any list of steps
+module _ (rs : List Range) (w : ℕ) where
+  step-numbered : (s : Step) (zs : List Zone) → Numbered (stepZones rs w s zs)
+  unfolding stepZones
+  step-numbered delay zs = tt
+  step-numbered (guard visit g) zs = guard-numbered rs visit w g zs (listed []) tt
+  step-numbered (resets bits) zs = tt
 
-module _ (s : Sheet) where
-  stay-numbered : (visit l : ℕ) (zs : List Zone) → Numbered (stayZones s visit l zs)
-  unfolding stayZones
-  stay-numbered visit l zs = guards-numbered (rangeList (s .ranges)) visit (s .clocks) (invariants s l) (onBounds (delayed (s .clocks) none) zs)
+  steps-numbered : (steps : List Step) (zs : List Zone) → Numbered (cutSteps rs w steps zs)
+  unfolding cutSteps
+  steps-numbered [] zs = tt
+  steps-numbered (s ∷ steps) zs = then-numbered (stepZones rs w s zs) (cutSteps rs w steps) (step-numbered s zs) (steps-numbered steps)
 
-  move-numbered : (visit n : ℕ) (zs : List Zone) → Numbered (moveZones s visit n zs)
-  unfolding moveZones
-  move-numbered visit n zs =
-      then-numbered (guardsZones (rangeList (s .ranges)) visit (s .clocks) (guardsOf s n) zs)
-      (λ ks. listed (onBounds (resetBounds (s .clocks) (transitionAt s n .resets) (s .clocks)) ks))
-      (guards-numbered (rangeList (s .ranges)) visit (s .clocks) (guardsOf s n) zs) (λ ks. tt)
-
-  route-numbered : (ns : List ℕ) (visit l : ℕ) (zs : List Zone) → Numbered (cutRoute s visit l ns zs)
-  unfolding cutRoute
-  route-numbered [] visit l zs = stay-numbered visit l zs
-  route-numbered (n ∷ ns) visit l zs =
-      then-numbered (stayZones s visit l zs) (λ ks. andThen (moveZones s visit n ks) (cutRoute s (suc visit) (transitionAt s n .to) ns)) (stay-numbered visit l zs)
-      (λ ks. then-numbered (moveZones s visit n ks) (cutRoute s (suc visit) (transitionAt s n .to) ns) (move-numbered visit n ks) (route-numbered ns (suc visit) (transitionAt s n .to)))
+pub along-numbered : AlongNumbered
+unfolding zonesAlong
+along-numbered s route m visit q = subst Numbered q (steps-numbered (rangeList (s .ranges)) (s .clocks) (stepsOf s route) (startZone ∷ []))
 
 pub zones-numbered : ZonesNumbered
 unfolding zonesOf
-zones-numbered s m visit q = subst Numbered q (route-numbered s (routeOf s) 0 0 (record { ineqs = []; bounds = startB } ∷ []))
+zones-numbered s m visit q = along-numbered s (routeOf s) m visit q

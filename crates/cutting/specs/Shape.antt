@@ -2,23 +2,24 @@
 use mathlib.Core.Path.{_≡_, refl, sym, ap, subst, _∙_}
 use mathlib.Core.Logic.{_⊎_, inl, inr}
 use mathlib.Core.List.{List, [], _∷_, _++_, List·Memᴰ, List·Memᴰ·not-nil, List·Memᴰ·cases-cons}
-use mathlib.Core.Bool.{Bool, true, false}
-use Prim.Native.Nat.{ℕ, zero, suc, _+_, _≤_, _<_, _/_, _%_, _^_}
+use mathlib.Core.Bool.{Bool, true, false, cond}
+use Prim.Native.Nat.{ℕ, zero, suc, _+_, _≤_, _<_}
 use native.Mathlib.Omega.{arith}
 use borrow.Author.Tests.{ltb-true, eqb-true}
 use lib.Dec.{eqb, ltb}
 use lib.ListN.{length, length-append}
-use Rattle.dbm.specs.Matrix.{delayed, resetM}
-use Rattle.dbm.specs.Entries.{Outside, delayed-outside, reset-outside}
+use Rattle.dbm.specs.Matrix.{delayed, resetsM}
+use Rattle.dbm.specs.Entries.{Outside, delayed-outside, resets-outside}
 use Rattle.expr.specs.Affine.{Affine, opposite, Judged, fine, wide}
 use Rattle.expr.specs.Limit.{Limit, none, sumB, tighterB, Question, yes′, no′, ask, wide′}
 use Rattle.expr.specs.Three.{limitOf, rangeList}
 use Rattle.expr.specs.declared.range.Range.{Range}
 use Rattle.sheet.specs.declared.Guard.{Guard}
 use Rattle.sheet.specs.declared.Sheet.{Sheet}
-use Rattle.timed.specs.Runs.{invariants, guardsOf, routeOf, transitionAt}
-use Rattle.cutting.specs.Agree.{listed-same, not-listed, worked-refused, guards-refused, listed-first}
-use Rattle.cutting.specs.Cutting.{Bounds, pick, zeroB, startB, Zone, Tree, cut, keep, wideTree, asks, summed, tested, Place, putEntry, rowFrom, rowsFrom, places, pushed, guardTree, Listing, listed, refused, INEQS, ZONES, never, listZone, worked, guardZones, guardsZones, andThen, onBounds, resetBounds, stayZones, moveZones, cutRoute, zonesOf}
+use Rattle.timed.specs.Automaton.{routeOf}
+use Rattle.timed.specs.Steps.{Step, delay, guard, resets, stepsOf}
+use Rattle.cutting.specs.Listings.{listed-same, not-listed, worked-refused, guards-refused, listed-first, on-length}
+use Rattle.cutting.specs.Cutting.{Bounds, zeroB, startB, startZone, Zone, Tree, cut, keep, wideTree, asks, summed, tested, Place, putEntry, rowFrom, rowsFrom, places, pushed, guardTree, Listing, listed, refused, INEQS, ZONES, never, listZone, worked, guardZones, onBounds, stepZones, cutSteps, zonesAlong, zonesOf}
 
 -- past clock 0 and w clocks the matrix is zero, not strict
 abbrev pub Blank : ℕ → Bounds → Type 0
@@ -28,7 +29,12 @@ pub record Shaped (w : ℕ) (z : Zone) : Type 0 where
   pub few : length (z .ineqs) ≤ INEQS
   pub blank : Blank w (z .bounds)
 
--- ---- the statement
+-- ---- the statement, along any route and along the sheet's own
+abbrev pub AlongShaped : Type 0
+AlongShaped =
+    (s : Sheet) (route : List ℕ) (zs : List Zone) → zonesAlong s route ≡ listed zs
+    → (length zs ≤ ZONES) × ((z : Zone) → List·Memᴰ z zs → Shaped (s .clocks) z)
+
 abbrev pub ZonesShaped : Type 0
 ZonesShaped = (s : Sheet) (zs : List Zone) → zonesOf s ≡ listed zs → (length zs ≤ ZONES) × ((z : Zone) → List·Memᴰ z zs → Shaped (s .clocks) z)
 
@@ -95,15 +101,15 @@ put-blank : (w : ℕ) (p : Place) (t : Limit Affine) (m : Bounds) → p .row ≤
 unfolding putEntry
 put-blank w p t m a b h i j o = by (eqb i (p .row)) (eqb j (p .column)) refl refl o
   where
-    by : (x y : Bool) → eqb i (p .row) ≡ x → eqb j (p .column) ≡ y → Outside w i j → pick x (pick y t (m i j)) (m i j) ≡ zeroB
+    by : (x y : Bool) → eqb i (p .row) ≡ x → eqb j (p .column) ≡ y → Outside w i j → cond x (cond y t (m i j)) (m i j) ≡ zeroB
     by false y e g o = h i j o
     by true false e g o = h i j o
     by true true e g (inl q) = let d = eqb-true i (p .row) e in absurd (omega arith)
     by true true e g (inr q) = let d = eqb-true j (p .column) g in absurd (omega arith)
 
-pick-blank : (w : ℕ) (b : Bool) (x y : Bounds) → Blank w x → Blank w y → Blank w (pick b x y)
-pick-blank w true x y h k = h
-pick-blank w false x y h k = k
+cond-blank : (w : ℕ) (b : Bool) (x y : Bounds) → Blank w x → Blank w y → Blank w (cond b x y)
+cond-blank w true x y h k = h
+cond-blank w false x y h k = k
 
 pushed-leaves : (w i j : ℕ) (e : Limit Affine) (old : Bounds) (ps : List Place) (new : Bounds) → Placed w ps → Blank w new → Leaves w (pushed i j e old ps new)
 unfolding pushed
@@ -112,7 +118,7 @@ pushed-leaves w i j e old (p ∷ ps) new h k =
     summed-leaves w (sumB (old (p .row) i) e) _ (λ s.
     summed-leaves w (sumB s (old j (p .column))) _ (λ t.
     tested-leaves w (tighterB t (old (p .row) (p .column))) _ (λ b.
-    pushed-leaves w i j e old ps (pick b (putEntry p t new) new) (h .2) (pick-blank w b (putEntry p t new) new (put-blank w p t new (h .0) (h .1) k) k))))
+    pushed-leaves w i j e old ps (cond b (putEntry p t new) new) (h .2) (cond-blank w b (putEntry p t new) new (put-blank w p t new (h .0) (h .1) k) k))))
 
 guard-leaves : (w i j : ℕ) (e : Limit Affine) (m : Bounds) → Blank w m → Leaves w (guardTree w i j e m)
 unfolding guardTree places
@@ -120,11 +126,11 @@ guard-leaves w i j e m h =
     summed-leaves w (sumB e (m j i)) _ (λ back.
     tested-leaves w (tighterB back zeroB) _ (λ b. void-or b))
   where
-    stay-or : (b : Bool) → Leaves w (pick b (pushed i j e m (rowsFrom w 0 (suc w)) m) (keep m))
+    stay-or : (b : Bool) → Leaves w (cond b (pushed i j e m (rowsFrom w 0 (suc w)) m) (keep m))
     stay-or true = pushed-leaves w i j e m (rowsFrom w 0 (suc w)) m (rows-placed w 0 (suc w) (omega arith)) h
     stay-or false = h
 
-    void-or : (b : Bool) → Leaves w (pick b cut (tested (tighterB e (m i j)) (λ tight. pick tight (pushed i j e m (rowsFrom w 0 (suc w)) m) (keep m))))
+    void-or : (b : Bool) → Leaves w (cond b cut (tested (tighterB e (m i j)) (λ tight. cond tight (pushed i j e m (rowsFrom w 0 (suc w)) m) (keep m))))
     void-or true = tt
     void-or false = tested-leaves w (tighterB e (m i j)) _ stay-or
 
@@ -134,7 +140,7 @@ module _ (rs : List Range) (visit w : ℕ) where
   Keeps t = (is : List Affine) (zs zs′ : List Zone) → length is ≤ INEQS → Right w zs → worked rs visit t is (listed zs) ≡ listed zs′ → Right w zs′
 
   list-right : (is : List Affine) (m : Bounds) (zs zs′ : List Zone) → length is ≤ INEQS → Blank w m → Right w zs → (b : Bool) → ltb (length zs) ZONES ≡ b
-      → pick b (listed (zs ++ (record { ineqs = is; bounds = m } ∷ []))) (refused 7 visit) ≡ listed zs′ → Right w zs′
+      → cond b (listed (zs ++ (record { ineqs = is; bounds = m } ∷ []))) (refused 7 visit) ≡ listed zs′ → Right w zs′
   list-right is m zs zs′ l h r false e q = absurd (not-listed q)
   list-right is m zs zs′ l h r true e q =
       let a = ltb-true (length zs) ZONES e in
@@ -155,17 +161,17 @@ module _ (rs : List Range) (visit w : ℕ) where
         let b : length (is ++ (opposite e ∷ [])) ≤ INEQS = omega (arith, length-append is (opposite e ∷ [])) in
         ih false (is ++ (opposite e ∷ [])) zs₁ zs′ b (ih true (is ++ (e ∷ [])) zs zs₁ a r o) q
 
-    room-right : (b : Bool) → ltb (length is) INEQS ≡ b → pick b (no-half yes-half) (refused 8 visit) ≡ listed zs′ → Right w zs′
+    room-right : (b : Bool) → ltb (length is) INEQS ≡ b → cond b (no-half yes-half) (refused 8 visit) ≡ listed zs′ → Right w zs′
     room-right true k q = split-right yes-half refl (ltb-true (length is) INEQS k) q
     room-right false k q = absurd (not-listed q)
 
-    all-right : (b : Bool) → pick b (worked rs visit (f true) is (listed zs)) (pick (ltb (length is) INEQS) (no-half yes-half) (refused 8 visit)) ≡ listed zs′ → Right w zs′
+    all-right : (b : Bool) → cond b (worked rs visit (f true) is (listed zs)) (cond (ltb (length is) INEQS) (no-half yes-half) (refused 8 visit)) ≡ listed zs′ → Right w zs′
     all-right true q = ih true is zs zs′ l r q
     all-right false q = room-right (ltb (length is) INEQS) refl q
 
     none-right : (b : Bool)
-        → pick b (worked rs visit (f false) is (listed zs))
-        (pick (never rs is (opposite e)) (worked rs visit (f true) is (listed zs)) (pick (ltb (length is) INEQS) (no-half yes-half) (refused 8 visit))) ≡ listed zs′
+        → cond b (worked rs visit (f false) is (listed zs))
+        (cond (never rs is (opposite e)) (worked rs visit (f true) is (listed zs)) (cond (ltb (length is) INEQS) (no-half yes-half) (refused 8 visit))) ≡ listed zs′
         → Right w zs′
     none-right true q = ih false is zs zs′ l r q
     none-right false q = all-right (never rs is (opposite e)) q
@@ -192,63 +198,43 @@ module _ (rs : List Range) (visit w : ℕ) where
       by (listed os₁) e q ih =
           ih os₁ (tree-keeps tree (guard-leaves w (g .left) (g .right) (limitOf (g .bound)) (z .bounds) (a .0 .blank)) (z .ineqs) os os₁ (a .0 .few) r e) q
 
-  guards-right : (gs : List Guard) (zs zs′ : List Zone) → Right w zs → guardsZones rs visit w gs zs ≡ listed zs′ → Right w zs′
-  unfolding guardsZones
-  guards-right [] zs zs′ r q = subst (Right w) (listed-same q) r
-  guards-right (g ∷ gs) zs zs′ r q =
-      let (zs₁, a, b) = listed-first (guardZones rs visit w g zs (listed [])) (guardsZones rs visit w gs) zs′ q in
-      guards-right gs zs₁ zs′ (guard-right g zs [] zs₁ (r .1) (omega arith, tt) a) b
-
--- ---- steps on every zone's matrix, and the route
+-- ---- steps on every zone's matrix
 on-shaped : (w : ℕ) (f : Bounds → Bounds) → ((m : Bounds) → Blank w m → Blank w (f m)) → (zs : List Zone) → AllShaped w zs → AllShaped w (onBounds f zs)
 unfolding onBounds
 on-shaped w f h [] a = tt
 on-shaped w f h (z ∷ zs) a = (record { few = a .0 .few; blank = h (z .bounds) (a .0 .blank) }, on-shaped w f h zs (a .1))
 
-on-length : (f : Bounds → Bounds) (zs : List Zone) → length (onBounds f zs) ≡ length zs
-unfolding onBounds
-on-length f [] = refl
-on-length f (z ∷ zs) = ap suc (on-length f zs)
-
 on-right : (w : ℕ) (f : Bounds → Bounds) → ((m : Bounds) → Blank w m → Blank w (f m)) → (zs : List Zone) → Right w zs → Right w (onBounds f zs)
 on-right w f h zs r = (subst (λ (n : ℕ). n ≤ ZONES) (sym (on-length f zs)) (r .0), on-shaped w f h zs (r .1))
 
-resets-blank : (w bits n : ℕ) (m : Bounds) → Blank w m → Blank w (resetBounds w bits n m)
-unfolding resetBounds
-resets-blank w bits zero m h = h
-resets-blank w bits (suc k) m h = by (eqb (bits / 2 ^ k % 2) 1) (resets-blank w bits k m h)
-  where
-    by : (b : Bool) → Blank w (resetBounds w bits k m) → Blank w (pick b (resetM w (suc k) (resetBounds w bits k m)) (resetBounds w bits k m))
-    by true ih = λ i j o. reset-outside w (suc k) (resetBounds w bits k m) i j o ∙ ih i j o
-    by false ih = ih
+-- ---- any list of steps
+module _ (rs : List Range) (w : ℕ) where
+  step-right : (s : Step) (zs zs′ : List Zone) → Right w zs → stepZones rs w s zs ≡ listed zs′ → Right w zs′
+  unfolding stepZones
+  step-right delay zs zs′ r q =
+      subst (Right w) (listed-same q) (on-right w (delayed w none) (λ m h i j o. delayed-outside w none m i j o ∙ h i j o) zs r)
+  step-right (guard visit g) zs zs′ r q = guard-right rs visit w g zs [] zs′ (r .1) (omega arith, tt) q
+  step-right (resets bits) zs zs′ r q =
+      subst (Right w) (listed-same q) (on-right w (resetsM w bits w) (λ m h i j o. resets-outside w bits m w i j o ∙ h i j o) zs r)
 
-module _ (s : Sheet) where
-  stay-right : (visit l : ℕ) (zs zs′ : List Zone) → Right (s .clocks) zs → stayZones s visit l zs ≡ listed zs′ → Right (s .clocks) zs′
-  unfolding stayZones
-  stay-right visit l zs zs′ r q =
-      guards-right (rangeList (s .ranges)) visit (s .clocks) (invariants s l) (onBounds (delayed (s .clocks) none) zs) zs′
-      (on-right (s .clocks) (delayed (s .clocks) none) (λ m h i j o. delayed-outside (s .clocks) none m i j o ∙ h i j o) zs r) q
+  steps-right : (steps : List Step) (zs zs′ : List Zone) → Right w zs → cutSteps rs w steps zs ≡ listed zs′ → Right w zs′
+  unfolding cutSteps
+  steps-right [] zs zs′ r q = subst (Right w) (listed-same q) r
+  steps-right (s ∷ steps) zs zs′ r q =
+      let (zs₁, a, b) = listed-first (stepZones rs w s zs) (cutSteps rs w steps) zs′ q in
+      steps-right steps zs₁ zs′ (step-right s zs zs₁ r a) b
 
-  move-right : (visit n : ℕ) (zs zs′ : List Zone) → Right (s .clocks) zs → moveZones s visit n zs ≡ listed zs′ → Right (s .clocks) zs′
-  unfolding moveZones
-  move-right visit n zs zs′ r q =
-      let resets = transitionAt s n .resets in
-      let (zs₁, a, b) = listed-first (guardsZones (rangeList (s .ranges)) visit (s .clocks) (guardsOf s n) zs) (λ ks. listed (onBounds (resetBounds (s .clocks) resets (s .clocks)) ks)) zs′ q in
-      subst (Right (s .clocks)) (listed-same b)
-      (on-right (s .clocks) (resetBounds (s .clocks) resets (s .clocks)) (resets-blank (s .clocks) resets (s .clocks)) zs₁
-      (guards-right (rangeList (s .ranges)) visit (s .clocks) (guardsOf s n) zs zs₁ r a))
+  pub steps-shaped : (steps : List Step) (zs : List Zone) → cutSteps rs w steps (startZone ∷ []) ≡ listed zs
+      → (length zs ≤ ZONES) × ((z : Zone) → List·Memᴰ z zs → Shaped w z)
+  unfolding startB
+  steps-shaped steps zs q =
+      let r = steps-right steps (startZone ∷ []) zs (omega arith, (record { few = omega arith; blank = λ i j o. refl }, tt)) q in
+      (r .0, shaped-one w zs (r .1))
 
-  route-right : (ns : List ℕ) (visit l : ℕ) (zs zs′ : List Zone) → Right (s .clocks) zs → cutRoute s visit l ns zs ≡ listed zs′ → Right (s .clocks) zs′
-  unfolding cutRoute
-  route-right [] visit l zs zs′ r q = stay-right visit l zs zs′ r q
-  route-right (n ∷ ns) visit l zs zs′ r q =
-      let (zs₁, a, b) = listed-first (stayZones s visit l zs) (λ ks. andThen (moveZones s visit n ks) (cutRoute s (suc visit) (transitionAt s n .to) ns)) zs′ q in
-      let (zs₂, c, d) = listed-first (moveZones s visit n zs₁) (cutRoute s (suc visit) (transitionAt s n .to) ns) zs′ b in
-      route-right ns (suc visit) (transitionAt s n .to) zs₂ zs′ (move-right visit n zs₁ zs₂ (stay-right visit l zs zs₁ r a) c) d
+pub along-shaped : AlongShaped
+unfolding zonesAlong
+along-shaped s route zs q = steps-shaped (rangeList (s .ranges)) (s .clocks) (stepsOf s route) zs q
 
 pub zones-shaped : ZonesShaped
-unfolding zonesOf startB
-zones-shaped s zs q =
-    let r = route-right s (routeOf s) 0 0 (record { ineqs = []; bounds = startB } ∷ []) zs
-    (omega arith, (record { few = omega arith; blank = λ i j o. refl }, tt)) q in
-    (r .0, shaped-one (s .clocks) zs (r .1))
+unfolding zonesOf
+zones-shaped s zs q = along-shaped s (routeOf s) zs q

@@ -2,12 +2,13 @@
 use mathlib.Core.Path.{_≡_, refl, sym, subst, ap, _∙_}
 use mathlib.Core.Logic.{_⊎_, inl, inr, _≢_}
 use mathlib.Core.Bool.{Bool, true, false, _&&_, cond}
-use Prim.Native.Nat.{ℕ, zero, suc, _≤_, _<_}
+use Prim.Native.Nat.{ℕ, zero, suc, _/_, _%_, _^_, _≤_, _<_}
+use native.Mathlib.Nat.{div-one}
 use native.Mathlib.Omega.{arith}
 use lib.Dec.{T, leb, ltb, eqb, le→leb, leb→le, eqb→eq, eqb-refl, lt→ltb}
 use lib.IntN.{ℤ}
 use Rattle.expr.specs.Limit.{Limit, sumW, tighterW}
-use Rattle.dbm.specs.Matrix.{Matrix, inside, delayed, resetAt, resetM, tighterOf, limitedM, put, _⊑_}
+use Rattle.dbm.specs.Matrix.{Matrix, inside, delayed, resetAt, resetM, resetsM, tighterOf, limitedM, put, _⊑_}
 use Rattle.dbm.specs.Weights.{⊑-refl, tighter-⊑}
 
 -- ---- the tests
@@ -50,6 +51,15 @@ inside-yes w i j h k = rw (leb-yes i w h, leb-yes j w k)
 and-false : (b : Bool) → (b && false) ≡ false
 and-false true = refl
 and-false false = refl
+
+-- what holds at 0 to 4 holds up to 4
+pub up-to-4 : (P : ℕ → Type 0) → P 0 → P 1 → P 2 → P 3 → P 4 → (i : ℕ) → i ≤ 4 → P i
+up-to-4 P a b c d e zero h = a
+up-to-4 P a b c d e (suc zero) h = b
+up-to-4 P a b c d e (suc (suc zero)) h = c
+up-to-4 P a b c d e (suc (suc (suc zero))) h = d
+up-to-4 P a b c d e (suc (suc (suc (suc zero)))) h = e
+up-to-4 P a b c d e (suc (suc (suc (suc (suc i))))) h = absurd (omega arith)
 
 -- an index past w
 abbrev pub Outside : ℕ → ℕ → ℕ → Type 0
@@ -167,3 +177,32 @@ module _ (r : ℕ) (v : ℤ) (x : ℕ → ℤ) where
   pub put-other : (i : ℕ) → i ≢ r → put r v x i ≡ x i
   unfolding put
   put-other i h = rw (eqb-no i r h) refl
+
+-- ---- resets in rising order
+module _ {A : Type 0} (w bits : ℕ) (m : Matrix A) where
+  pub resets-outside : (n i j : ℕ) → Outside w i j → resetsM w bits n m i j ≡ m i j
+  unfolding resetsM
+  resets-outside zero i j h = refl
+  resets-outside (suc n) i j h = by (eqb (bits / 2 ^ n % 2) 1) (resets-outside n i j h)
+    where
+      by : (b : Bool) → resetsM w bits n m i j ≡ m i j → cond b (resetM w (suc n) (resetsM w bits n m)) (resetsM w bits n m) i j ≡ m i j
+      by true e = reset-outside w (suc n) (resetsM w bits n m) i j h ∙ e
+      by false e = e
+
+-- clock r is reset where its bit is 1 and there is such a clock
+abbrev pub resetBit : {A : Type 0} → ℕ → ℕ → ℕ → Matrix A → Matrix A
+resetBit w r bit m = cond (eqb bit 1) (cond (leb r w) (resetM w r m) m) m
+
+-- the bits of four clocks, one after the other
+abbrev pub resetBits : {A : Type 0} → ℕ → ℕ → Matrix A → Matrix A
+resetBits w bits m = resetBit w 4 (bits / 8 % 2) (resetBit w 3 (bits / 4 % 2) (resetBit w 2 (bits / 2 % 2) (resetBit w 1 (bits % 2) m)))
+
+pub cond-same : {A : Type 0} (b : Bool) (a : A) → cond b a a ≡ a
+cond-same true a = refl
+cond-same false a = refl
+
+-- bits of clocks that are not there do nothing
+pub bits-resets : {A : Type 0} (bits : ℕ) (m : Matrix A) (w : ℕ) → w ≤ 4 → resetBits w bits m ≡ resetsM w bits w m
+unfolding resetsM
+bits-resets bits m = up-to-4 (λ w. resetBits w bits m ≡ resetsM w bits w m)
+    (simp cond-same) (simp (cond-same, div-one)) (simp (cond-same, div-one)) (simp (cond-same, div-one)) (simp div-one)

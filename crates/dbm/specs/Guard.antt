@@ -135,26 +135,9 @@ module _ {w i j : ℕ} {m : Matrix (Limit ℤ)} (c : Closed w m) (hi : i ≤ w) 
       → Closed w m′ × ((D : ℕ) (x : ℕ → ℤ) → State D x → (Meets w m′ D x ↔ (Meets w m D x × keeps D (x i -ℤ x j) e)))
   guarded-after h = subst (After w m (λ D x. keeps D (x i -ℤ x j) e)) h guarded-right
 
--- ---- one step after another
--- nothing asked: the matrix itself
+-- ---- nothing asked: the matrix itself
 pub after-none : {w : ℕ} {m : Matrix (Limit ℤ)} → Closed w m → After w m (λ D x. Unit {0}) (kept m)
 after-none c = (c, λ D x s. (λ h. (h, tt), λ h. h .0))
-
--- what is void stays void
-pub after-void : {w : ℕ} {m : Matrix (Limit ℤ)} (P Q : ℕ → (ℕ → ℤ) → Type 0) → After w m P void → After w m (λ D x. P D x × Q D x) void
-after-void P Q a D x s h g = a D x s h (g .0)
-
--- first P, then Q
-pub after-then : {w : ℕ} {m m′ : Matrix (Limit ℤ)} (P Q : ℕ → (ℕ → ℤ) → Type 0) (r : Outcome)
-    → After w m P (kept m′) → After w m′ Q r → After w m (λ D x. P D x × Q D x) r
-after-then P Q void a b = λ D x s h g. b D x s (a .1 D x s .1 (h, g .0)) (g .1)
-after-then {w} {m} {m′} P Q (kept m″) a b = (b .0, λ D x s. (to D x s, λ h. b .1 D x s .1 (a .1 D x s .1 (h .0, h .1 .0), h .1 .1)))
-  where
-    to : (D : ℕ) (x : ℕ → ℤ) → State D x → Meets w m″ D x → Meets w m D x × (P D x × Q D x)
-    to D x s h =
-        let (g, q) = b .1 D x s .0 h in
-        let (f, p) = a .1 D x s .0 g in
-        (f, (p, q))
 
 -- ---- padding: a guard leaves what lies past w
 by-padding : (w i j : ℕ) (e : Limit ℤ) (m : Matrix (Limit ℤ)) (k l : ℕ) → Outside w k l → (t u : Bool) {m′ : Matrix (Limit ℤ)}

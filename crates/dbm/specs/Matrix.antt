@@ -4,7 +4,7 @@
 use mathlib.Core.Path.{_≡_}
 use mathlib.Core.Logic.{_↔_}
 use mathlib.Core.Bool.{Bool, true, false, _&&_, cond}
-use Prim.Native.Nat.{ℕ, zero, suc, _≤_}
+use Prim.Native.Nat.{ℕ, zero, suc, _/_, _%_, _^_, _≤_}
 use lib.Dec.{leb, ltb, eqb}
 use lib.IntN.{ℤ, pos, _+ℤ_, _-ℤ_, _*ℤ_}
 use lib.Signed.{_≤ℤ_, _<ℤ_}
@@ -37,6 +37,13 @@ resetAt m false false i j = m i j
 -- Reset r: for j other than r, (r, j) takes (0, j) and (j, r) takes (j, 0)
 unfoldable pub resetM : {A : Type 0} → ℕ → ℕ → Matrix A → Matrix A
 resetM w r m i j = cond (inside w i j) (resetAt m (eqb i r) (eqb j r) i j) (m i j)
+
+-- Resets in rising order, of clocks 1 to n: bit i - 1 for clock i
+unfoldable pub resetsM : {A : Type 0} → ℕ → ℕ → ℕ → Matrix A → Matrix A
+resetsM w bits zero m = m
+resetsM w bits (suc i) m =
+    let before = resetsM w bits i m in
+    cond (eqb (bits / 2 ^ i % 2) 1) (resetM w (suc i) before) before
 
 -- the first weight where it is tighter than the second, else the second
 abbrev pub tighterOf : Limit ℤ → Limit ℤ → Limit ℤ

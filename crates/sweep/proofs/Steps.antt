@@ -1,7 +1,7 @@
 -- The cases of the code's steps on tables, with the branches' tests.
 use mathlib.Core.Path.{_≡_, refl, sym, _∙_, ap}
 use mathlib.Core.List.{List, [], _∷_}
-use mathlib.Core.Bool.{Bool, true, false}
+use mathlib.Core.Bool.{Bool, true, false, cond}
 use Prim.Native.Nat.{ℕ, suc, _+_, _≤_, _<_, min}
 use native.Mathlib.Numerals.{add-one}
 use native.Mathlib.Omega.{arith}
@@ -15,7 +15,8 @@ use Rattle.sheet.specs.declared.Guard.{Guard}
 use Rattle.sheet.specs.declared.Location.{Location}
 use Rattle.sheet.specs.declared.Sheet.{Sheet}
 use Rattle.sheet.specs.declared.Transition.{Transition}
-use Rattle.sweep.specs.Tables.{Table, zeroWeight, voidTable, entryOf, rowOf, isVoid, pick, sumC, tighterC, limitedEntry, limitedTable, guardedTable, guardTable, guardsTable, stayTable, moveTable, locationC, transitionC, walkTable, at}
+use Rattle.sweep.specs.Tables.{Table, zeroWeight, voidTable, entryOf, rowOf, isVoid, sumC, tighterC, limitedEntry, limitedTable, guardedTable, guardTable, guardsTable, stayTable, moveTable, walkTable}
+use Rattle.timed.specs.Indexed.{locationC, transitionC}
 
 pub list5 : {A : Type 0} {a b c d e a′ b′ c′ d′ e′ : A} → a ≡ a′ → b ≡ b′ → c ≡ c′ → d ≡ d′ → e ≡ e′
     → _≡_ {A = List A} (a ∷ b ∷ c ∷ d ∷ e ∷ []) (a′ ∷ b′ ∷ c′ ∷ d′ ∷ e′ ∷ [])
@@ -85,20 +86,6 @@ module _ (clocks : ℕ) (v : List ℤ) (xs : List Guard) (k : ℕ) where
   pub guards-done : (i : ℕ) (m w : Table) → length (take k xs) ≤ i → guardsTable m clocks v (drop i (take k xs)) ≡ w → m ≡ w
   unfolding guardsTable
   guards-done i m w h e = rw (drop-of-length-le (take k xs) h) at e
-
--- ---- indices
-pub at-below : (n i : ℕ) → i < n → i ≡ at n i
-at-below n i h = rw (lt-ltb i n h) refl
-
-pub at-past : (n i : ℕ) → n ≤ i → 0 ≡ at n i
-at-past n i h = rw (le-ltb i n h) refl
-
-pub at-fits : (n i : ℕ) → 0 < n → at n i < n
-at-fits n i h = by (ltb i n) refl
-  where
-    by : (b : Bool) → ltb i n ≡ b → pick b i 0 < n
-    by true e = omega (arith, borrow.Author.Tests.ltb-true i n e)
-    by false e = h
 
 -- ---- the loop over the route: what is left of it takes the matrix to where the whole route takes it
 module _ (s : Sheet) (v : List ℤ) where

@@ -1,4 +1,4 @@
--- What Sweep's rules are worth (paper 01, "Runs"): for every accepted sheet and every valuation, the walk of `Walk` is void exactly if there is no run,
+-- What Sweep's rules are worth (paper 01, "Runs"): for every accepted sheet and every valuation, Sweep of `Walk` is void exactly if there is no run,
 -- and else its entries are the tightest bounds on the end states of the runs. `Proofs` has the proofs.
 use mathlib.Core.Path.{_≡_}
 use mathlib.Core.Logic.{_↔_}
@@ -10,10 +10,16 @@ use Rattle.dbm.specs.Entries.{Outside}
 use Rattle.expr.specs.Limit.{Limit, zeroW}
 use Rattle.sheet.specs.declared.Sheet.{Sheet}
 use Rattle.sheet.specs.WellFormed.{WellFormed}
-use Rattle.timed.specs.Runs.{Run, Tightest}
-use Rattle.sweep.specs.Walk.{sweepAt}
+use Rattle.timed.specs.Runs.{Run, RunAlong, Tightest, TightestAlong}
+use Rattle.sweep.specs.Walk.{sweepAlong, sweepAt}
 
--- the walk is void exactly if no run exists
+-- along any route: void exactly if no run exists, else each entry is the tightest bound on that difference over the end states of all runs
+abbrev pub AlongRight : Sheet → List ℕ → List ℤ → Type 0
+AlongRight s route v =
+    ((sweepAlong s route v ≡ void) ↔ (RunAlong s route v → ⊥))
+    × ((m : Matrix (Limit ℤ)) → sweepAlong s route v ≡ kept m → (i j : ℕ) → i ≤ s .clocks → j ≤ s .clocks → TightestAlong s route v i j (m i j))
+
+-- along the sheet's own route: Sweep is void exactly if no run exists
 abbrev pub VoidIffNoRun : Type 0
 VoidIffNoRun = (s : Sheet) → WellFormed s → (v : List ℤ) → (sweepAt s v ≡ void) ↔ (Run s v → ⊥)
 

@@ -7,11 +7,12 @@ use Prim.Native.Nat.{ℕ, zero, suc, _≤_}
 use native.Mathlib.Omega.{arith}
 use lib.IntN.{ℤ}
 use lib.ListN.{getD}
+use Rattle.dbm.specs.Entries.{up-to-4}
 use Rattle.dbm.specs.Matrix.{Matrix, Outcome, void, kept}
 use Rattle.expr.specs.Limit.{Limit, none, limit, sumW, tighterW, zeroW, saturated}
 use Rattle.expr.specs.Three.{weighed, weightOf}
 use Rattle.expr.specs.declared.weight.Weight.{Weight}
-use Rattle.sweep.specs.Tables.{Table, zeroWeight, voidTable, rowOf, entryOf, isVoid, pick, sumC, tighterC}
+use Rattle.sweep.specs.Tables.{Table, zeroWeight, voidTable, rowOf, entryOf, isVoid, sumC, tighterC}
 
 -- row i
 unfoldable pub row : Matrix (Limit ℤ) → ℕ → List Weight
@@ -36,20 +37,11 @@ sum-of a b = rw (weighed-of a, weighed-of b) refl
 pub tighter-of : (a b : Limit ℤ) → tighterC (weightOf a) (weightOf b) ≡ tighterW a b
 tighter-of a b = rw (weighed-of a, weighed-of b) refl
 
-pub pick-of : (b : Bool) (x y : Limit ℤ) → pick b (weightOf x) (weightOf y) ≡ weightOf (cond b x y)
-pick-of true x y = refl
-pick-of false x y = refl
+pub cond-of : (b : Bool) (x y : Limit ℤ) → cond b (weightOf x) (weightOf y) ≡ weightOf (cond b x y)
+cond-of true x y = refl
+cond-of false x y = refl
 
 -- ---- entries
--- what holds at 0 to 4 holds up to 4
-pub up-to-4 : (P : ℕ → Type 0) → P 0 → P 1 → P 2 → P 3 → P 4 → (i : ℕ) → i ≤ 4 → P i
-up-to-4 P a b c d e zero h = a
-up-to-4 P a b c d e (suc zero) h = b
-up-to-4 P a b c d e (suc (suc zero)) h = c
-up-to-4 P a b c d e (suc (suc (suc zero))) h = d
-up-to-4 P a b c d e (suc (suc (suc (suc zero)))) h = e
-up-to-4 P a b c d e (suc (suc (suc (suc (suc i))))) h = absurd (omega arith)
-
 module _ (f : Matrix (Limit ℤ)) where
   pub row-at : (i : ℕ) → i ≤ 4 → rowOf (table f) i ≡ row f i
   unfolding table

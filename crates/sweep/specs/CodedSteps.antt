@@ -1,28 +1,26 @@
 -- What the code does to the table of a matrix in a wait, under a guard and in a reset is what Walk does to the matrix, where there are at most four clocks
--- and no number is past 2 ^ 56. A void table stays as it is.
+-- and no number is past 2 ^ 57. A void table stays as it is.
 use mathlib.Core.Path.{_≡_, refl, sym, ap, _∙_}
 use mathlib.Core.Logic.{inl, inr}
 use mathlib.Core.List.{List, [], _∷_}
 use mathlib.Core.Bool.{Bool, true, false, cond}
 use Prim.Native.Nat.{ℕ, suc, _/_, _%_, _^_, _≤_}
-use native.Mathlib.Nat.{div-one}
 use native.Mathlib.Omega.{arith}
 use lib.Dec.{ltb, leb, eqb}
 use lib.IntN.{ℤ}
 use lib.ListN.{getD, set}
 use borrow.Author.Tests.{ltb-true, ltb-false, leb-true, eqb-true, eqb-false, le-ltb, eq-eqb, ne-eqb}
-use Rattle.dbm.specs.Matrix.{Matrix, delayed, resetAt, resetM, limitedM, void, kept, guarded}
-use Rattle.dbm.specs.Entries.{inside-yes, limited-inside, limited-outside, delayed-none, delayed-zero, delayed-stays, delayed-outside, reset-outside}
+use Rattle.dbm.specs.Matrix.{Matrix, delayed, resetAt, resetM, resetsM, limitedM, void, kept, guarded}
+use Rattle.dbm.specs.Entries.{up-to-4, cond-same, resetBit, bits-resets, inside-yes, limited-inside, limited-outside, delayed-none, delayed-zero, delayed-stays, delayed-outside, reset-outside}
 use Rattle.dbm.specs.Guard.{way}
 use Rattle.dbm.specs.Size.{AtMost, Small}
 use Rattle.expr.specs.Limit.{Limit, none, sumW, tighterW, zeroW, saturated, atV}
 use Rattle.expr.specs.Three.{weightOf, limitOf}
 use Rattle.expr.specs.declared.weight.Weight.{Weight}
 use Rattle.sheet.specs.declared.Guard.{Guard}
-use Rattle.sweep.specs.Tables.{zeroWeight, voidTable, rowOf, entryOf, pick, sumC, tighterC, limitedEntry, limitedRow, limitedLine, limitedTable, guardedTable, delayedRow, delayedTable, resetEntry, resetRow, resetLine, resetTable, resetIf, resetsTable, guardTable, guardsTable}
-use Rattle.sweep.specs.Walk.{pickM, resetSteps}
+use Rattle.sweep.specs.Tables.{zeroWeight, voidTable, rowOf, entryOf, sumC, tighterC, limitedEntry, limitedRow, limitedLine, limitedTable, guardedTable, delayedRow, delayedTable, resetEntry, resetRow, resetLine, resetTable, resetIf, resetsTable, guardTable, guardsTable}
 use Rattle.sweep.specs.Sizes.{loop-exact, way-exact}
-use Rattle.sweep.specs.Coded.{row, table, coded, tighter-of, sum-of, pick-of, up-to-4, row-at, in-row, entry-at, table-not-void, row-of, table-of, row-same}
+use Rattle.sweep.specs.Coded.{row, table, coded, tighter-of, sum-of, cond-of, row-at, in-row, entry-at, table-not-void, row-of, table-of, row-same}
 
 -- ---- a wait
 module _ (w : ℕ) (m : Matrix (Limit ℤ)) where
@@ -53,7 +51,7 @@ delayed-void w = refl
 
 -- ---- a guard
 module _ {w i j : ℕ} {m : Matrix (Limit ℤ)} {e : Limit ℤ} (four : w ≤ 4) (hi : i ≤ w) (hj : j ≤ w)
-    (small : Small w (2 ^ 56) m) (few : AtMost 3001000 e) where
+    (small : Small w (2 ^ 57) m) (few : AtMost 3001000 e) where
   -- the code's sums are exact here
   way-coded : (k l : ℕ) → k ≤ w → l ≤ w → sumC (sumC (weightOf (m k i)) (weightOf e)) (weightOf (m j l)) ≡ weightOf (way i j e m k l)
   way-coded k l hk hl = ap (λ (a : Weight). sumC a (weightOf (m j l))) (sum-of (m k i) e) ∙ sum-of (sumW (saturated (m k i)) (saturated e)) (m j l)
@@ -66,10 +64,10 @@ module _ {w i j : ℕ} {m : Matrix (Limit ℤ)} {e : Limit ℤ} (four : w ≤ 4)
   limited-entry k l hk h4 false h =
       let hl = ltb-false w l h in
       rw (in-row m k l h4, in-row m j l h4) (rw (way-coded k l hk hl) (rw (tighter-of (way i j e m k l) (m k l))
-      (pick-of (tighterW (way i j e m k l) (m k l)) (way i j e m k l) (m k l) ∙ ap weightOf (sym (limited-inside w i j e m k l hk hl)))))
+      (cond-of (tighterW (way i j e m k l) (m k l)) (way i j e m k l) (m k l) ∙ ap weightOf (sym (limited-inside w i j e m k l hk hl)))))
 
   limited-row : (k : ℕ) → k ≤ 4 → (b : Bool) → ltb w k ≡ b
-      → pick b (row m k) (limitedRow w (row m k) (sumC (weightOf (m k i)) (weightOf e)) (row m j)) ≡ row (limitedM w i j e m) k
+      → cond b (row m k) (limitedRow w (row m k) (sumC (weightOf (m k i)) (weightOf e)) (row m j)) ≡ row (limitedM w i j e m) k
   unfolding limitedRow
   limited-row k h4 true h = row-same m (limitedM w i j e m) k (λ l. sym (limited-outside w i j e m k l (inl (ltb-true w k h))))
   limited-row k h4 false h = row-of (limitedM w i j e m) k (entry 0 (omega arith) false (le-ltb w 0 (omega arith)))
@@ -91,7 +89,7 @@ module _ {w i j : ℕ} {m : Matrix (Limit ℤ)} {e : Limit ℤ} (four : w ≤ 4)
   loop-coded : tighterC (sumC (weightOf e) (entryOf (table m) j i)) zeroWeight ≡ tighterW (sumW e (m j i)) zeroW
   loop-coded = rw (entry-at m j i (omega arith) (omega arith)) (rw (sum-of e (m j i)) (rw (loop-exact small few i j hi hj) (tighter-of (sumW e (m j i)) zeroW)))
 
-  by-tests : (t u : Bool) → pick t voidTable (pick u (limitedTable (table m) w i j (weightOf e)) (table m))
+  by-tests : (t u : Bool) → cond t voidTable (cond u (limitedTable (table m) w i j (weightOf e)) (table m))
       ≡ coded (cond t void (kept (cond u (limitedM w i j e m) m)))
   unfolding coded
   by-tests true u = refl
@@ -103,13 +101,9 @@ module _ {w i j : ℕ} {m : Matrix (Limit ℤ)} {e : Limit ℤ} (four : w ≤ 4)
   guarded-coded z = rw (le-ltb 4 i (omega arith), le-ltb 4 j (omega arith)) (rw (table-not-void m z) (rw loop-coded
       (rw (entry-at m i j (omega arith) (omega arith)) (rw (tighter-of e (m i j)) (by-tests (tighterW (sumW e (m j i)) zeroW) (tighterW e (m i j)))))))
 
-pick-same : {A : Type 0} (b : Bool) (a : A) → pick b a a ≡ a
-pick-same true a = refl
-pick-same false a = refl
-
 pub guarded-void : (w i j : ℕ) (e : Weight) → guardedTable voidTable w i j e ≡ voidTable
 unfolding guardedTable
-guarded-void w i j e = rw (pick-same (ltb 4 j) voidTable) (pick-same (ltb 4 i) voidTable)
+guarded-void w i j e = rw (cond-same (ltb 4 j) voidTable) (cond-same (ltb 4 i) voidTable)
 
 pub guards-void : (w : ℕ) (v : List ℤ) (gs : List Guard) → guardsTable voidTable w v gs ≡ voidTable
 unfolding guardsTable guardTable
@@ -138,13 +132,13 @@ module _ {w r : ℕ} (m : Matrix (Limit ℤ)) (four : w ≤ 4) (hr : r ≤ w) wh
       let hl = ltb-false w l h in
       rw (in-row m k l h4, in-row m 0 l h4, reset-inside k l hk hl, e, eqb-swap r l) (by (eqb l r))
     where
-      by : (b : Bool) → pick b (weightOf (m k l)) (weightOf (m 0 l)) ≡ weightOf (resetAt m true b k l)
+      by : (b : Bool) → cond b (weightOf (m k l)) (weightOf (m 0 l)) ≡ weightOf (resetAt m true b k l)
       by true = refl
       by false = refl
 
   -- an entry in another row
   other-entry : (k l : ℕ) → k ≤ w → eqb k r ≡ false → (b c : Bool) → ltb w l ≡ b → eqb l r ≡ c
-      → pick c (weightOf (m k 0)) (weightOf (m k l)) ≡ weightOf (resetM w r m k l)
+      → cond c (weightOf (m k 0)) (weightOf (m k l)) ≡ weightOf (resetM w r m k l)
   other-entry k l hk e true true h g =
       let hl = ltb-true w l h in
       let same = eqb-true l r g in
@@ -156,17 +150,17 @@ module _ {w r : ℕ} (m : Matrix (Limit ℤ)) (four : w ≤ 4) (hr : r ≤ w) wh
   -- the code sets one place of a row
   set-row : (k : ℕ) (a : Weight)
       → set (row m k) r a
-      ≡ (pick (eqb 0 r) a (weightOf (m k 0)) ∷ pick (eqb 1 r) a (weightOf (m k 1)) ∷ pick (eqb 2 r) a (weightOf (m k 2))
-      ∷ pick (eqb 3 r) a (weightOf (m k 3)) ∷ pick (eqb 4 r) a (weightOf (m k 4)) ∷ [])
+      ≡ (cond (eqb 0 r) a (weightOf (m k 0)) ∷ cond (eqb 1 r) a (weightOf (m k 1)) ∷ cond (eqb 2 r) a (weightOf (m k 2))
+      ∷ cond (eqb 3 r) a (weightOf (m k 3)) ∷ cond (eqb 4 r) a (weightOf (m k 4)) ∷ [])
   unfolding row
   set-row k a = up-to-4 (λ r.
       set (row m k) r a
-      ≡ (pick (eqb 0 r) a (weightOf (m k 0)) ∷ pick (eqb 1 r) a (weightOf (m k 1)) ∷ pick (eqb 2 r) a (weightOf (m k 2))
-      ∷ pick (eqb 3 r) a (weightOf (m k 3)) ∷ pick (eqb 4 r) a (weightOf (m k 4)) ∷ []))
+      ≡ (cond (eqb 0 r) a (weightOf (m k 0)) ∷ cond (eqb 1 r) a (weightOf (m k 1)) ∷ cond (eqb 2 r) a (weightOf (m k 2))
+      ∷ cond (eqb 3 r) a (weightOf (m k 3)) ∷ cond (eqb 4 r) a (weightOf (m k 4)) ∷ []))
       refl refl refl refl refl r (omega arith)
 
   reset-row : (k : ℕ) (b c : Bool) → ltb w k ≡ b → eqb k r ≡ c
-      → pick b (row m k) (pick c (resetRow w r (row m k) (row m 0)) (set (row m k) r (getD (row m k) 0 zeroWeight))) ≡ row (resetM w r m) k
+      → cond b (row m k) (cond c (resetRow w r (row m k) (row m 0)) (set (row m k) r (getD (row m k) 0 zeroWeight))) ≡ row (resetM w r m) k
   unfolding resetRow
   reset-row k true c h e = row-same m (resetM w r m) k (λ l. sym (reset-outside w r m k l (inl (ltb-true w k h))))
   reset-row k false true h e = row-of (resetM w r m) k (entry 0 (omega arith) false (le-ltb w 0 (omega arith)))
@@ -178,7 +172,7 @@ module _ {w r : ℕ} (m : Matrix (Limit ℤ)) (four : w ≤ 4) (hr : r ≤ w) wh
   reset-row k false false h e = ap (set (row m k) r) (in-row m k 0 (omega arith)) ∙ set-row k (weightOf (m k 0))
       ∙ row-of (resetM w r m) k (entry 0) (entry 1) (entry 2) (entry 3) (entry 4)
     where
-      entry : (l : ℕ) → pick (eqb l r) (weightOf (m k 0)) (weightOf (m k l)) ≡ weightOf (resetM w r m k l)
+      entry : (l : ℕ) → cond (eqb l r) (weightOf (m k 0)) (weightOf (m k l)) ≡ weightOf (resetM w r m k l)
       entry l = other-entry k l (ltb-false w k h) e (ltb w l) (eqb l r) refl refl
 
   reset-line : (k : ℕ) → k ≤ 4 → resetLine (table m) w r k ≡ row (resetM w r m) k
@@ -190,36 +184,18 @@ module _ {w r : ℕ} (m : Matrix (Limit ℤ)) (four : w ≤ 4) (hr : r ≤ w) wh
   reset-coded = table-of (resetM w r m) (reset-line 0 (omega arith)) (reset-line 1 (omega arith)) (reset-line 2 (omega arith))
       (reset-line 3 (omega arith)) (reset-line 4 (omega arith))
 
--- a reset where the bit is 1, and where there is such a clock
-abbrev resetBit : ℕ → ℕ → ℕ → Matrix (Limit ℤ) → Matrix (Limit ℤ)
-resetBit w r bit m = pickM (eqb bit 1) (pickM (leb r w) (resetM w r m) m) m
-
 reset-if : (w r bit : ℕ) (m : Matrix (Limit ℤ)) → w ≤ 4 → resetIf (table m) w r bit ≡ table (resetBit w r bit m)
 unfolding resetIf
 reset-if w r bit m four = by (eqb bit 1) (leb r w) refl
   where
-    by : (b c : Bool) → leb r w ≡ c → pick b (pick c (resetTable (table m) w r) (table m)) (table m) ≡ table (pickM b (pickM c (resetM w r m) m) m)
+    by : (b c : Bool) → leb r w ≡ c → cond b (cond c (resetTable (table m) w r) (table m)) (table m) ≡ table (cond b (cond c (resetM w r m) m) m)
     by true true h = reset-coded m four (leb-true r w h)
     by true false h = refl
     by false c h = refl
 
--- all four bits
-abbrev resetBits : ℕ → ℕ → Matrix (Limit ℤ) → Matrix (Limit ℤ)
-resetBits w bits m = resetBit w 4 (bits / 8 % 2) (resetBit w 3 (bits / 4 % 2) (resetBit w 2 (bits / 2 % 2) (resetBit w 1 (bits % 2) m)))
-
-pickM-same : (b : Bool) (m : Matrix (Limit ℤ)) → pickM b m m ≡ m
-pickM-same true m = refl
-pickM-same false m = refl
-
--- bits of clocks that are not there do nothing
-bits-steps : (bits : ℕ) (m : Matrix (Limit ℤ)) (w : ℕ) → w ≤ 4 → resetBits w bits m ≡ resetSteps w bits w m
-unfolding resetSteps
-bits-steps bits m = up-to-4 (λ w. resetBits w bits m ≡ resetSteps w bits w m)
-    (simp pickM-same) (simp (pickM-same, div-one)) (simp (pickM-same, div-one)) (simp (pickM-same, div-one)) (simp div-one)
-
-pub resets-coded : (w bits : ℕ) (m : Matrix (Limit ℤ)) → w ≤ 4 → m 0 0 ≡ zeroW → resetsTable (table m) w bits ≡ table (resetSteps w bits w m)
+pub resets-coded : (w bits : ℕ) (m : Matrix (Limit ℤ)) → w ≤ 4 → m 0 0 ≡ zeroW → resetsTable (table m) w bits ≡ table (resetsM w bits w m)
 unfolding resetsTable
-resets-coded w bits m four e = rw (table-not-void m e) (rw (← bits-steps bits m w four) (rw (reset-if w 1 (bits % 2) m four)
+resets-coded w bits m four e = rw (table-not-void m e) (rw (← bits-resets bits m w four) (rw (reset-if w 1 (bits % 2) m four)
     (rw (reset-if w 2 (bits / 2 % 2) (resetBit w 1 (bits % 2) m) four)
     (rw (reset-if w 3 (bits / 4 % 2) (resetBit w 2 (bits / 2 % 2) (resetBit w 1 (bits % 2) m)) four)
     (reset-if w 4 (bits / 8 % 2) (resetBit w 3 (bits / 4 % 2) (resetBit w 2 (bits / 2 % 2) (resetBit w 1 (bits % 2) m))) four)))))

@@ -1,115 +1,114 @@
--- What the code does step by step (Tables) is the walk of Walk, for every accepted sheet and all parameters from -1,000 to 1,000: `sweep-coded`.
-use mathlib.Core.Path.{_≡_, refl, ap, _∙_}
-use mathlib.Core.List.{List, [], _∷_}
-use Prim.Native.Nat.{ℕ, suc, _+_, _*_, _^_, _≤_, _<_}
+-- What the code does step by step (Tables) is Sweep of Walk, for every accepted sheet and all parameters from -1,000 to 1,000: `sweep-coded`.
+use mathlib.Core.Path.{_≡_, refl, sym, ap, _∙_}
+use mathlib.Core.List.{List, [], _∷_, _++_, map}
+use Prim.Native.Nat.{ℕ, suc, _+_, _^_, _≤_, _<_}
 use native.Mathlib.Omega.{arith}
 use lib.IntN.{ℤ}
-use lib.ListN.{length, getD, take}
-use borrow.Author.Tests.{lt-ltb}
-use Rattle.dbm.specs.Matrix.{Matrix, start, delayed, Outcome, void, kept}
-use Rattle.dbm.specs.Size.{Visit, atMost-more, visit-small}
-use Rattle.expr.specs.Limit.{Limit, none, zeroW}
+use Rattle.dbm.specs.Matrix.{Matrix, start, Outcome, void, kept}
+use Rattle.expr.specs.Limit.{Limit, atV, zeroW}
+use Rattle.expr.specs.Three.{weightOf, limitOf}
 use Rattle.sheet.specs.declared.Guard.{Guard}
 use Rattle.sheet.specs.declared.Sheet.{Sheet}
-use Rattle.sheet.specs.WellFormed.{GuardRight, WellFormed, noLocation}
-use Rattle.timed.specs.Runs.{invariants, guardsOf, transitionAt, routeOf}
-use Rattle.sweep.specs.Tables.{Table, startTable, voidTable, guardTable, guardsTable, resetsTable, stayTable, moveTable, locationC, transitionC, walkTable, sweepTable}
-use Rattle.sweep.specs.Walk.{andThen, guardStep, guardSteps, resetSteps, stay, move, walk, sweepAt}
-use Rattle.sweep.specs.Right.{AllOf, filled-all, invariants-right, guards-right}
-use Rattle.sweep.specs.Sizes.{Thousands, Arrived, Visited, guard-size, size, size-order, size-last, start-arrived, delayed-visited, visited-arrived, guardStep-visit, guardSteps-visit, stay-visited, move-visited, route-short}
+use Rattle.sheet.specs.declared.Transition.{Transition}
+use Rattle.sheet.specs.WellFormed.{WellFormed}
+use Rattle.timed.specs.Automaton.{invariants, guardsOf, transitionAt, routeOf}
+use Rattle.timed.specs.Indexed.{locationC, transitionC, location-in, transition-in}
+use Rattle.timed.specs.Right.{AllOf, StepRight, filled-all, steps-right, route-delays}
+use Rattle.timed.specs.Steps.{Step, delay, guard, resets, staySteps, moveSteps, stepsFrom, stepsOf, delays}
+use Rattle.sweep.specs.Tables.{Table, startTable, voidTable, guardedTable, delayedTable, guardTable, guardsTable, resetsTable, stayTable, moveTable, walkTable, sweepTable}
+use Rattle.sweep.specs.Walk.{andThen, step, walk, sweepAlong, sweepAt}
+use Rattle.sweep.specs.Sizes.{Thousands, Visited, guard-size, start-visited, after, after-delays, step-visited, visited-within}
 use Rattle.sweep.specs.Coded.{row, table, coded}
-use Rattle.sweep.specs.CodedSteps.{delayed-coded, delayed-void, guarded-coded, guards-void, resets-coded, resets-void}
+use Rattle.sweep.specs.CodedSteps.{delayed-coded, delayed-void, guarded-coded, guarded-void, resets-coded, resets-void}
 
--- ---- a step after an outcome: void stays, and a kept matrix takes the step
-pub then-coded : (f : Table → Table) (g : Matrix (Limit ℤ) → Outcome) → f voidTable ≡ voidTable → (o : Outcome)
+-- ---- the code's steps on tables, as one function, and in order
+unfoldable pub stepTable : ℕ → List ℤ → Step → Table → Table
+stepTable w v delay m = delayedTable m w
+stepTable w v (guard visit g) m = guardTable m w v g
+stepTable w v (resets bits) m = resetsTable m w bits
+
+unfoldable pub stepsTable : ℕ → List ℤ → List Step → Table → Table
+stepsTable w v [] m = m
+stepsTable w v (s ∷ steps) m = stepsTable w v steps (stepTable w v s m)
+
+-- ---- void stays, and a kept matrix takes the step
+step-void : (w : ℕ) (v : List ℤ) (s : Step) → stepTable w v s voidTable ≡ voidTable
+unfolding stepTable guardTable
+step-void w v delay = delayed-void w
+step-void w v (guard visit g) = guarded-void w (g .left) (g .right) (weightOf (atV v (limitOf (g .bound))))
+step-void w v (resets bits) = resets-void w bits
+
+steps-void : (w : ℕ) (v : List ℤ) (steps : List Step) → stepsTable w v steps voidTable ≡ voidTable
+unfolding stepsTable
+steps-void w v [] = refl
+steps-void w v (s ∷ steps) = ap (stepsTable w v steps) (step-void w v s) ∙ steps-void w v steps
+
+then-coded : (f : Table → Table) (g : Matrix (Limit ℤ) → Outcome) → f voidTable ≡ voidTable → (o : Outcome)
     → ((m : Matrix (Limit ℤ)) → o ≡ kept m → f (table m) ≡ coded (g m)) → f (coded o) ≡ coded (andThen o g)
 unfolding coded
 then-coded f g z void h = z
 then-coded f g z (kept m) h = h m refl
 
--- ---- guards
--- the first entry, which marks void, is zero
-corner : {w B C : ℕ} {m : Matrix (Limit ℤ)} → Visit w B C m → m 0 0 ≡ zeroW
-corner a = a .closed .diagonal 0 (omega arith)
+module _ (parameters : ℕ) {w : ℕ} (four : w ≤ 4) (v : List ℤ) (h : Thousands v) where
+  step-coded : (s : Step) → StepRight parameters w s → (k : ℕ) → k ≤ 33 → (m : Matrix (Limit ℤ)) → Visited w k m
+      → stepTable w v s (table m) ≡ coded (step w v s m)
+  unfolding stepTable guardTable step coded
+  step-coded delay r k few m a = delayed-coded w m (a .closed .diagonal 0 (omega arith))
+  step-coded (guard visit g) r k few m a =
+      guarded-coded four (r .left) (r .right) (visited-within k few a) (guard-size v r h) (a .closed .diagonal 0 (omega arith))
+  step-coded (resets bits) r k few m a = resets-coded w bits m four (a .closed .diagonal 0 (omega arith))
 
-module _ (parameters : ℕ) {w B : ℕ} (four : w ≤ 4) (room : 2 * (B + 3001000) ≤ 2 ^ 56) (v : List ℤ) (h : Thousands v) where
-  pub guard-coded : (g : Guard) → GuardRight parameters w g → (m : Matrix (Limit ℤ)) → Visit w B 3001000 m
-      → guardTable (table m) w v g ≡ coded (guardStep w v g m)
-  unfolding guardTable guardStep
-  guard-coded g r m a = guarded-coded four (r .left) (r .right) (λ k l hk hl. atMost-more room (visit-small a k l hk hl)) (guard-size v r h) (corner a)
+  -- any right steps, with at most 33 delays
+  pub steps-coded : (steps : List Step) → AllOf (StepRight parameters w) steps → (k : ℕ) → k + delays steps ≤ 33
+      → (m : Matrix (Limit ℤ)) → Visited w k m → stepsTable w v steps (table m) ≡ coded (walk w v steps m)
+  unfolding stepsTable walk coded
+  steps-coded [] r k few m a = refl
+  steps-coded (s ∷ steps) r k few m a =
+      let next = after-delays k s steps in
+      ap (stepsTable w v steps) (step-coded s (r .0) k (omega arith) m a)
+      ∙ then-coded (stepsTable w v steps) (walk w v steps) (steps-void w v steps) (step w v s m)
+      (λ b e. steps-coded steps (r .1) (after k s) (omega arith) b (step-visited parameters v h s (r .0) k a e))
 
-  pub guards-coded : (gs : List Guard) → AllOf (GuardRight parameters w) gs → (m : Matrix (Limit ℤ)) → Visit w B 3001000 m
-      → guardsTable (table m) w v gs ≡ coded (guardSteps w v gs m)
-  unfolding guardsTable guardSteps coded
-  guards-coded [] r m a = refl
-  guards-coded (g ∷ gs) r m a = ap (λ (t : Table). guardsTable t w v gs) (guard-coded g (r .0) m a)
-      ∙ then-coded (λ t. guardsTable t w v gs) (guardSteps w v gs) (guards-void w v gs) (guardStep w v g m)
-      (λ m′ e. guards-coded gs (r .1) m′ (guardStep-visit v (r .0) h a e))
+-- ---- the code's walk makes the steps along the route
+steps-append : (w : ℕ) (v : List ℤ) (xs ys : List Step) (m : Table) → stepsTable w v (xs ++ ys) m ≡ stepsTable w v ys (stepsTable w v xs m)
+unfolding stepsTable
+steps-append w v [] ys m = refl
+steps-append w v (s ∷ xs) ys m = steps-append w v xs ys (stepTable w v s m)
 
--- ---- the code's locations and transitions, in range
-pub location-in : (s : Sheet) (l : ℕ) → l < 16 → locationC s l ≡ getD (s .location) l noLocation
-unfolding locationC
-location-in s l h = rw (lt-ltb l 16 h) refl
+guards-are : (w : ℕ) (v : List ℤ) (visit : ℕ) (gs : List Guard) (m : Table) → guardsTable m w v gs ≡ stepsTable w v (map (guard visit) gs) m
+unfolding guardsTable stepsTable stepTable
+guards-are w v visit [] m = refl
+guards-are w v visit (g ∷ gs) m = guards-are w v visit gs (guardTable m w v g)
 
-pub transition-in : (s : Sheet) (n : ℕ) → n < 32 → transitionC s n ≡ transitionAt s n
-unfolding transitionC
-transition-in s n h = rw (lt-ltb n 32 h) refl
+module _ {s : Sheet} (f : WellFormed s) (v : List ℤ) where
+  stay-is : (visit l : ℕ) → l < s .locations → (m : Table) → stayTable m (s .clocks) v (locationC s l) ≡ stepsTable (s .clocks) v (staySteps s visit l) m
+  unfolding stayTable staySteps stepsTable stepTable invariants
+  stay-is visit l hl m =
+      rw (location-in s l (omega (arith, f .location .few))) (guards-are (s .clocks) v visit (invariants s l) (delayedTable m (s .clocks)))
 
--- room for the numbers of visit k
-room-at : (k : ℕ) → k ≤ 32 → 2 * (size k + 3001000) ≤ 2 ^ 56
-unfolding size
-room-at k h = omega (arith, size-order (suc k) 33 (omega arith), size-last)
-
--- ---- void stays void
-pub stay-void : (s : Sheet) (v : List ℤ) (l : ℕ) → stayTable voidTable (s .clocks) v (locationC s l) ≡ voidTable
-unfolding stayTable
-stay-void s v l = rw (delayed-void (s .clocks)) (guards-void (s .clocks) v (take (locationC s l .count) (locationC s l .guards)))
-
-pub move-void : (s : Sheet) (v : List ℤ) (n : ℕ) → moveTable voidTable (s .clocks) v (transitionC s n) ≡ voidTable
-unfolding moveTable
-move-void s v n = rw (guards-void (s .clocks) v (take (transitionC s n .count) (transitionC s n .guards))) (resets-void (s .clocks) (transitionC s n .resets))
-
-pub walk-void : (s : Sheet) (v : List ℤ) (ns : List ℕ) (l : ℕ) → walkTable s v l ns voidTable ≡ voidTable
-unfolding walkTable
-walk-void s v [] l = stay-void s v l
-walk-void s v (n ∷ ns) l = rw (stay-void s v l, move-void s v n) (walk-void s v ns (transitionC s n .to))
-
--- ---- a stay, a transition, the rest of a route
-module _ {s : Sheet} (f : WellFormed s) (v : List ℤ) (h : Thousands v) where
-  pub stay-coded : (l k : ℕ) → l < s .locations → k ≤ 32 → (m : Matrix (Limit ℤ)) → Arrived (s .clocks) k m
-      → stayTable (table m) (s .clocks) v (locationC s l) ≡ coded (stay s v l m)
-  unfolding stayTable stay invariants
-  stay-coded l k hl hk m a =
-      let b = delayed-visited k a in
-      rw (location-in s l (omega (arith, f .location .few)), delayed-coded (s .clocks) m (a .0 .diagonal 0 (omega arith)))
-      (guards-coded (s .parameters) (f .clocks) (room-at k hk) v h (invariants s l) (invariants-right f l) (delayed (s .clocks) none m) b)
-
-  pub move-coded : (n k : ℕ) → n < s .transitions → k ≤ 32 → (m : Matrix (Limit ℤ)) → Visited (s .clocks) k m
-      → moveTable (table m) (s .clocks) v (transitionC s n) ≡ coded (move s v n m)
-  unfolding moveTable move guardsOf coded
-  move-coded n k hn hk m a =
-      let w = s .clocks in
+  move-is : (visit n : ℕ) → n < s .transitions → (m : Table) → moveTable m (s .clocks) v (transitionC s n) ≡ stepsTable (s .clocks) v (moveSteps s visit n) m
+  unfolding moveTable moveSteps stepsTable stepTable guardsOf
+  move-is visit n hn m =
       let bits = transitionAt s n .resets in
       rw (transition-in s n (omega (arith, f .transition .few)))
-      (ap (λ (t : Table). resetsTable t w bits) (guards-coded (s .parameters) (f .clocks) (room-at k hk) v h (guardsOf s n) (guards-right f n) m a)
-      ∙ then-coded (λ t. resetsTable t w bits) (λ b. kept (resetSteps w bits w b)) (resets-void w bits) (guardSteps w v (guardsOf s n) m)
-      (λ b e. resets-coded w bits b (f .clocks) (corner (guardSteps-visit (s .parameters) v (guardsOf s n) (guards-right f n) h a e))))
+      (ap (λ (t : Table). resetsTable t (s .clocks) bits) (guards-are (s .clocks) v visit (guardsOf s n) m)
+      ∙ sym (steps-append (s .clocks) v (map (guard visit) (guardsOf s n)) (resets bits ∷ []) m))
 
-  pub walk-coded : (ns : List ℕ) → AllOf (λ n. n < s .transitions) ns → (l k : ℕ) → l < s .locations → k + length ns ≤ 32
-      → (m : Matrix (Limit ℤ)) → Arrived (s .clocks) k m → walkTable s v l ns (table m) ≡ coded (walk s v l ns m)
-  unfolding walkTable walk
-  walk-coded [] r l k hl hk m a = stay-coded l k hl (omega arith) m a
-  walk-coded (n ∷ ns) (hn, r) l k hl hk m a =
+  walk-is : (ns : List ℕ) → AllOf (λ n. n < s .transitions) ns → (visit l : ℕ) → l < s .locations → (m : Table)
+      → walkTable s v l ns m ≡ stepsTable (s .clocks) v (stepsFrom s visit l ns) m
+  unfolding walkTable stepsFrom
+  walk-is [] r visit l hl m = stay-is visit l hl m
+  walk-is (n ∷ ns) (hn, r) visit l hl m =
       let w = s .clocks in
-      let t = transitionC s n in
-      let to = transition-in s n (omega (arith, f .transition .few)) in
-      ap (λ (c : Table). walkTable s v (t .to) ns (moveTable c w v t)) (stay-coded l k hl (omega arith) m a)
-      ∙ then-coded (λ c. walkTable s v (t .to) ns (moveTable c w v t)) (λ b. andThen (move s v n b) (walk s v (transitionAt s n .to) ns))
-      (rw (move-void s v n) (walk-void s v ns (t .to))) (stay s v l m)
-      (λ b e. let x = stay-visited f v h l k a e in
-      ap (walkTable s v (t .to) ns) (move-coded n k hn (omega arith) b x)
-      ∙ rw to (then-coded (walkTable s v (transitionAt s n .to) ns) (walk s v (transitionAt s n .to) ns) (walk-void s v ns (transitionAt s n .to)) (move s v n b)
-      (λ c g. walk-coded ns r (transitionAt s n .to) (suc k) (f .transition .each n hn .to) (omega arith) c (visited-arrived k (move-visited f v h n k x g)))))
+      let to = transitionAt s n .to in
+      let rest = stepsFrom s (suc visit) to ns in
+      ap (λ (k : ℕ). walkTable s v k ns (moveTable (stayTable m w v (locationC s l)) w v (transitionC s n)))
+      (ap (λ (t : Transition). t .to) (transition-in s n (omega (arith, f .transition .few))))
+      ∙ ap (λ (t : Table). walkTable s v to ns (moveTable t w v (transitionC s n))) (stay-is visit l hl m)
+      ∙ ap (walkTable s v to ns) (move-is visit n hn (stepsTable w v (staySteps s visit l) m))
+      ∙ walk-is ns r (suc visit) to (f .transition .each n hn .to) (stepsTable w v (moveSteps s visit n) (stepsTable w v (staySteps s visit l) m))
+      ∙ sym (steps-append w v (moveSteps s visit n) rest (stepsTable w v (staySteps s visit l) m))
+      ∙ sym (steps-append w v (staySteps s visit l) (moveSteps s visit n ++ rest) m)
 
 start-table : table start ≡ startTable
 unfolding table row start
@@ -117,7 +116,8 @@ start-table = refl
 
 -- the code's table of the whole route is that of Sweep's outcome
 pub sweep-coded : (s : Sheet) → WellFormed s → (v : List ℤ) → Thousands v → sweepTable s v ≡ coded (sweepAt s v)
-unfolding sweepTable sweepAt routeOf
+unfolding sweepTable sweepAt sweepAlong stepsOf routeOf
 sweep-coded s f v h =
-    let short = route-short f in
-    rw (← start-table) (walk-coded f v h (routeOf s) (filled-all (f .route)) 0 0 (omega (arith, f .some-location)) (omega arith) start (start-arrived (s .clocks)))
+    walk-is f v (routeOf s) (filled-all (f .route)) 0 0 (omega (arith, f .some-location)) startTable
+    ∙ ap (stepsTable (s .clocks) v (stepsOf s (routeOf s))) (sym start-table)
+    ∙ steps-coded (s .parameters) (f .clocks) v h (stepsOf s (routeOf s)) (steps-right f (routeOf s)) 0 (omega (arith, route-delays f)) start (start-visited (s .clocks))

@@ -18,16 +18,19 @@ use Rattle.sweep.specs.Coded.{coded, row-at, table-not-void}
 use Rattle.sweep.specs.CodedWalk.{sweep-coded}
 use Rattle.sweep.specs.Reply.{swept, outside, orOutside, sheetReply}
 use Rattle.sweep.specs.ReplyLaws.{outside-none}
-use Rattle.sweep.specs.Sizes.{Thousands, start-arrived, walk-visited}
+use Rattle.sweep.specs.Sizes.{Thousands, start-visited, walk-visited}
 use Rattle.sweep.specs.TableReply.{sweptTable, sheetTable}
 use Rattle.sweep.specs.Tables.{sweepTable}
-use Rattle.sweep.specs.Walk.{sweepAt}
-use Rattle.timed.specs.Runs.{routeOf}
+use Rattle.sweep.specs.Walk.{sweepAlong, sweepAt}
+use Rattle.timed.specs.Automaton.{routeOf}
+use Rattle.timed.specs.Right.{steps-right}
+use Rattle.timed.specs.Steps.{stepsOf}
 
 -- a matrix that Sweep comes to is zero at (0, 0)
 first-zero : {s : Sheet} → WellFormed s → (v : List ℤ) → Thousands v → (m : Matrix (Limit ℤ)) → sweepAt s v ≡ kept m → m 0 0 ≡ zeroW
-unfolding sweepAt
-first-zero {s} f v h m e = walk-visited f v h (routeOf s) 0 0 (start-arrived (s .clocks)) e .closed .diagonal 0 zero-le
+unfolding sweepAt sweepAlong
+first-zero {s} f v h m e =
+    walk-visited (s .parameters) v h (stepsOf s (routeOf s)) (steps-right f (routeOf s)) 0 (start-visited (s .clocks)) e .closed .diagonal 0 zero-le
 
 swept-coded : (o : Outcome) → ((m : Matrix (Limit ℤ)) → o ≡ kept m → m 0 0 ≡ zeroW) → sweptTable (coded o) ≡ swept o
 unfolding sweptTable coded swept

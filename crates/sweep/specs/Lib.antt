@@ -10,7 +10,6 @@ pub mod Padding
 pub mod Proofs
 pub mod Reply
 pub mod ReplyLaws
-pub mod Right
 pub mod Route
 pub mod Sizes
 pub mod Steps

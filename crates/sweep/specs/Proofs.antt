@@ -1,4 +1,4 @@
--- The proofs of `Claims`: Sweep's walk against runs.
+-- The proofs of `Claims`: Sweep against runs, along any route.
 use mathlib.Core.Path.{_≡_, refl, sym, subst, _∙_}
 use mathlib.Core.List.{List}
 use mathlib.Core.Bool.{true, false}
@@ -13,11 +13,15 @@ use Rattle.dbm.specs.Tight.{closed-tight, times-reached, times-above, times-nea
 use Rattle.expr.specs.Limit.{Limit, none, limit, zeroW}
 use Rattle.sheet.specs.declared.Sheet.{Sheet}
 use Rattle.sheet.specs.WellFormed.{WellFormed}
-use Rattle.timed.specs.Runs.{Clocks, begin, routeOf, Run, difference, Tightest}
-use Rattle.sweep.specs.Walk.{sweepAt}
-use Rattle.sweep.specs.Claims.{VoidIffNoRun, EntriesTightest}
-use Rattle.sweep.specs.Moves.{Same, Moves}
-use Rattle.sweep.specs.Route.{Way, way-stable, walk-moves}
+use Rattle.timed.specs.Automaton.{routeOf}
+use Rattle.timed.specs.Right.{steps-right}
+use Rattle.timed.specs.Runs.{Clocks, begin, Leads, RunAlong, difference, TightestAlong}
+use Rattle.timed.specs.Steps.{stepsOf}
+use Rattle.sweep.specs.Walk.{sweepAlong, sweepAt}
+use Rattle.sweep.specs.Claims.{AlongRight, VoidIffNoRun, EntriesTightest}
+use Rattle.sweep.specs.Moves.{Relation, Same, Moves}
+use Rattle.sweep.specs.Route.{leads-along, along-leads}
+use Rattle.sweep.specs.Steps.{Along, along-stable, walk-moves}
 
 -- ---- the start
 begin-state : {D : ℕ} → 1 ≤ D → State D begin
@@ -39,51 +43,64 @@ start-same {w} {D} {x} s h i hi = no-more (x i) (x 0) (h i 0 hi (omega arith)) (
 
 -- ---- runs and the states of the last matrix
 -- a run whose end is the state y, times some factor
-record Ran (s : Sheet) (v : List ℤ) (D : ℕ) (y : Clocks) : Type 0 where
+record Ran (s : Sheet) (route : List ℕ) (v : List ℤ) (D : ℕ) (y : Clocks) : Type 0 where
   factor : ℕ
   some : 1 ≤ factor
-  run : Run s v
+  run : RunAlong s route v
   parts : run .parts ≡ factor * D
   ends : Same (s .clocks) (run .end) (times factor y)
 
-ran-difference : {s : Sheet} {v : List ℤ} {D : ℕ} {y : Clocks} (r : Ran s v D y) (i j : ℕ) → i ≤ s .clocks → j ≤ s .clocks
+ran-difference : {s : Sheet} {route : List ℕ} {v : List ℤ} {D : ℕ} {y : Clocks} (r : Ran s route v D y) (i j : ℕ) → i ≤ s .clocks → j ≤ s .clocks
     → difference i j (r .run) ≡ pos (r .factor) *ℤ (y i -ℤ y j)
 ran-difference {y = y} r i j hi hj = rw (r .ends i hi, r .ends j hj) (difference-times (r .factor) y i j)
 
-module _ {s : Sheet} (f : WellFormed s) (v : List ℤ) where
-  -- the walk's outcome is right for runs
+module _ {s : Sheet} (f : WellFormed s) (route : List ℕ) (v : List ℤ) where
+  -- the outcome is right for the steps along the route
+  abbrev Steps : Relation
+  Steps = Along v (stepsOf s route)
+
   abbrev Runs : Outcome → Type 0
-  Runs = Moves (s .clocks) start (Way s v 0 (routeOf s))
+  Runs = Moves (s .clocks) start Steps
 
-  sweep-moves : Runs (sweepAt s v)
-  unfolding sweepAt
-  sweep-moves = walk-moves f v (routeOf s) 0 start (start-closed (s .clocks))
+  sweep-moves : Runs (sweepAlong s route v)
+  unfolding sweepAlong
+  sweep-moves = walk-moves (s .parameters) v (stepsOf s route) (steps-right f route) start (start-closed (s .clocks))
 
-  void-no-run : Runs void → Run s v → ⊥
-  void-no-run a r = a (r .parts) begin (r .end) (begin-state (r .some-part)) (begin-met (s .clocks) (r .parts)) (r .leads)
+  -- a run makes these steps, and they lead where a run goes
+  run-steps : (r : RunAlong s route v) → Steps (r .parts) begin (r .end)
+  unfolding stepsOf
+  run-steps r = leads-along s v route 0 0 (r .parts) begin (r .end) (r .leads)
+
+  steps-lead : (D : ℕ) (y : Clocks) → Steps D begin y → Leads s v D 0 route begin y
+  unfolding stepsOf
+  steps-lead D y l = along-leads s v route 0 0 D begin y l
+
+  void-no-run : Runs void → RunAlong s route v → ⊥
+  void-no-run a r = a (r .parts) begin (r .end) (begin-state (r .some-part)) (begin-met (s .clocks) (r .parts)) (run-steps r)
 
   module _ {m : Matrix (Limit ℤ)} (a : Runs (kept m)) where
-    run-meets : (r : Run s v) → Meets (s .clocks) m (r .parts) (r .end)
-    run-meets r = a .forward (r .parts) begin (r .end) (begin-state (r .some-part)) (begin-met (s .clocks) (r .parts)) (r .leads) .1
+    run-meets : (r : RunAlong s route v) → Meets (s .clocks) m (r .parts) (r .end)
+    run-meets r = a .forward (r .parts) begin (r .end) (begin-state (r .some-part)) (begin-met (s .clocks) (r .parts)) (run-steps r) .1
 
-    state-run : {D : ℕ} {y : Clocks} → State D y → Meets (s .clocks) m D y → Ran s v D y
+    state-run : {D : ℕ} {y : Clocks} → State D y → Meets (s .clocks) m D y → Ran s route v D y
     state-run {D} {y} t h =
         let c = a .back D y t h in
-        let (z, l, e) = way-stable f v (routeOf s) 0 .same (c .factor * D) (c .before) begin (c .after) (start-same (c .state) (c .meets)) (c .leads) in
+        let stable = along-stable (s .parameters) v (stepsOf s route) (steps-right f route) in
+        let (z, l, e) = stable .same (c .factor * D) (c .before) begin (c .after) (start-same (c .state) (c .meets)) (c .leads) in
         record {
           factor = c .factor;
           some = c .some;
-          run = record { parts = c .factor * D; some-part = c .state .parts; end = z; leads = l };
+          run = record { parts = c .factor * D; some-part = c .state .parts; end = z; leads = steps-lead (c .factor * D) z l };
           parts = refl;
           ends = λ i hi. sym (e i hi) ∙ c .same i hi;
         }
 
-    some-run : Run s v
+    some-run : RunAlong s route v
     some-run = let (D, y, t, h) = closed-state (s .clocks) (a .closed) in state-run t h .run
 
     -- ---- tightest
     module _ (i j : ℕ) (hi : i ≤ s .clocks) (hj : j ≤ s .clocks) where
-      by-weight : (b : Limit ℤ) → m i j ≡ b → Reached (s .clocks) m i j b → Tightest s v i j b
+      by-weight : (b : Limit ℤ) → m i j ≡ b → Reached (s .clocks) m i j b → TightestAlong s route v i j b
       by-weight none e g = λ N.
           let (D, y, t, h, k) = g N in
           let r = state-run t h in
@@ -102,18 +119,26 @@ module _ {s : Sheet} (f : WellFormed s) (v : List ℤ) where
             (r .run, rw (r .parts, ran-difference r i j hi hj) (times-reached (r .factor) D (y i -ℤ y j) c k)),
       )
 
-      tightest : Tightest s v i j (m i j)
+      tightest : TightestAlong s route v i j (m i j)
       tightest = by-weight (m i j) refl (closed-tight (a .closed) hi hj)
 
-  no-run-void : (r : Outcome) → Runs r → (Run s v → ⊥) → r ≡ void
+  no-run-void : (r : Outcome) → Runs r → (RunAlong s route v → ⊥) → r ≡ void
   no-run-void void a h = refl
   no-run-void (kept m) a h = absurd (h (some-run a))
 
-pub void-iff-no-run : VoidIffNoRun
-void-iff-no-run s f v = (
-  λ e. void-no-run f v (subst (Runs f v) e (sweep-moves f v)),
-  λ h. no-run-void f v (sweepAt s v) (sweep-moves f v) h,
+pub along-right : (s : Sheet) → WellFormed s → (route : List ℕ) (v : List ℤ) → AlongRight s route v
+along-right s f route v = (
+  (
+    λ e. void-no-run f route v (subst (Runs f route v) e (sweep-moves f route v)),
+    λ h. no-run-void f route v (sweepAlong s route v) (sweep-moves f route v) h,
+  ),
+  λ m e i j hi hj. tightest f route v (subst (Runs f route v) e (sweep-moves f route v)) i j hi hj,
 )
 
+pub void-iff-no-run : VoidIffNoRun
+unfolding sweepAt
+void-iff-no-run s f v = along-right s f (routeOf s) v .0
+
 pub entries-tightest : EntriesTightest
-entries-tightest s f v m e i j hi hj = tightest f v (subst (Runs f v) e (sweep-moves f v)) i j hi hj
+unfolding sweepAt
+entries-tightest s f v = along-right s f (routeOf s) v .1

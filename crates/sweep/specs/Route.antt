@@ -1,134 +1,91 @@
--- A whole route: runs along it against Sweep's walk, from any closed matrix.
-use mathlib.Core.Path.{_≡_, refl, ap, _∙_}
-use mathlib.Core.List.{List, [], _∷_}
-use Prim.Native.Nat.{ℕ, _*_, _≤_}
-use lib.IntN.{ℤ, pos, _*ℤ_}
-use Rattle.dbm.specs.Matrix.{Matrix, delayed, kept, times, Closed}
-use Rattle.expr.specs.Limit.{Limit, none}
+-- Runs against the steps along a route: what leads from these clock values to those is the same. This alone looks at how the steps are made.
+use mathlib.Core.Path.{_≡_, refl, sym, ap, subst, fun-ext, _∙_}
+use mathlib.Core.List.{List, [], _∷_, _++_, map}
+use Prim.Native.Nat.{ℕ, suc}
+use lib.IntN.{ℤ}
+use Rattle.sheet.specs.declared.Guard.{Guard}
 use Rattle.sheet.specs.declared.Sheet.{Sheet}
-use Rattle.sheet.specs.WellFormed.{WellFormed}
-use Rattle.timed.specs.Runs.{Clocks, waited, afterResets, invariants, guardsOf, transitionAt, Leads}
-use Rattle.sweep.specs.Walk.{andThen, guardSteps, resetSteps, stay, move, walk}
-use Rattle.sweep.specs.Right.{invariants-right, guards-right}
-use Rattle.sweep.specs.Moves.{Relation, Same, Then, Stable, Moves, andThen-moves, then-stable, moves-as}
-use Rattle.sweep.specs.Steps.{Waits, waits-moves, times-waited, waited-same, Guarded, guards-moves, all-times, all-same, guards-stable, Resets, resets-moves, times-resets, resets-same, resets-stable}
+use Rattle.timed.specs.Automaton.{invariants, guardsOf, transitionAt}
+use Rattle.timed.specs.Runs.{Clocks, waited, afterResets, AllHold, Leads}
+use Rattle.timed.specs.Steps.{Step, delay, guard, resets, staySteps, moveSteps, stepsFrom}
+use Rattle.sweep.specs.Moves.{Then}
+use Rattle.sweep.specs.Steps.{Along}
 
--- a stay, a transition, and a run's way along a route, as relations
-abbrev pub Stays : Sheet → List ℤ → ℕ → Relation
-Stays s v l = Then Waits (Guarded v (invariants s l))
+-- ---- one list of steps after another
+module _ (v : List ℤ) where
+  join : (xs ys : List Step) (D : ℕ) (x z y : Clocks) → Along v xs D x z → Along v ys D z y → Along v (xs ++ ys) D x y
+  unfolding Along
+  join [] ys D x z y (u, e) b = subst (λ (c : Clocks). Along v ys D c y) e b
+  join (s ∷ xs) ys D x z y (c, a, r) b = (c, a, join xs ys D c z y r b)
 
-abbrev pub Goes : Sheet → List ℤ → ℕ → Relation
-Goes s v n = Then (Guarded v (guardsOf s n)) (Resets (transitionAt s n .resets))
+  split : (xs ys : List Step) (D : ℕ) (x y : Clocks) → Along v (xs ++ ys) D x y → Then (Along v xs) (Along v ys) D x y
+  unfolding Along
+  split [] ys D x y a = (x, (tt, refl), a)
+  split (s ∷ xs) ys D x y (c, a, r) = let (z, b, q) = split xs ys D c y r in (z, (c, a, b), q)
 
-abbrev pub Way : Sheet → List ℤ → ℕ → List ℕ → Relation
-Way s v l ns D = Leads s v D l ns
+  -- ---- guards
+  guards-to : (visit : ℕ) (gs : List Guard) (D : ℕ) (x : Clocks) → AllHold D v x gs → Along v (map (guard visit) gs) D x x
+  unfolding Along
+  guards-to visit [] D x h = (tt, refl)
+  guards-to visit (g ∷ gs) D x h = (x, (h .0, refl), guards-to visit gs D x (h .1))
 
--- a stay, a transition, and the way from there
-abbrev First : Sheet → List ℤ → ℕ → ℕ → List ℕ → Relation
-First s v l n ns = Then (Stays s v l) (Then (Goes s v n) (Way s v (transitionAt s n .to) ns))
+  guards-from : (visit : ℕ) (gs : List Guard) (D : ℕ) (x y : Clocks) → Along v (map (guard visit) gs) D x y → AllHold D v x gs × (y ≡ x)
+  unfolding Along
+  guards-from visit [] D x y (u, e) = (tt, e)
+  guards-from visit (g ∷ gs) D x y (z, (h, e), a) =
+      let (k, f) = guards-from visit gs D x y (subst (λ (c : Clocks). Along v (map (guard visit) gs) D c y) e a) in
+      ((h, k), f)
 
-module _ {s : Sheet} (f : WellFormed s) (v : List ℤ) where
-  -- ---- a run with all values multiplied, and one from the same values
-  leads-times : (ns : List ℕ) (l K D : ℕ) (x y : Clocks) → 1 ≤ K → Leads s v D l ns x y → Leads s v (K * D) l ns (times K x) (times K y)
-  unfolding Leads times
-  leads-times [] l K D x y g (d, h, e) = (
-    K * d,
-    rw (← times-waited K d x) (all-times s v K D (waited d x) g (invariants s l) (invariants-right f l) h),
-    λ i. rw (← times-waited K d x) (ap (λ (z : ℤ). pos K *ℤ z) (e i)),
-  )
-  leads-times (n ∷ ns) l K D x y g (d, h, k, r) = (
-    K * d,
-    rw (← times-waited K d x) (all-times s v K D (waited d x) g (invariants s l) (invariants-right f l) h),
-    rw (← times-waited K d x) (all-times s v K D (waited d x) g (guardsOf s n) (guards-right f n) k),
-    rw (← times-waited K d x, ← times-resets K (transitionAt s n .resets) (waited d x))
-        (leads-times ns (transitionAt s n .to) K D (afterResets (transitionAt s n .resets) (waited d x)) y g r),
-  )
-
-  leads-same : (ns : List ℕ) (l D : ℕ) (x x′ y : Clocks) → Same (s .clocks) x x′ → Leads s v D l ns x y
-      → (y′ : Clocks) × Leads s v D l ns x′ y′ × Same (s .clocks) y y′
-  unfolding Leads
-  leads-same [] l D x x′ y e (d, h, k) =
-      let t = waited-same d e in
-      (waited d x′, (d, all-same s v D (waited d x) (waited d x′) t (invariants s l) (invariants-right f l) h, λ i. refl), λ i hi. k i ∙ t i hi)
-  leads-same (n ∷ ns) l D x x′ y e (d, h, k, r) =
-      let bits = transitionAt s n .resets in
-      let t = waited-same d e in
-      let (y′, q, u) =
-      leads-same ns (transitionAt s n .to) D (afterResets bits (waited d x)) (afterResets bits (waited d x′)) y (resets-same bits t) r in
-      let a = all-same s v D (waited d x) (waited d x′) t (invariants s l) (invariants-right f l) h in
-      let b = all-same s v D (waited d x) (waited d x′) t (guardsOf s n) (guards-right f n) k in
-      (y′, (d, a, b, q), u)
-
-  pub way-stable : (ns : List ℕ) (l : ℕ) → Stable (s .clocks) (Way s v l ns)
-  way-stable ns l = record { scales = leads-times ns l; same = leads-same ns l }
-
+module _ (s : Sheet) (v : List ℤ) where
   -- ---- a stay and a transition
-  pub stay-moves : (l : ℕ) (m : Matrix (Limit ℤ)) → Closed (s .clocks) m → Moves (s .clocks) m (Stays s v l) (stay s v l m)
-  unfolding stay
-  stay-moves l m c = andThen-moves (s .clocks) m Waits (Guarded v (invariants s l)) (guardSteps (s .clocks) v (invariants s l))
-      (guards-stable s v (invariants s l) (invariants-right f l))
-      (guards-moves s v (invariants s l) (invariants-right f l))
-      (kept (delayed (s .clocks) none m))
-      (waits-moves c)
+  stay-to : (visit l D d : ℕ) (x : Clocks) → AllHold D v (waited d x) (invariants s l) → Along v (staySteps s visit l) D x (waited d x)
+  unfolding staySteps Along
+  stay-to visit l D d x h = (waited d x, (d, refl), guards-to v visit (invariants s l) D (waited d x) h)
 
-  pub move-moves : (n : ℕ) (m : Matrix (Limit ℤ)) → Closed (s .clocks) m → Moves (s .clocks) m (Goes s v n) (move s v n m)
-  unfolding move
-  move-moves n m c = andThen-moves (s .clocks) m (Guarded v (guardsOf s n)) (Resets (transitionAt s n .resets))
-      (λ b. kept (resetSteps (s .clocks) (transitionAt s n .resets) (s .clocks) b))
-      (resets-stable (s .clocks) (transitionAt s n .resets))
-      (λ b k. resets-moves (transitionAt s n .resets) k)
-      (guardSteps (s .clocks) v (guardsOf s n) m)
-      (guards-moves s v (guardsOf s n) (guards-right f n) m c)
+  stay-from : (visit l D : ℕ) (x y : Clocks) → Along v (staySteps s visit l) D x y
+      → (d : ℕ) × AllHold D v (waited d x) (invariants s l) × (y ≡ waited d x)
+  unfolding staySteps Along
+  stay-from visit l D x y (z, (d, e), a) =
+      let (h, f) = guards-from v visit (invariants s l) D z y a in
+      (d, subst (λ (c : Clocks). AllHold D v c (invariants s l)) e h, f ∙ e)
 
-  goes-stable : (n : ℕ) → Stable (s .clocks) (Goes s v n)
-  goes-stable n = then-stable (Guarded v (guardsOf s n)) (Resets (transitionAt s n .resets))
-      (guards-stable s v (guardsOf s n) (guards-right f n))
-      (resets-stable (s .clocks) (transitionAt s n .resets))
+  abbrev reset : ℕ → Clocks → Clocks
+  reset n x = afterResets (transitionAt s n .resets) x
 
-  -- ---- the last stay is the way along an empty route; a stay and a transition begin a longer one
-  last-to : (l D : ℕ) (x y : Clocks) → Stays s v l D x y → (y′ : Clocks) × Leads s v D l [] x y′ × Same (s .clocks) y y′
-  unfolding Leads
-  last-to l D x y (z, (d, e), (h, k)) = (y, (d, rw e at h, λ i. ap (λ (u : Clocks). u i) (k ∙ e)), λ i hi. refl)
+  move-to : (visit n D : ℕ) (x : Clocks) → AllHold D v x (guardsOf s n) → Along v (moveSteps s visit n) D x (reset n x)
+  unfolding moveSteps Along
+  move-to visit n D x h =
+      join v (map (guard visit) (guardsOf s n)) (resets (transitionAt s n .resets) ∷ []) D x x (reset n x)
+      (guards-to v visit (guardsOf s n) D x h) (reset n x, refl, (tt, refl))
 
-  last-from : (l D : ℕ) (x y : Clocks) → Leads s v D l [] x y → (y′ : Clocks) × Stays s v l D x y′ × Same (s .clocks) y y′
-  unfolding Leads
-  last-from l D x y (d, h, e) = (waited d x, (waited d x, (d, refl), (h, refl)), λ i hi. e i)
+  move-from : (visit n D : ℕ) (x y : Clocks) → Along v (moveSteps s visit n) D x y → AllHold D v x (guardsOf s n) × (y ≡ reset n x)
+  unfolding moveSteps Along
+  move-from visit n D x y a =
+      let (z, b, (c, e, (u, f))) = split v (map (guard visit) (guardsOf s n)) (resets (transitionAt s n .resets) ∷ []) D x y a in
+      let (h, g) = guards-from v visit (guardsOf s n) D x z b in
+      (h, f ∙ e ∙ ap (reset n) g)
 
-  first-to : (n : ℕ) (ns : List ℕ) (l D : ℕ) (x y : Clocks) → First s v l n ns D x y
-      → (y′ : Clocks) × Leads s v D l (n ∷ ns) x y′ × Same (s .clocks) y y′
-  unfolding Leads
-  first-to n ns l D x y (z, (z₀, (d, e₀), (h, e₁)), (z₂, (z₁, (k, e₂), e₃), r)) =
-      let e : z₂ ≡ afterResets (transitionAt s n .resets) (waited d x) = rw (e₃, e₂, e₁, e₀) refl in
-      (y, (d, rw e₀ at h, rw (e₁, e₀) at k, rw e at r), λ i hi. refl)
+  -- ---- the rest of a route
+  pub leads-along : (ns : List ℕ) (visit l D : ℕ) (x y : Clocks) → Leads s v D l ns x y → Along v (stepsFrom s visit l ns) D x y
+  unfolding Leads stepsFrom
+  leads-along [] visit l D x y (d, h, e) =
+      subst (λ (c : Clocks). Along v (staySteps s visit l) D x c) (sym (fun-ext e)) (stay-to visit l D d x h)
+  leads-along (n ∷ ns) visit l D x y (d, h, k, r) =
+      let rest = stepsFrom s (suc visit) (transitionAt s n .to) ns in
+      join v (staySteps s visit l) (moveSteps s visit n ++ rest) D x (waited d x) y (stay-to visit l D d x h)
+      (join v (moveSteps s visit n) rest D (waited d x) (reset n (waited d x)) y (move-to visit n D (waited d x) k)
+      (leads-along ns (suc visit) (transitionAt s n .to) D (reset n (waited d x)) y r))
 
-  first-from : (n : ℕ) (ns : List ℕ) (l D : ℕ) (x y : Clocks) → Leads s v D l (n ∷ ns) x y
-      → (y′ : Clocks) × First s v l n ns D x y′ × Same (s .clocks) y y′
-  unfolding Leads
-  first-from n ns l D x y (d, h, k, r) =
-      let stays : Stays s v l D x (waited d x) = (waited d x, (d, refl), (h, refl)) in
-      let goes : Goes s v n D (waited d x) (afterResets (transitionAt s n .resets) (waited d x)) = (waited d x, (k, refl), refl) in
-      (y, (waited d x, stays, (afterResets (transitionAt s n .resets) (waited d x), goes, r)), λ i hi. refl)
-
-  -- ---- the walk is right for the way
-  -- the way after a stay, from what the walk is worth along the rest of the route
-  rest-moves : (n : ℕ) (ns : List ℕ)
-      → ((m : Matrix (Limit ℤ)) → Closed (s .clocks) m → Moves (s .clocks) m (Way s v (transitionAt s n .to) ns) (walk s v (transitionAt s n .to) ns m))
-      → (m : Matrix (Limit ℤ)) → Closed (s .clocks) m
-      → Moves (s .clocks) m (Then (Goes s v n) (Way s v (transitionAt s n .to) ns)) (andThen (move s v n m) (walk s v (transitionAt s n .to) ns))
-  rest-moves n ns a m c = andThen-moves (s .clocks) m (Goes s v n) (Way s v (transitionAt s n .to) ns) (walk s v (transitionAt s n .to) ns)
-      (way-stable ns (transitionAt s n .to))
-      a
-      (move s v n m)
-      (move-moves n m c)
-
-  pub walk-moves : (ns : List ℕ) (l : ℕ) (m : Matrix (Limit ℤ)) → Closed (s .clocks) m → Moves (s .clocks) m (Way s v l ns) (walk s v l ns m)
-  unfolding walk
-  walk-moves [] l m c = moves-as (s .clocks) m (Stays s v l) (Way s v l []) (last-to l) (last-from l) (stay s v l m) (stay-moves l m c)
-  walk-moves (n ∷ ns) l m c =
-      let rest = Then (Goes s v n) (Way s v (transitionAt s n .to) ns) in
-      let stable = then-stable (Goes s v n) (Way s v (transitionAt s n .to) ns) (goes-stable n) (way-stable ns (transitionAt s n .to)) in
-      moves-as (s .clocks) m (First s v l n ns) (Way s v l (n ∷ ns)) (first-to n ns l) (first-from n ns l) (walk s v l (n ∷ ns) m)
-      (andThen-moves (s .clocks) m (Stays s v l) rest (λ b. andThen (move s v n b) (walk s v (transitionAt s n .to) ns)) stable
-      (rest-moves n ns (walk-moves ns (transitionAt s n .to)))
-      (stay s v l m)
-      (stay-moves l m c))
+  pub along-leads : (ns : List ℕ) (visit l D : ℕ) (x y : Clocks) → Along v (stepsFrom s visit l ns) D x y → Leads s v D l ns x y
+  unfolding Leads stepsFrom
+  along-leads [] visit l D x y a =
+      let (d, h, e) = stay-from visit l D x y a in
+      (d, h, λ i. ap (λ (c : Clocks). c i) e)
+  along-leads (n ∷ ns) visit l D x y a =
+      let rest = stepsFrom s (suc visit) (transitionAt s n .to) ns in
+      let (z₁, a₁, b) = split v (staySteps s visit l) (moveSteps s visit n ++ rest) D x y a in
+      let (z₂, a₂, c) = split v (moveSteps s visit n) rest D z₁ y b in
+      let (d, h, e) = stay-from visit l D x z₁ a₁ in
+      let (k, f) = move-from visit n D z₁ z₂ a₂ in
+      (d, h, subst (λ (q : Clocks). AllHold D v q (guardsOf s n)) e k,
+      subst (λ (q : Clocks). Leads s v D (transitionAt s n .to) ns q y) (f ∙ ap (reset n) e) (along-leads ns (suc visit) (transitionAt s n .to) D z₂ y c))

@@ -1,20 +1,19 @@
--- How large the numbers of Sweep's walk grow, where every parameter lies from -1,000 to 1,000: a guard's number is at most 3,001,000 in size,
--- and along a route of at most 32 transitions every number of every matrix on the way stays within 2 ^ 56.
--- The steps come one by one, as code makes them: a matrix that arrives at visit k (`Arrived`), a delay, guards, resets (`Visited`), and the next visit.
+-- How large the numbers of Sweep's matrices grow, where every parameter lies from -1,000 to 1,000: a guard's number is at most 3,001,000 in size,
+-- and after any steps with at most 33 delays every number stays within 2 ^ 57.
 use mathlib.Core.Path.{_≡_, refl, ap, subst}
 use mathlib.Core.Logic.{_⊎_, inl, inr}
 use mathlib.Core.List.{List, [], _∷_}
-use mathlib.Core.Bool.{Bool, true, false}
+use mathlib.Core.Bool.{Bool, true, false, cond}
 use Prim.Native.Nat.{ℕ, zero, suc, _+_, _*_, _/_, _%_, _^_, _≤_, _<_}
 use native.Mathlib.Omega.{arith}
 use lib.Dec.{eqb}
 use lib.IntN.{ℤ, natAbs, _*ℤ_}
-use lib.ListN.{length, length-take}
+use lib.ListN.{length}
 use Rattle.integer.specs.Parts.{p, n, pos-parts, natAbs-parts}
 use Rattle.integer.specs.Product.{size-in, size-low, size-high, sum-size, product-size}
-use Rattle.dbm.specs.Matrix.{Matrix, start, delayed, resetM, Outcome, void, kept, Closed}
+use Rattle.dbm.specs.Matrix.{Matrix, start, delayed, resetM, resetsM, guarded, Outcome, void, kept, Closed}
 use Rattle.dbm.specs.State.{start-closed}
-use Rattle.dbm.specs.Size.{AtMost, Small, Visit, atMost-more, atMost-sum, delayed-visit, visit-small, guarded-visit, reset-visit}
+use Rattle.dbm.specs.Size.{AtMost, Small, Visit, atMost-more, atMost-sum, small-visit, delayed-visit, visit-small, guarded-visit, reset-visit}
 use Rattle.expr.specs.Affine.{dot, value}
 use Rattle.expr.specs.Limit.{Limit, none, limit, sumW, atV, saturated}
 use Rattle.expr.specs.Laws.{saturate-same}
@@ -23,9 +22,10 @@ use Rattle.expr.specs.declared.number.Expr.{Expr}
 use Rattle.sheet.specs.declared.Guard.{Guard}
 use Rattle.sheet.specs.declared.Sheet.{Sheet}
 use Rattle.sheet.specs.WellFormed.{Small as Thousand, ExprRight, GuardRight, WellFormed}
-use Rattle.timed.specs.Runs.{invariants, guardsOf, transitionAt, routeOf}
-use Rattle.sweep.specs.Walk.{andThen, guardStep, guardSteps, pickM, resetSteps, stay, move, walk, sweepAt}
-use Rattle.sweep.specs.Right.{AllOf, invariants-right, guards-right}
+use Rattle.timed.specs.Automaton.{routeOf}
+use Rattle.timed.specs.Right.{AllOf, StepRight, steps-right, route-delays}
+use Rattle.timed.specs.Steps.{Step, delay, guard, resets, stepsOf, delays}
+use Rattle.sweep.specs.Walk.{andThen, step, walk, sweepAlong, sweepAt}
 
 -- every parameter lies from -1,000 to 1,000
 abbrev pub Thousands : List ℤ → Type 0
@@ -57,33 +57,25 @@ guard-size {parameters} {w} {g} v r h = by (g .bound .none)
     by true = record { size = tt }
     by false = record { size = value-size (g .bound .expr) v (r .expr) h }
 
--- ---- from visit to visit
--- how large numbers are on arrival at visit k
+-- ---- from delay to delay
+-- how large numbers are after k delays, but for what guards add after the last
 unfoldable pub size : ℕ → ℕ
 size zero = 0
 size (suc k) = 2 * (size k + 3001000)
 
--- a matrix on arrival at visit k, before the delay
-abbrev pub Arrived : ℕ → ℕ → Matrix (Limit ℤ) → Type 0
-Arrived w k m = Closed w m × Small w (size k) m
-
--- a matrix in visit k, after the delay
+-- a matrix after k delays, with guards and resets among them
 abbrev pub Visited : ℕ → ℕ → Matrix (Limit ℤ) → Type 0
 Visited w k m = Visit w (size k) 3001000 m
 
-pub start-arrived : (w : ℕ) → Arrived w 0 start
+pub start-visited : (w : ℕ) → Visited w 0 start
 unfolding start size
-start-arrived w = (start-closed w, λ i j hi hj. record { size = omega arith })
+start-visited w = small-visit 3001000 (start-closed w) (λ i j hi hj. record { size = omega arith })
 
-pub delayed-visited : {w : ℕ} {m : Matrix (Limit ℤ)} (k : ℕ) → Arrived w k m → Visited w k (delayed w none m)
-delayed-visited k (c, h) = delayed-visit 3001000 c h
-
--- what is visited arrives at the next visit
-pub visited-arrived : {w : ℕ} {m : Matrix (Limit ℤ)} (k : ℕ) → Visited w k m → Arrived w (suc k) m
+delayed-visited : {w : ℕ} {m : Matrix (Limit ℤ)} (k : ℕ) → Visited w k m → Visited w (suc k) (delayed w none m)
 unfolding size
-visited-arrived k a = (a .closed, visit-small a)
+delayed-visited k a = delayed-visit 3001000 (a .closed) (visit-small a)
 
--- ---- guards and resets within a visit, of any size B
+-- ---- guards and resets
 one-clock : {parameters w : ℕ} {g : Guard} → GuardRight parameters w g → (g .left ≡ 0) ⊎ (g .right ≡ 0)
 one-clock {g = g} r = by (r .one-zero)
   where
@@ -91,13 +83,8 @@ one-clock {g = g} r = by (r .one-zero)
     by (inl h) = inl (h .0)
     by (inr h) = inr (h .1)
 
-pub guardStep-visit : {parameters w B : ℕ} {m m′ : Matrix (Limit ℤ)} {g : Guard} (v : List ℤ) → GuardRight parameters w g → Thousands v
-    → Visit w B 3001000 m → guardStep w v g m ≡ kept m′ → Visit w B 3001000 m′
-unfolding guardStep
-guardStep-visit {g = g} v r h a e = guarded-visit a (guard-size v r h) (g .left) (g .right) (r .left) (r .right) (one-clock r) e
-
 -- the outcome, if it is a matrix, has P
-abbrev IfKept : (Matrix (Limit ℤ) → Type 0) → Outcome → Type 0
+abbrev pub IfKept : (Matrix (Limit ℤ) → Type 0) → Outcome → Type 0
 IfKept P void = Unit
 IfKept P (kept m) = P m
 
@@ -110,95 +97,86 @@ then-kept : (P Q : Matrix (Limit ℤ) → Type 0) (f : Matrix (Limit ℤ) → Ou
 then-kept P Q f b void a = tt
 then-kept P Q f b (kept m) a = b m a
 
-guards-visit : (parameters : ℕ) {w B : ℕ} (v : List ℤ) → Thousands v → (gs : List Guard) → AllOf (GuardRight parameters w) gs
-    → (m : Matrix (Limit ℤ)) → Visit w B 3001000 m → IfKept (Visit w B 3001000) (guardSteps w v gs m)
-unfolding guardSteps
-guards-visit parameters v h [] r m a = a
-guards-visit parameters {w} {B} v h (g ∷ gs) r m a =
-    then-kept (Visit w B 3001000) (Visit w B 3001000) (guardSteps w v gs) (guards-visit parameters v h gs (r .1)) (guardStep w v g m)
-    (if-kept (Visit w B 3001000) (guardStep w v g m) (λ m′ e. guardStep-visit v (r .0) h a e))
+reset-cond : {w B C : ℕ} {m : Matrix (Limit ℤ)} (r : ℕ) (b : Bool) → r ≤ w → Visit w B C m → Visit w B C (cond b (resetM w r m) m)
+reset-cond r true hr a = reset-visit r hr a
+reset-cond r false hr a = a
 
-pub guardSteps-visit : (parameters : ℕ) {w B : ℕ} {m m′ : Matrix (Limit ℤ)} (v : List ℤ) (gs : List Guard) → AllOf (GuardRight parameters w) gs → Thousands v
-    → Visit w B 3001000 m → guardSteps w v gs m ≡ kept m′ → Visit w B 3001000 m′
-guardSteps-visit parameters {w} {B} {m} v gs r h a e = subst (IfKept (Visit w B 3001000)) e (guards-visit parameters v h gs r m a)
+resets-visit : {w B C : ℕ} {m : Matrix (Limit ℤ)} (bits k : ℕ) → k ≤ w → Visit w B C m → Visit w B C (resetsM w bits k m)
+unfolding resetsM
+resets-visit bits zero h a = a
+resets-visit bits (suc k) h a = reset-cond (suc k) (eqb (bits / 2 ^ k % 2) 1) h (resets-visit bits k (omega arith) a)
 
-reset-picked : {w B C : ℕ} {m : Matrix (Limit ℤ)} (r : ℕ) (b : Bool) → r ≤ w → Visit w B C m → Visit w B C (pickM b (resetM w r m) m)
-reset-picked r true hr a = reset-visit r hr a
-reset-picked r false hr a = a
+-- ---- any list of steps
+-- the number of delays after a step
+abbrev pub after : ℕ → Step → ℕ
+after k delay = suc k
+after k (guard visit g) = k
+after k (resets bits) = k
 
-pub resetSteps-visit : {w B C : ℕ} {m : Matrix (Limit ℤ)} (bits k : ℕ) → k ≤ w → Visit w B C m → Visit w B C (resetSteps w bits k m)
-unfolding resetSteps
-resetSteps-visit bits zero h a = a
-resetSteps-visit bits (suc k) h a = reset-picked (suc k) (eqb (bits / 2 ^ k % 2) 1) h (resetSteps-visit bits k (omega arith) a)
+pub after-delays : (k : ℕ) (s : Step) (steps : List Step) → after k s + delays steps ≡ k + delays (s ∷ steps)
+unfolding delays
+after-delays k delay steps = omega arith
+after-delays k (guard visit g) steps = omega arith
+after-delays k (resets bits) steps = omega arith
 
--- ---- the walk
-module _ {s : Sheet} (f : WellFormed s) (v : List ℤ) (h : Thousands v) where
-  stay-if : (l k : ℕ) (m : Matrix (Limit ℤ)) → Arrived (s .clocks) k m → IfKept (Visited (s .clocks) k) (stay s v l m)
-  unfolding stay
-  stay-if l k m a =
-      guards-visit (s .parameters) v h (invariants s l) (invariants-right f l) (delayed (s .clocks) none m) (delayed-visited k a)
+none-more : (k : ℕ) → k ≡ k + delays []
+unfolding delays
+none-more k = omega arith
 
-  move-if : (t k : ℕ) (m : Matrix (Limit ℤ)) → Visited (s .clocks) k m → IfKept (Visited (s .clocks) k) (move s v t m)
-  unfolding move
-  move-if t k m a =
-      then-kept (Visited (s .clocks) k) (Visited (s .clocks) k) (λ b. kept (resetSteps (s .clocks) (transitionAt s t .resets) (s .clocks) b))
-      (λ b c. resetSteps-visit (transitionAt s t .resets) (s .clocks) (omega arith) c)
-      (guardSteps (s .clocks) v (guardsOf s t) m)
-      (guards-visit (s .parameters) v h (guardsOf s t) (guards-right f t) m a)
+module _ (parameters : ℕ) {w : ℕ} (v : List ℤ) (h : Thousands v) where
+  step-if : (s : Step) → StepRight parameters w s → (k : ℕ) (m : Matrix (Limit ℤ)) → Visited w k m → IfKept (Visited w (after k s)) (step w v s m)
+  unfolding step
+  step-if delay r k m a = delayed-visited k a
+  step-if (guard visit g) r k m a =
+      if-kept (Visited w k) (guarded w (g .left) (g .right) (atV v (limitOf (g .bound))) m)
+      (λ m′ e. guarded-visit a (guard-size v r h) (g .left) (g .right) (r .left) (r .right) (one-clock r) e)
+  step-if (resets bits) r k m a = resets-visit bits w (omega arith) a
 
-  -- a stay in visit k, and the transition that ends it
-  pub stay-visited : {m m′ : Matrix (Limit ℤ)} (l k : ℕ) → Arrived (s .clocks) k m → stay s v l m ≡ kept m′ → Visited (s .clocks) k m′
-  stay-visited {m} l k a e = subst (IfKept (Visited (s .clocks) k)) e (stay-if l k m a)
+  pub step-visited : {m m′ : Matrix (Limit ℤ)} (s : Step) → StepRight parameters w s → (k : ℕ) → Visited w k m → step w v s m ≡ kept m′
+      → Visited w (after k s) m′
+  step-visited {m} s r k a e = subst (IfKept (Visited w (after k s))) e (step-if s r k m a)
 
-  pub move-visited : {m m′ : Matrix (Limit ℤ)} (t k : ℕ) → Visited (s .clocks) k m → move s v t m ≡ kept m′ → Visited (s .clocks) k m′
-  move-visited {m} t k a e = subst (IfKept (Visited (s .clocks) k)) e (move-if t k m a)
-
-  walk-if : (ts : List ℕ) (l k : ℕ) (m : Matrix (Limit ℤ)) → Arrived (s .clocks) k m → IfKept (Visited (s .clocks) (k + length ts)) (walk s v l ts m)
+  walk-if : (steps : List Step) → AllOf (StepRight parameters w) steps → (k : ℕ) (m : Matrix (Limit ℤ)) → Visited w k m
+      → IfKept (Visited w (k + delays steps)) (walk w v steps m)
   unfolding walk
-  walk-if [] l k m a =
-      let e : k + 0 ≡ k = omega arith in
-      rw e (stay-if l k m a)
-  walk-if (t ∷ ts) l k m a =
-      let e : k + suc (length ts) ≡ suc k + length ts = omega arith in
-      then-kept (Visited (s .clocks) k) (Visited (s .clocks) (k + suc (length ts))) (λ b. andThen (move s v t b) (walk s v (transitionAt s t .to) ts))
-      (λ b c. then-kept (Visited (s .clocks) k) (Visited (s .clocks) (k + suc (length ts))) (walk s v (transitionAt s t .to) ts)
-      (λ d g. rw e (walk-if ts (transitionAt s t .to) (suc k) d (visited-arrived k g)))
-      (move s v t b) (move-if t k b c))
-      (stay s v l m) (stay-if l k m a)
+  walk-if [] r k m a =
+      let e : k ≡ k + delays [] = none-more k in
+      subst (λ (n : ℕ). Visited w n m) e a
+  walk-if (s ∷ steps) r k m a =
+      then-kept (Visited w (after k s)) (Visited w (k + delays (s ∷ steps))) (walk w v steps)
+      (λ b c. subst (λ (n : ℕ). IfKept (Visited w n) (walk w v steps b)) (after-delays k s steps) (walk-if steps (r .1) (after k s) b c))
+      (step w v s m) (step-if s (r .0) k m a)
 
-  -- along the rest of a route, from visit k to the last
-  pub walk-visited : {m m′ : Matrix (Limit ℤ)} (ts : List ℕ) (l k : ℕ) → Arrived (s .clocks) k m
-      → walk s v l ts m ≡ kept m′ → Visited (s .clocks) (k + length ts) m′
-  walk-visited {m} ts l k a e = subst (IfKept (Visited (s .clocks) (k + length ts))) e (walk-if ts l k m a)
+  pub walk-visited : {m m′ : Matrix (Limit ℤ)} (steps : List Step) → AllOf (StepRight parameters w) steps → (k : ℕ) → Visited w k m
+      → walk w v steps m ≡ kept m′ → Visited w (k + delays steps) m′
+  walk-visited {m} steps r k a e = subst (IfKept (Visited w (k + delays steps))) e (walk-if steps r k m a)
 
--- ---- all of it lies within 2 ^ 56
+-- ---- all of it lies within 2 ^ 57
 pub size-order : (j k : ℕ) → j ≤ k → size j ≤ size k
 unfolding size
 size-order zero k h = omega arith
 size-order (suc j) zero h = absurd (omega arith)
 size-order (suc j) (suc k) h = omega (arith, size-order j k (omega arith))
 
-pub size-last : size 33 < 2 ^ 56
+size-34 : size 34 < 2 ^ 57
 unfolding size
-size-last = omega arith
+size-34 = omega arith
 
-pub arrived-within : {w : ℕ} {m : Matrix (Limit ℤ)} (k : ℕ) → k ≤ 33 → Arrived w k m → Small w (2 ^ 56) m
-arrived-within k h a i j hi hj = atMost-more (omega (arith, size-order k 33 h, size-last)) (a .1 i j hi hj)
+pub visited-within : {w : ℕ} {m : Matrix (Limit ℤ)} (k : ℕ) → k ≤ 33 → Visited w k m → Small w (2 ^ 57) m
+unfolding size
+visited-within k h a i j hi hj = atMost-more (omega (arith, size-order (suc k) 34 (omega arith), size-34)) (visit-small a i j hi hj)
 
-pub visited-within : {w : ℕ} {m : Matrix (Limit ℤ)} (k : ℕ) → k ≤ 32 → Visited w k m → Small w (2 ^ 56) m
-visited-within k h a = arrived-within (suc k) (omega arith) (visited-arrived k a)
+-- every number after any right steps with at most 33 delays
+pub steps-within : (parameters : ℕ) {w : ℕ} {m : Matrix (Limit ℤ)} (v : List ℤ) → Thousands v → (steps : List Step)
+    → AllOf (StepRight parameters w) steps → delays steps ≤ 33 → walk w v steps start ≡ kept m → Small w (2 ^ 57) m
+steps-within parameters {w} v h steps r few e =
+    visited-within (0 + delays steps) (omega arith) (walk-visited parameters v h steps r 0 (start-visited w) e)
 
--- a route has at most 32 transitions
-pub route-short : {s : Sheet} → WellFormed s → length (routeOf s) ≤ 32
-unfolding routeOf
-route-short {s} f = let few = f .route .few in simp length-take (omega arith)
-
--- so every number of the whole walk's matrix is within 2 ^ 56
-pub sweep-within : {s : Sheet} {m : Matrix (Limit ℤ)} → WellFormed s → (v : List ℤ) → Thousands v → sweepAt s v ≡ kept m → Small (s .clocks) (2 ^ 56) m
-unfolding sweepAt
+-- so every number that Sweep comes to, along the sheet's own route
+pub sweep-within : {s : Sheet} {m : Matrix (Limit ℤ)} → WellFormed s → (v : List ℤ) → Thousands v → sweepAt s v ≡ kept m → Small (s .clocks) (2 ^ 57) m
+unfolding sweepAt sweepAlong
 sweep-within {s} f v h e =
-    let short = route-short f in
-    visited-within (0 + length (routeOf s)) (omega arith) (walk-visited f v h (routeOf s) 0 0 (start-arrived (s .clocks)) e)
+    steps-within (s .parameters) v h (stepsOf s (routeOf s)) (steps-right f (routeOf s)) (route-delays f) e
 
 -- ---- so the code's sums, which count a number past 2 ^ 62 - 1 as that end, are exact
 pub saturated-same : (a : Limit ℤ) {B : ℕ} → B < 2 ^ 62 → AtMost B a → saturated a ≡ a
@@ -208,7 +186,7 @@ saturated-same (limit t x) {B} g h =
     let l : p x + n x ≤ 4611686018427387903 = omega (arith, natAbs-parts x, h .size) in
     ap (limit t) (saturate-same x (size-low l) (size-high l))
 
-module _ {w : ℕ} {m : Matrix (Limit ℤ)} {e : Limit ℤ} (h : Small w (2 ^ 56) m) (g : AtMost 3001000 e) where
+module _ {w : ℕ} {m : Matrix (Limit ℤ)} {e : Limit ℤ} (h : Small w (2 ^ 57) m) (g : AtMost 3001000 e) where
   -- e + (j, i), which says whether a guard leaves it void
   pub loop-exact : (i j : ℕ) → i ≤ w → j ≤ w → sumW (saturated e) (saturated (m j i)) ≡ sumW e (m j i)
   loop-exact i j hi hj = rw (saturated-same e (omega arith) g, saturated-same (m j i) (omega arith) (h j i hj hi)) refl

@@ -1,6 +1,6 @@
 -- What the code does, step by step, with its matrices as lists of rows. Coded says that this is Walk.
 use mathlib.Core.List.{List, [], _∷_}
-use mathlib.Core.Bool.{Bool, true, false}
+use mathlib.Core.Bool.{Bool, true, false, cond}
 use Prim.Native.Nat.{ℕ, zero, suc, _/_, _%_}
 use lib.Dec.{ltb, leb, eqb}
 use lib.IntN.{ℤ, pos}
@@ -12,8 +12,7 @@ use Rattle.sheet.specs.declared.Guard.{Guard}
 use Rattle.sheet.specs.declared.Location.{Location}
 use Rattle.sheet.specs.declared.Sheet.{Sheet}
 use Rattle.sheet.specs.declared.Transition.{Transition}
-use Rattle.sheet.specs.Route.{noTransition}
-use Rattle.sheet.specs.WellFormed.{noLocation}
+use Rattle.timed.specs.Indexed.{locationC, transitionC}
 
 abbrev pub Table : Type 0
 Table = List (List Weight)
@@ -42,10 +41,6 @@ entryOf m i j = getD (getD m i []) j zeroWeight
 abbrev pub isVoid : Table → Bool
 isVoid m = entryOf m 0 0 .strict
 
-abbrev pub pick : {A : Type 0} → Bool → A → A → A
-pick true a b = a
-pick false a b = b
-
 -- the code's sum and test of weights
 abbrev pub sumC : Weight → Weight → Weight
 sumC a b = weightOf (sumW (saturated (weighed a)) (saturated (weighed b)))
@@ -54,7 +49,7 @@ abbrev pub tighterC : Weight → Weight → Bool
 tighterC a b = tighterW (weighed a) (weighed b)
 
 unfoldable pub limitedEntry : Bool → Weight → Weight → Weight → Weight
-limitedEntry past was s add = pick past was (pick (tighterC (sumC s add) was) (sumC s add) was)
+limitedEntry past was s add = cond past was (cond (tighterC (sumC s add) was) (sumC s add) was)
 
 unfoldable pub limitedRow : ℕ → List Weight → Weight → List Weight → List Weight
 limitedRow clocks old s add =
@@ -66,7 +61,7 @@ limitedRow clocks old s add =
     ∷ []
 
 unfoldable pub limitedLine : Table → ℕ → ℕ → ℕ → ℕ → Weight → List Weight
-limitedLine m clocks k i j e = pick (ltb clocks k) (rowOf m k) (limitedRow clocks (rowOf m k) (sumC (entryOf m k i) e) (rowOf m j))
+limitedLine m clocks k i j e = cond (ltb clocks k) (rowOf m k) (limitedRow clocks (rowOf m k) (sumC (entryOf m k i) e) (rowOf m j))
 
 unfoldable pub limitedTable : Table → ℕ → ℕ → ℕ → Weight → Table
 limitedTable m clocks i j e =
@@ -76,26 +71,26 @@ limitedTable m clocks i j e =
 -- the three rules for a guard, on a matrix that is not void
 unfoldable pub guardedTable : Table → ℕ → ℕ → ℕ → Weight → Table
 guardedTable m clocks i j e =
-    pick (ltb 4 i) m
-    (pick (ltb 4 j) m
-    (pick (isVoid m) m
-    (pick (tighterC (sumC e (entryOf m j i)) zeroWeight) voidTable (pick (tighterC e (entryOf m i j)) (limitedTable m clocks i j e) m))))
+    cond (ltb 4 i) m
+    (cond (ltb 4 j) m
+    (cond (isVoid m) m
+    (cond (tighterC (sumC e (entryOf m j i)) zeroWeight) voidTable (cond (tighterC e (entryOf m i j)) (limitedTable m clocks i j e) m))))
 
 abbrev pub noneWeight : Weight
 noneWeight = record { none = true; strict = false; value = pos 0 }
 
 unfoldable pub delayedRow : Bool → List Weight → List Weight
 delayedRow past row =
-    pick past row (noneWeight ∷ getD row 1 zeroWeight ∷ getD row 2 zeroWeight ∷ getD row 3 zeroWeight ∷ getD row 4 zeroWeight ∷ [])
+    cond past row (noneWeight ∷ getD row 1 zeroWeight ∷ getD row 2 zeroWeight ∷ getD row 3 zeroWeight ∷ getD row 4 zeroWeight ∷ [])
 
 unfoldable pub delayedTable : Table → ℕ → Table
 delayedTable m clocks =
-    pick (isVoid m) m
+    cond (isVoid m) m
     (rowOf m 0 ∷ delayedRow (ltb clocks 1) (rowOf m 1) ∷ delayedRow (ltb clocks 2) (rowOf m 2) ∷ delayedRow (ltb clocks 3) (rowOf m 3)
     ∷ delayedRow (ltb clocks 4) (rowOf m 4) ∷ [])
 
 unfoldable pub resetEntry : Bool → Bool → Weight → Weight → Weight
-resetEntry past same was top = pick past was (pick same was top)
+resetEntry past same was top = cond past was (cond same was top)
 
 unfoldable pub resetRow : ℕ → ℕ → List Weight → List Weight → List Weight
 resetRow clocks r old top =
@@ -108,20 +103,20 @@ resetRow clocks r old top =
 
 unfoldable pub resetLine : Table → ℕ → ℕ → ℕ → List Weight
 resetLine m clocks r k =
-    pick (ltb clocks k) (rowOf m k)
-    (pick (eqb k r) (resetRow clocks r (rowOf m k) (rowOf m 0)) (set (rowOf m k) r (getD (rowOf m k) 0 zeroWeight)))
+    cond (ltb clocks k) (rowOf m k)
+    (cond (eqb k r) (resetRow clocks r (rowOf m k) (rowOf m 0)) (set (rowOf m k) r (getD (rowOf m k) 0 zeroWeight)))
 
 unfoldable pub resetTable : Table → ℕ → ℕ → Table
 resetTable m clocks r =
     resetLine m clocks r 0 ∷ resetLine m clocks r 1 ∷ resetLine m clocks r 2 ∷ resetLine m clocks r 3 ∷ resetLine m clocks r 4 ∷ []
 
 unfoldable pub resetIf : Table → ℕ → ℕ → ℕ → Table
-resetIf m clocks r bit = pick (eqb bit 1) (pick (leb r clocks) (resetTable m clocks r) m) m
+resetIf m clocks r bit = cond (eqb bit 1) (cond (leb r clocks) (resetTable m clocks r) m) m
 
 -- in rising order; a void matrix stays
 unfoldable pub resetsTable : Table → ℕ → ℕ → Table
 resetsTable m clocks bits =
-    pick (isVoid m) m
+    cond (isVoid m) m
     (resetIf (resetIf (resetIf (resetIf m clocks 1 (bits % 2)) clocks 2 (bits / 2 % 2)) clocks 3 (bits / 4 % 2)) clocks 4 (bits / 8 % 2))
 
 -- a guard with v put in
@@ -138,16 +133,6 @@ stayTable m clocks v here = guardsTable (delayedTable m clocks) clocks v (take (
 
 unfoldable pub moveTable : Table → ℕ → List ℤ → Transition → Table
 moveTable m clocks v t = resetsTable (guardsTable m clocks v (take (t .count) (t .guards))) clocks (t .resets)
-
--- an index past the list's end stands for the first place: no accepted sheet has one
-abbrev pub at : ℕ → ℕ → ℕ
-at n i = pick (ltb i n) i 0
-
-unfoldable pub locationC : Sheet → ℕ → Location
-locationC s l = getD (s .location) (at 16 l) noLocation
-
-unfoldable pub transitionC : Sheet → ℕ → Transition
-transitionC s n = getD (s .transition) (at 32 n) noTransition
 
 unfoldable pub walkTable : Sheet → List ℤ → ℕ → List ℕ → Table → Table
 walkTable s v l [] m = stayTable m (s .clocks) v (locationC s l)

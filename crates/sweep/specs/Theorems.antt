@@ -9,7 +9,7 @@ use native.Mathlib.Omega.{arith}
 use lib.Dec.{eqb}
 use lib.IntN.{ℤ}
 use lib.ListN.{getD}
-use Rattle.dbm.specs.Entries.{Outside}
+use Rattle.dbm.specs.Entries.{Outside, up-to-4}
 use Rattle.dbm.specs.Matrix.{Matrix, Outcome, void, kept}
 use Rattle.expr.specs.Limit.{Limit, zeroW}
 use Rattle.expr.specs.Ranges.{Inside}
@@ -17,7 +17,7 @@ use Rattle.expr.specs.Three.{weighed, rangeList}
 use Rattle.sheet.specs.Accepted.{Fine, read-well-formed}
 use Rattle.sheet.specs.File.{readOf}
 use Rattle.sheet.specs.declared.Sheet.{Sheet}
-use Rattle.sweep.specs.Coded.{row, in-row, up-to-4, weighed-of}
+use Rattle.sweep.specs.Coded.{row, in-row, weighed-of}
 use Rattle.sweep.specs.Padding.{padded}
 use Rattle.sweep.specs.Proofs.{void-iff-no-run, entries-tightest}
 use Rattle.sweep.specs.Reply.{SweepReply, rowRecord, zeroRows, blankReply, swept, outside, orOutside, sheetReply, readReply, replyOf}

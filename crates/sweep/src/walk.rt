@@ -10,7 +10,8 @@ ghost use mathlib.Core.Path.{_≡_};
 ghost use Prim.Native.Nat.{min};
 ghost use lib.ListN.{take};
 ghost use Rattle.expr.specs.Three.{point};
-ghost use Rattle.sweep.specs.Tables.{guardTable, guardsTable, stayTable, moveTable, at, locationC, transitionC, sweepTable};
+ghost use Rattle.sweep.specs.Tables.{guardTable, guardsTable, stayTable, moveTable, sweepTable};
+ghost use Rattle.timed.specs.Indexed.{at, locationC, transitionC};
 
 // The matrix after a guard (paper: limit) with v put in.
 fn guard(m: [[Weight; 5]; 5], clocks: usize, v: Valuation, g: Guard) -> [[Weight; 5]; 5]

@@ -1,4 +1,4 @@
--- A tightest bound is unique: two weights that are both tightest for the same two clocks are equal. So `Tightest` names at most one weight.
+-- A tightest bound is unique: two weights that are both tightest for the same two clocks are equal. So `TightestAlong` names at most one weight.
 use mathlib.Core.Path.{_≡_, refl, ap}
 use mathlib.Core.Logic.{_⊎_, inl, inr}
 use mathlib.Core.List.{List}
@@ -13,7 +13,7 @@ use Rattle.integer.specs.Parts.{p, n, +-parts, -parts, *-parts, <-in, zs}
 use Rattle.integer.specs.Product.{*ℤ-mono-nonneg}
 use Rattle.expr.specs.Limit.{Limit, none, limit}
 use Rattle.sheet.specs.declared.Sheet.{Sheet}
-use Rattle.timed.specs.Runs.{Tightest, difference}
+use Rattle.timed.specs.Runs.{TightestAlong, difference}
 
 -- a smaller number of minutes is smaller by a whole minute
 minute-more : (D : ℕ) (c d : ℤ) → c <ℤ d → ((pos D *ℤ c) +ℤ pos D) ≤ℤ (pos D *ℤ d)
@@ -47,16 +47,16 @@ minutes-≤ : (D : ℕ) (c d : ℤ) → c ≤ℤ d → (pos D *ℤ c) ≤ℤ (po
 unfolding p n
 minutes-≤ D c d h = *ℤ-mono-nonneg (pos D) (omega zs) h
 
-module _ (s : Sheet) (v : List ℤ) (i j : ℕ) where
+module _ (s : Sheet) (route : List ℕ) (v : List ℤ) (i j : ℕ) where
   -- none goes with no other weight
-  none-not-≤ : (c : ℤ) → Tightest s v i j none → Tightest s v i j (limit false c) → ⊥
+  none-not-≤ : (c : ℤ) → TightestAlong s route v i j none → TightestAlong s route v i j (limit false c) → ⊥
   none-not-≤ c a b = let (r, h) = a c in let k = b .0 r in omega zs
 
-  none-not-< : (c : ℤ) → Tightest s v i j none → Tightest s v i j (limit true c) → ⊥
+  none-not-< : (c : ℤ) → TightestAlong s route v i j none → TightestAlong s route v i j (limit true c) → ⊥
   none-not-< c a b = let (r, h) = a c in let k = b .0 r in omega zs
 
   -- a number that is reached is no more than one that all runs meet
-  reached-≤ : (c d : ℤ) → Tightest s v i j (limit false c) → Tightest s v i j (limit false d) → (c ≤ℤ d) ⊎ (d <ℤ c) → c ≤ℤ d
+  reached-≤ : (c d : ℤ) → TightestAlong s route v i j (limit false c) → TightestAlong s route v i j (limit false d) → (c ≤ℤ d) ⊎ (d <ℤ c) → c ≤ℤ d
   reached-≤ c d a b (inl h) = h
   reached-≤ c d a b (inr h) =
       let (r, e) = a .1 in
@@ -65,7 +65,7 @@ module _ (s : Sheet) (v : List ℤ) (i j : ℕ) where
       absurd (omega zs)
 
   -- a number that is reached is none that is only approached
-  reached-not-< : (c d : ℤ) → Tightest s v i j (limit false c) → Tightest s v i j (limit true d) → (d ≤ℤ c) ⊎ (c <ℤ d) → ⊥
+  reached-not-< : (c d : ℤ) → TightestAlong s route v i j (limit false c) → TightestAlong s route v i j (limit true d) → (d ≤ℤ c) ⊎ (c <ℤ d) → ⊥
   reached-not-< c d a b (inl h) =
       let (r, e) = a .1 in
       let k = b .0 r in
@@ -76,13 +76,13 @@ module _ (s : Sheet) (v : List ℤ) (i j : ℕ) where
       too-far (r .parts) c d (difference i j r) h (a .0 r) g
 
   -- a number that is approached is no more than another that is
-  near-≤ : (c d : ℤ) → Tightest s v i j (limit true c) → Tightest s v i j (limit true d) → (c ≤ℤ d) ⊎ (d <ℤ c) → c ≤ℤ d
+  near-≤ : (c d : ℤ) → TightestAlong s route v i j (limit true c) → TightestAlong s route v i j (limit true d) → (c ≤ℤ d) ⊎ (d <ℤ c) → c ≤ℤ d
   near-≤ c d a b (inl h) = h
   near-≤ c d a b (inr h) =
       let (r, g) = a .1 1 (omega arith) in
       absurd (too-far (r .parts) d c (difference i j r) h (<ℤ→≤ℤ (b .0 r)) g)
 
-  by-weights : (a b : Limit ℤ) → Tightest s v i j a → Tightest s v i j b → a ≡ b
+  by-weights : (a b : Limit ℤ) → TightestAlong s route v i j a → TightestAlong s route v i j b → a ≡ b
   by-weights none none h k = refl
   by-weights none (limit true d) h k = absurd (none-not-< d h k)
   by-weights none (limit false d) h k = absurd (none-not-≤ d h k)
@@ -93,5 +93,5 @@ module _ (s : Sheet) (v : List ℤ) (i j : ℕ) where
   by-weights (limit false c) (limit true d) h k = absurd (reached-not-< c d h k (≤ℤ-total d c))
   by-weights (limit false c) (limit false d) h k = ap (limit false) (≤ℤ-antisym (reached-≤ c d h k (≤ℤ-total c d)) (reached-≤ d c k h (≤ℤ-total d c)))
 
-pub tightest-unique : (s : Sheet) (v : List ℤ) (i j : ℕ) (a b : Limit ℤ) → Tightest s v i j a → Tightest s v i j b → a ≡ b
-tightest-unique s v i j a b h k = by-weights s v i j a b h k
+pub tightest-unique : (s : Sheet) (route : List ℕ) (v : List ℤ) (i j : ℕ) (a b : Limit ℤ) → TightestAlong s route v i j a → TightestAlong s route v i j b → a ≡ b
+tightest-unique s route v i j a b h k = by-weights s route v i j a b h k

@@ -5,7 +5,7 @@ use mathlib.Core.Bool.{Bool, true, false}
 use Prim.Native.Nat.{ℕ, zero, suc, _+_, _-_, _*_, _/_, _%_, _≤_, _<_, min}
 use native.Mathlib.Numerals.{add-one}
 use native.Mathlib.Omega.{arith}
-use borrow.Author.Tests.{lt-ltb, le-ltb, eq-eqb, ne-eqb, ltb-true}
+use borrow.Author.Tests.{lt-ltb, le-ltb, eq-eqb, ne-eqb}
 use lib.Dec.{ltb, eqb}
 use lib.ListN.{length, getD, set, take, drop, length-take, length-set, drop-of-length-le}
 use lib.Seq.{drop-cons, getD-take}
@@ -25,11 +25,9 @@ use Rattle.sheet.specs.declared.Transition.{Transition}
 use Rattle.sheet.specs.Accepted.{reading-well-formed}
 use Rattle.sheet.specs.File.{readOf}
 use Rattle.sheet.specs.WellFormed.{WellFormed}
-use Rattle.sweep.specs.Tables.{at, locationC, transitionC}
-use Rattle.sweep.specs.Tables.{pick as sweepPick}
+use Rattle.timed.specs.Indexed.{locationC, transitionC}
 use Rattle.windows.specs.Coded.{count-few, count-all, work-coded}
 use Rattle.windows.specs.Reply.{refusedBy, blankWork, sheetWork, readingWork, workOf}
-use Rattle.windows.specs.Route.{guardsFor, stayFor, moveFor, stay-for, move-for}
 use Rattle.windows.specs.Work.{listedC}
 use Rattle.windows.specs.declared.reply.Answer.{Answer}
 use Rattle.windows.specs.declared.reply.Answer.the-variants as answer
@@ -37,7 +35,7 @@ use Rattle.windows.specs.declared.reply.Worked.{Worked}
 use Rattle.zones.specs.CodedRead.{keptC}
 use Rattle.zones.specs.Guarded.{guardedC}
 use Rattle.zones.specs.Listed.{pick, zeroBound}
-use Rattle.zones.specs.Walked.{noneIf, resetPair, resetB, resetIfB, onFirst, atVisit, stayAll, moveAll, walkAll, startAll, zonesAll}
+use Rattle.zones.specs.Walked.{noneIf, resetPair, resetB, resetIfB, onFirst, atVisit, guardsAll, stayAll, moveAll, walkAll, startAll, zonesAll}
 use Rattle.zones.specs.declared.zone.Zone.{Zone}
 use Rattle.zones.specs.declared.zone.Zones.{Zones}
 
@@ -145,58 +143,44 @@ pub size-is : {A : Type 0} (n k most : ℕ) (xs : List A) → n ≡ min k most �
 size-is n k most xs e l = (omega arith, rw (length-take k xs, l) e)
 
 module _ (b : Ranges) (w : ℕ) (xs : List Guard) (k : ℕ) where
-  guards-cons : (l : List Guard) (g : Guard) (rest : List Guard) (zs : Zones) → l ≡ g ∷ rest → guardsFor b w l zs ≡ guardsFor b w rest (guardedC b w g zs)
-  unfolding guardsFor
+  guards-cons : (l : List Guard) (g : Guard) (rest : List Guard) (zs : Zones) → l ≡ g ∷ rest → guardsAll b w l zs ≡ guardsAll b w rest (guardedC b w g zs)
+  unfolding guardsAll
   guards-cons l g rest zs h = rw h refl
 
-  pub guards-turn : (i : ℕ) (zs next whole : Zones) (d : Guard) → i < length (take k xs) → guardsFor b w (drop i (take k xs)) zs ≡ whole
-      → next ≡ guardedC b w (getD xs i d) zs → guardsFor b w (drop (i + 1) (take k xs)) next ≡ whole
+  pub guards-turn : (i : ℕ) (zs next whole : Zones) (d : Guard) → i < length (take k xs) → guardsAll b w (drop i (take k xs)) zs ≡ whole
+      → next ≡ guardedC b w (getD xs i d) zs → guardsAll b w (drop (i + 1) (take k xs)) next ≡ whole
   guards-turn i zs next whole d h e f =
       let few : i < k = omega (arith, length-take k xs) in
       rw (add-one i, f, ← getD-take k xs i d few)
       (sym (guards-cons (drop i (take k xs)) (getD (take k xs) i d) (drop (suc i) (take k xs)) zs (drop-cons (take k xs) i d h)) ∙ e)
 
-  pub guards-done : (i : ℕ) (zs whole : Zones) → length (take k xs) ≤ i → guardsFor b w (drop i (take k xs)) zs ≡ whole → zs ≡ whole
-  unfolding guardsFor
+  pub guards-done : (i : ℕ) (zs whole : Zones) → length (take k xs) ≤ i → guardsAll b w (drop i (take k xs)) zs ≡ whole → zs ≡ whole
+  unfolding guardsAll
   guards-done i zs whole h e = rw (drop-of-length-le (take k xs) h) at e
-
--- ---- indices
-pub at-below : (n i : ℕ) → i < n → i ≡ at n i
-at-below n i h = rw (lt-ltb i n h) refl
-
-pub at-past : (n i : ℕ) → n ≤ i → 0 ≡ at n i
-at-past n i h = rw (le-ltb i n h) refl
-
-pub at-fits : (n i : ℕ) → 0 < n → at n i < n
-at-fits n i h = by (ltb i n) refl
-  where
-    by : (b : Bool) → ltb i n ≡ b → sweepPick b i 0 < n
-    by true e = omega (arith, ltb-true i n e)
-    by false e = h
 
 -- ---- the route
 module _ (s : Sheet) where
   walk-cons : (ns : List ℕ) (n : ℕ) (rest : List ℕ) (visit l : ℕ) (zs : Zones) → ns ≡ n ∷ rest
-      → walkAll s visit l ns zs ≡ walkAll s (suc visit) (transitionC s n .to) rest (moveAll s visit (transitionC s n) (stayAll s (locationC s l) zs))
+      → walkAll s visit l ns zs ≡ walkAll s (suc visit) (transitionC s n .to) rest (moveAll (s .ranges) (s .clocks) visit (transitionC s n) (stayAll (s .ranges) (s .clocks) (locationC s l) zs))
   unfolding walkAll
   walk-cons ns n rest visit l zs h = rw h refl
 
   pub walk-turn : (k l : ℕ) (zs stayed next whole : Zones) (here : Location) (t : Transition) → k < length (take (s .moves) (s .route))
       → walkAll s k l (drop k (take (s .moves) (s .route))) zs ≡ whole → t ≡ transitionC s (getD (s .route) k 0) → here ≡ locationC s l
-      → stayed ≡ stayFor (s .ranges) (s .clocks) here zs → next ≡ moveFor (s .ranges) (s .clocks) k t stayed
+      → stayed ≡ stayAll (s .ranges) (s .clocks) here zs → next ≡ moveAll (s .ranges) (s .clocks) k t stayed
       → walkAll s (k + 1) (t .to) (drop (k + 1) (take (s .moves) (s .route))) next ≡ whole
   walk-turn k l zs stayed next whole here t h e et eh es en =
       let few : k < s .moves = omega (arith, length-take (s .moves) (s .route)) in
-      rw (add-one k, en, move-for s k t stayed, es, stay-for s here zs, eh, et, ← getD-take (s .moves) (s .route) k 0 few)
+      rw (add-one k, en, es, eh, et, ← getD-take (s .moves) (s .route) k 0 few)
       (sym (walk-cons (drop k (take (s .moves) (s .route))) (getD (take (s .moves) (s .route)) k 0) (drop (suc k) (take (s .moves) (s .route))) k l zs
       (drop-cons (take (s .moves) (s .route)) k 0 h)) ∙ e)
 
   pub walk-done : (k l : ℕ) (zs r whole : Zones) (here : Location) → length (take (s .moves) (s .route)) ≤ k
-      → walkAll s k l (drop k (take (s .moves) (s .route))) zs ≡ whole → here ≡ locationC s l → r ≡ stayFor (s .ranges) (s .clocks) here zs → r ≡ whole
+      → walkAll s k l (drop k (take (s .moves) (s .route))) zs ≡ whole → here ≡ locationC s l → r ≡ stayAll (s .ranges) (s .clocks) here zs → r ≡ whole
   unfolding walkAll
   walk-done k l zs r whole here h e eh er =
-      let f : stayAll s (locationC s l) zs ≡ whole = rw (drop-of-length-le (take (s .moves) (s .route)) h) at e in
-      er ∙ stay-for s here zs ∙ ap (λ (p : Location). stayAll s p zs) eh ∙ f
+      let f : stayAll (s .ranges) (s .clocks) (locationC s l) zs ≡ whole = rw (drop-of-length-le (take (s .moves) (s .route)) h) at e in
+      er ∙ ap (λ (p : Location). stayAll (s .ranges) (s .clocks) p zs) eh ∙ f
 
 -- ---- the reply
 pub seven : (n visit : ℕ) → n ≡ 7 → answer.Zones visit ≡ refusedBy n visit

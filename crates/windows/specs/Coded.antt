@@ -11,7 +11,7 @@ use lib.Dec.{ltb}
 use lib.IntN.{ℤ, pos, negsuc, _+ℤ_, _-ℤ_}
 use lib.ListN.{length, take}
 use lib.Signed.{_≤ℤ_}
-use Rattle.cutting.specs.Counts.{keptOf, cutOf}
+use Rattle.cutting.specs.Kept.{keptOf, cutOf}
 use Rattle.cutting.specs.Cutting.{Listing, listed, refused, zonesOf}
 use Rattle.cutting.specs.Numbered.{SevenToNine, zones-numbered}
 use Rattle.search.specs.SearchLaws.{widths, valuations-length}

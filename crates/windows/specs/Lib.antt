@@ -1,5 +1,4 @@
--- What is read first: Reply, which is what Windows answers and leaves in the table. Route and Work are what the code does.
+-- What is read first: Reply, which is what Windows answers and leaves in the table. Work is what the code does.
 pub mod Coded
 pub mod Reply
-pub mod Route
 pub mod Work

@@ -5,7 +5,7 @@ use mathlib.Core.List.{List, [], _∷_, _++_}
 use Prim.Native.Nat.{ℕ, zero, suc}
 use lib.Dec.{ltb, eqb}
 use lib.ListN.{length, getD, replicate}
-use Rattle.cutting.specs.Counts.{keptOf, cutOf}
+use Rattle.cutting.specs.Kept.{keptOf, cutOf}
 use Rattle.cutting.specs.Cutting.{Listing, listed, refused, zonesOf}
 use Rattle.expr.specs.Three.{rangeList}
 use Rattle.contents.specs.declared.Refusal.{Refusal}

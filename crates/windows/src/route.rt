@@ -12,9 +12,8 @@ use zones::Zones;
 ghost use mathlib.Core.Path.{_≡_};
 ghost use Prim.Native.Nat.{min, suc, _<_};
 ghost use lib.ListN.{take};
-ghost use Rattle.sweep.specs.Tables.{at, locationC, transitionC};
-ghost use Rattle.windows.specs.Route.{guardsFor, stayFor, moveFor};
-ghost use Rattle.zones.specs.Walked.{delayedZone, resetsZone, delayedAll, resetsAll, atVisit, startAll, zonesAll};
+ghost use Rattle.timed.specs.Indexed.{at, locationC, transitionC};
+ghost use Rattle.zones.specs.Walked.{delayedZone, resetsZone, delayedAll, resetsAll, atVisit, guardsAll, stayAll, moveAll, startAll, zonesAll};
 
 // n, or most where n is more.
 pub(crate) fn at_most(n: usize, most: usize) -> usize
@@ -100,7 +99,7 @@ fn at_visit(zones: Zones, visit: usize) -> Zones
 
 // The zones after the first count guards, in order.
 fn guards_of(b: Ranges, clocks: usize, zones: Zones, count: usize, guards: [Guard; 6]) -> Zones
-    ensures { λ r. ⌜ r ≡ guardsFor b clocks (take count guards) zones ⌝ }
+    ensures { λ r. ⌜ r ≡ guardsAll b clocks (take count guards) zones ⌝ }
 {
     let n = at_most(count, 6);
     let mut now = zones;
@@ -116,7 +115,7 @@ fn guards_of(b: Ranges, clocks: usize, zones: Zones, count: usize, guards: [Guar
 
 // The zones after a stay: a wait, then the location's invariants (paper: standing limits).
 fn stay(b: Ranges, clocks: usize, here: Location, zones: Zones) -> Zones
-    ensures { λ r. ⌜ r ≡ stayFor b clocks here zones ⌝ }
+    ensures { λ r. ⌜ r ≡ stayAll b clocks here zones ⌝ }
 {
     let guards = here.guards;
     guards_of(b, clocks, delayed_all(zones, clocks), here.count, guards)
@@ -125,7 +124,7 @@ fn stay(b: Ranges, clocks: usize, here: Location, zones: Zones) -> Zones
 // The zones after a transition (paper: move): its guards, which belong to the visit before it, then its resets.
 fn moved(b: Ranges, clocks: usize, visit: usize, t: Transition, zones: Zones) -> Zones
     requires { ⌜ visit < 32 ⌝ }
-    ensures { λ r. ⌜ r ≡ moveFor b clocks visit t zones ⌝ }
+    ensures { λ r. ⌜ r ≡ moveAll b clocks visit t zones ⌝ }
 {
     let guards = t.guards;
     let limited = guards_of(b, clocks, zones, t.count, guards);

@@ -3,7 +3,7 @@
 -- does (Guarded, Walked) is the cutting.
 use mathlib.Core.Path.{_≡_, refl, sym, ap, _∙_}
 use mathlib.Core.List.{List, [], _∷_, _++_, map}
-use mathlib.Core.Bool.{Bool, true, false}
+use mathlib.Core.Bool.{Bool, true, false, cond}
 use Prim.Native.Nat.{ℕ, suc, _+_, _-_, _*_, _/_, _%_, _≤_, _<_}
 use native.Mathlib.Omega.{arith}
 use borrow.Author.Tests.{eqb-true, eqb-false}
@@ -16,7 +16,7 @@ use Rattle.expr.specs.Affine.{Affine}
 use Rattle.expr.specs.Limit.{Limit}
 use Rattle.expr.specs.Three.{exprOf, boundOf}
 use Rattle.expr.specs.declared.bound.Bound.{Bound}
-use Rattle.sweep.specs.Coded.{up-to-4}
+use Rattle.dbm.specs.Entries.{up-to-4}
 use Rattle.zones.specs.Listed.{zeroBound, zeroExpr, blankZone}
 use Rattle.zones.specs.Rules.{entryC}
 use Rattle.zones.specs.declared.zone.Zone.{Zone}
@@ -113,7 +113,7 @@ set-entry m x b h = bounds-are (set (boundsOf m) x (boundOf b)) (putEntry (recor
     other y g e = getD-set-other (boundsOf m) x y (boundOf b) zeroBound e ∙ getD-at m y g
 
     by : (y : ℕ) → y < 25 → (s t : Bool) → eqb (y / 5) (x / 5) ≡ s → eqb (y % 5) (x % 5) ≡ t
-        → getD (set (boundsOf m) x (boundOf b)) y zeroBound ≡ boundOf (cutting.pick s (cutting.pick t b (m (y / 5) (y % 5))) (m (y / 5) (y % 5)))
+        → getD (set (boundsOf m) x (boundOf b)) y zeroBound ≡ boundOf (cond s (cond t b (m (y / 5) (y % 5))) (m (y / 5) (y % 5)))
     by y g true true c d =
         let i = eqb-true (y / 5) (x / 5) c in
         let j = eqb-true (y % 5) (x % 5) d in

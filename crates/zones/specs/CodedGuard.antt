@@ -2,7 +2,7 @@
 -- refusal sticks on both sides.
 use mathlib.Core.Path.{_≡_, refl, sym, ap, _∙_}
 use mathlib.Core.List.{List, [], _∷_, _++_, map}
-use mathlib.Core.Bool.{Bool, true, false}
+use mathlib.Core.Bool.{Bool, true, false, cond}
 use Prim.Native.Nat.{ℕ, suc, _-_, _≤_, _<_}
 use native.Mathlib.Omega.{arith}
 use borrow.Author.Tests.{ltb-true, le-ltb, lt-ltb, eqb-false}
@@ -10,14 +10,14 @@ use lib.Dec.{eqb, ltb}
 use lib.ListN.{length, set, replicate}
 use Rattle.cutting.specs.Cutting.{Bounds, Tree, cut, keep, wideTree, asks, guardTree, Listing, listed, refused, INEQS, ZONES, never, listZone, worked, guardZones, andThen}
 use Rattle.cutting.specs.Cutting as cutting
-use Rattle.cutting.specs.Agree.{worked-refused}
+use Rattle.cutting.specs.Listings.{worked-refused}
 use Rattle.expr.specs.Affine.{Affine, opposite}
 use Rattle.expr.specs.Three.{affine, exprOf, limitOf, rangeList}
 use Rattle.search.specs.Valuations.{first}
 use Rattle.expr.specs.declared.number.Expr.{Expr}
 use Rattle.expr.specs.declared.range.Ranges.{Ranges}
 use Rattle.sheet.specs.declared.Guard.{Guard}
-use Rattle.sweep.specs.Right.{AllOf}
+use Rattle.timed.specs.Right.{AllOf}
 use Rattle.zones.specs.Coded.{boundsOf, zoneOf, zonesIn, coded, one-more, length-more, taken}
 use Rattle.zones.specs.CodedTests.{pad-first, NarrowM, opposite-coded, never-is}
 use Rattle.zones.specs.CodedTree.{treeOf, Good, Same, guard-same}
@@ -66,7 +66,7 @@ list-coded visit z zs = by (ltb (length zs) 32) refl
   where
     by : (b : Bool) → ltb (length zs) 32 ≡ b
         → pick b (record { refusal = 0; visit = visit; count = suc (length zs); list = set (zonesIn zs) (length zs) (zoneOf z) }) (refusedC 7 (coded visit (listed zs)))
-        ≡ coded visit (cutting.pick b (listed (zs ++ (z ∷ []))) (refused 7 visit))
+        ≡ coded visit (cond b (listed (zs ++ (z ∷ []))) (refused 7 visit))
     by true h =
         ap (λ (l : List Zone). record { refusal = 0; visit = visit; count = suc (length zs); list = l }) (one-more zoneOf blankZone 32 zs z (ltb-true (length zs) 32 h))
         ∙ ap (λ (k : ℕ). record { refusal = 0; visit = visit; count = k; list = zonesIn (zs ++ (z ∷ [])) }) (sym (length-more zs z))
@@ -109,7 +109,7 @@ module _ (b : Ranges) (visit : ℕ) where
   abbrev StaysSound : Tree → Type 0
   StaysSound t = (is : List Affine) (o : Listing) → Sound o → Sound (works t is o)
 
-  pick-sound : (x : Bool) (o u : Listing) → Sound o → Sound u → Sound (cutting.pick x o u)
+  pick-sound : (x : Bool) (o u : Listing) → Sound o → Sound u → Sound (cond x o u)
   pick-sound true o u h k = h
   pick-sound false o u h k = k
 
@@ -158,7 +158,7 @@ module _ (b : Ranges) (visit : ℕ) where
 
       room-coded : (x : Bool) → ltb (length is) 24 ≡ x
           → pick x (goes false (plusC zone (exprOf (opposite e))) (goes true (plusC zone (exprOf e)) (coded visit (listed zs)))) (refusedC 8 (coded visit (listed zs)))
-          ≡ coded visit (cutting.pick x (works (f false) (is ++ (opposite e ∷ [])) (works (f true) (is ++ (e ∷ [])) (listed zs))) (refused 8 visit))
+          ≡ coded visit (cond x (works (f false) (is ++ (opposite e ∷ [])) (works (f true) (is ++ (e ∷ [])) (listed zs))) (refused 8 visit))
       unfolding refusedC coded
       room-coded true h = split-coded (ltb-true (length is) 24 h)
       room-coded false h = refl
@@ -166,8 +166,8 @@ module _ (b : Ranges) (visit : ℕ) where
       all-coded : (x : Bool)
           → pick x (goes true zone (coded visit (listed zs)))
           (pick (ltb (length is) 24) (goes false (plusC zone (exprOf (opposite e))) (goes true (plusC zone (exprOf e)) (coded visit (listed zs)))) (refusedC 8 (coded visit (listed zs))))
-          ≡ coded visit (cutting.pick x (works (f true) is (listed zs))
-          (cutting.pick (ltb (length is) INEQS) (works (f false) (is ++ (opposite e ∷ [])) (works (f true) (is ++ (e ∷ [])) (listed zs))) (refused 8 visit)))
+          ≡ coded visit (cond x (works (f true) is (listed zs))
+          (cond (ltb (length is) INEQS) (works (f false) (is ++ (opposite e ∷ [])) (works (f true) (is ++ (e ∷ [])) (listed zs))) (refused 8 visit)))
       all-coded true = ih true is (listed zs) s
       all-coded false = room-coded (ltb (length is) 24) refl
 
@@ -175,9 +175,9 @@ module _ (b : Ranges) (visit : ℕ) where
           → pick x (goes false zone (coded visit (listed zs)))
           (pick (never (rangeList b) is (opposite e)) (goes true zone (coded visit (listed zs)))
           (pick (ltb (length is) 24) (goes false (plusC zone (exprOf (opposite e))) (goes true (plusC zone (exprOf e)) (coded visit (listed zs)))) (refusedC 8 (coded visit (listed zs)))))
-          ≡ coded visit (cutting.pick x (works (f false) is (listed zs))
-          (cutting.pick (never (rangeList b) is (opposite e)) (works (f true) is (listed zs))
-          (cutting.pick (ltb (length is) INEQS) (works (f false) (is ++ (opposite e ∷ [])) (works (f true) (is ++ (e ∷ [])) (listed zs))) (refused 8 visit))))
+          ≡ coded visit (cond x (works (f false) is (listed zs))
+          (cond (never (rangeList b) is (opposite e)) (works (f true) is (listed zs))
+          (cond (ltb (length is) INEQS) (works (f false) (is ++ (opposite e ∷ [])) (works (f true) (is ++ (e ∷ [])) (listed zs))) (refused 8 visit))))
       none-coded true = ih false is (listed zs) s
       none-coded false = all-coded (never (rangeList b) is (opposite e))
 

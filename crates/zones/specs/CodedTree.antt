@@ -2,7 +2,7 @@
 -- matrix. What the tree keeps is narrow, and what it asks was judged.
 use mathlib.Core.Path.{_≡_, refl, sym, ap, subst, fun-ext, _∙_}
 use mathlib.Core.List.{List, [], _∷_}
-use mathlib.Core.Bool.{Bool, true, false}
+use mathlib.Core.Bool.{Bool, true, false, cond}
 use Prim.Native.Nat.{ℕ, zero, suc, _+_, _/_, _%_, _≤_, _<_}
 use native.Mathlib.Omega.{arith}
 use lib.Dec.{eqb, ltb}
@@ -16,7 +16,7 @@ use Rattle.expr.specs.declared.bound.Bound.{Bound}
 use Rattle.expr.specs.declared.bound.BoundSum.{BoundSum}
 use Rattle.expr.specs.declared.bound.Test.{Test}
 use Rattle.expr.specs.declared.bound.Test.the-variants.{No}
-use Rattle.sweep.specs.Coded.{up-to-4}
+use Rattle.dbm.specs.Entries.{up-to-4}
 use Rattle.zones.specs.Coded.{boundsOf, entry-at, getD-at, set-entry}
 use Rattle.zones.specs.CodedTests.{padB, NarrowB, NarrowJ, NarrowM, limit-narrow, zero-narrow, sum-narrow, pad-sum, pad-test, limit-pad, InLimit, Asked, tighter-asked}
 use Rattle.zones.specs.Listed.{pick, zeroBound}
@@ -85,7 +85,7 @@ put-narrow : (p : Place) (t : Limit Affine) (m : Bounds) → NarrowB t → Narro
 unfolding putEntry
 put-narrow p t m h n = record { entry = λ i j. by i j (eqb i (p .row)) (eqb j (p .column)) }
   where
-    by : (i j : ℕ) (x y : Bool) → NarrowB (cutting.pick x (cutting.pick y t (m i j)) (m i j))
+    by : (i j : ℕ) (x y : Bool) → NarrowB (cond x (cond y t (m i j)) (m i j))
     by i j false y = n .entry i j
     by i j true false = n .entry i j
     by i j true true = h
@@ -134,14 +134,14 @@ module _ (w i j : ℕ) (x : Bound) (m : Bounds) (four : w ≤ 4) (hi : i ≤ 4) 
   push-entry k y h ih new nn =
       rw (via-is y h, getD-at m y h)
       (via-same (m (y / 5) (y % 5)) (n .entry (y / 5) (y % 5)) (λ t b. pushC rule k (suc y) (pick b (set (boundsOf new) y t) (boundsOf new)))
-      (λ t b. pushed i j e m (spots w (suc y) k) (cutting.pick b (putEntry p t new) new)) by (m j (y % 5)) (n .entry j (y % 5))
+      (λ t b. pushed i j e m (spots w (suc y) k) (cond b (putEntry p t new) new)) by (m j (y % 5)) (n .entry j (y % 5))
       (sumB (m (y / 5) i) e) (sum-narrow (m (y / 5) i) e (n .entry (y / 5) i) (limit-narrow x)))
     where
       p : Place
       p = record { row = y / 5; column = y % 5 }
 
       by : (t : Limit Affine) (b : Bool) → NarrowB t
-          → Same (pushC rule k (suc y) (pick b (set (boundsOf new) y (boundOf t)) (boundsOf new))) (pushed i j e m (spots w (suc y) k) (cutting.pick b (putEntry p t new) new))
+          → Same (pushC rule k (suc y) (pick b (set (boundsOf new) y (boundOf t)) (boundsOf new))) (pushed i j e m (spots w (suc y) k) (cond b (putEntry p t new) new))
       by t true nt = rw (set-entry new y t h) (ih (putEntry p t new) (put-narrow p t new nt nn))
       by t false nt = ih new nn
 
@@ -157,14 +157,14 @@ module _ (w i j : ℕ) (x : Bound) (m : Bounds) (four : w ≤ 4) (hi : i ≤ 4) 
       by false true ih = ih new nn
       by false false ih = push-entry k y (omega arith) ih new nn
 
-  tight-same : Same (tightC rule (boundsOf m)) (tested (tighterB e (m i j)) (λ tight. cutting.pick tight (pushed i j e m (places w) m) (keep m)))
+  tight-same : Same (tightC rule (boundsOf m)) (tested (tighterB e (m i j)) (λ tight. cond tight (pushed i j e m (places w) m) (keep m)))
   unfolding tightC
   tight-same =
-      subst (λ (y : Test). Same (testedC y (λ b. pick b (pushC rule 25 0 (boundsOf m)) (keepT (boundsOf m)))) (tested (tighterB e (m i j)) (λ tight. cutting.pick tight (pushed i j e m (places w) m) (keep m))))
+      subst (λ (y : Test). Same (testedC y (λ b. pick b (pushC rule 25 0 (boundsOf m)) (keepT (boundsOf m)))) (tested (tighterB e (m i j)) (λ tight. cond tight (pushed i j e m (places w) m) (keep m))))
       (sym tight-test) (tested-same (tighterB e (m i j)) (λ b. pick b (pushC rule 25 0 (boundsOf m)) (keepT (boundsOf m)))
-      (λ tight. cutting.pick tight (pushed i j e m (places w) m) (keep m)) (tighter-asked e (m i j)) by)
+      (λ tight. cond tight (pushed i j e m (places w) m) (keep m)) (tighter-asked e (m i j)) by)
     where
-      by : (b : Bool) → Same (pick b (pushC rule 25 0 (boundsOf m)) (keepT (boundsOf m))) (cutting.pick b (pushed i j e m (places w) m) (keep m))
+      by : (b : Bool) → Same (pick b (pushC rule 25 0 (boundsOf m)) (keepT (boundsOf m))) (cond b (pushed i j e m (places w) m) (keep m))
       by true = subst (λ (ps : List Place). Same (pushC rule 25 0 (boundsOf m)) (pushed i j e m ps m)) (spots-places w four) (push-same 25 0 refl m n)
       by false = record { same = refl; good = n }
 
@@ -173,9 +173,9 @@ module _ (w i j : ℕ) (x : Bound) (m : Bounds) (four : w ≤ 4) (hi : i ≤ 4) 
   guard-same =
       rw back-sum
       (sum-same zeroB zero-narrow (λ t b. pick b cutT (tightC rule (boundsOf m)))
-      (λ back b. cutting.pick b cut (tested (tighterB e (m i j)) (λ tight. cutting.pick tight (pushed i j e m (places w) m) (keep m))))
+      (λ back b. cond b cut (tested (tighterB e (m i j)) (λ tight. cond tight (pushed i j e m (places w) m) (keep m))))
       (λ t b nt. by b) (sumB e (m j i)) (sum-narrow e (m j i) (limit-narrow x) (n .entry j i)))
     where
-      by : (b : Bool) → Same (pick b cutT (tightC rule (boundsOf m))) (cutting.pick b cut (tested (tighterB e (m i j)) (λ tight. cutting.pick tight (pushed i j e m (places w) m) (keep m))))
+      by : (b : Bool) → Same (pick b cutT (tightC rule (boundsOf m))) (cond b cut (tested (tighterB e (m i j)) (λ tight. cond tight (pushed i j e m (places w) m) (keep m))))
       by true = record { same = refl; good = tt }
       by false = tight-same

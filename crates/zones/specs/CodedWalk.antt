@@ -3,29 +3,33 @@ use mathlib.Core.Path.{_≡_, refl, sym, ap, _∙_}
 use mathlib.Core.List.{List, [], _∷_, _++_, map}
 use mathlib.Core.Bool.{Bool, true, false, _&&_, cond}
 use Prim.Native.Nat.{ℕ, zero, suc, _+_, _-_, _/_, _%_, _^_, _≤_, _<_}
-use native.Mathlib.Nat.{div-one}
 use native.Mathlib.Omega.{arith}
 use lib.Dec.{eqb, ltb, leb}
 use lib.ListN.{length, replicate, length-take}
-use Rattle.cutting.specs.Cutting.{Bounds, startB, Listing, listed, refused, guardZones, andThen, guardsZones, onBounds, resetBounds, stayZones, moveZones, cutRoute, zonesOf}
+use Rattle.cutting.specs.Cutting.{Bounds, startB, startZone, Listing, listed, refused, onBounds, stepZones, andThen, cutSteps, zonesAlong, zonesOf}
 use Rattle.cutting.specs.Cutting as cutting
-use Rattle.dbm.specs.Matrix.{inside, delayed, resetAt, resetM}
+use Rattle.cutting.specs.Listings.{on-length}
+use Rattle.dbm.specs.Entries.{up-to-4, resetBit, bits-resets}
+use Rattle.dbm.specs.Matrix.{inside, delayed, resetAt, resetM, resetsM}
 use Rattle.expr.specs.Affine.{Affine}
 use Rattle.expr.specs.Limit.{Limit, none}
 use Rattle.expr.specs.Three.{rangeList}
 use Rattle.expr.specs.declared.bound.Bound.{Bound}
+use Rattle.expr.specs.declared.range.Ranges.{Ranges}
 use Rattle.sheet.specs.declared.Guard.{Guard}
 use Rattle.sheet.specs.declared.Sheet.{Sheet}
+use Rattle.sheet.specs.declared.Transition.{Transition}
 use Rattle.sheet.specs.WellFormed.{WellFormed}
-use Rattle.sweep.specs.Coded.{up-to-4}
-use Rattle.sweep.specs.CodedWalk.{location-in, transition-in}
-use Rattle.sweep.specs.Right.{AllOf, GuardsAll, filled-all, invariants-right, guards-right}
-use Rattle.sweep.specs.Tables.{locationC, transitionC}
-use Rattle.timed.specs.Runs.{invariants, guardsOf, routeOf, transitionAt}
+use Rattle.timed.specs.Automaton.{invariants, guardsOf, routeOf, transitionAt}
+use Rattle.timed.specs.Indexed.{locationC, transitionC, location-in, transition-in}
+use Rattle.timed.specs.Right.{AllOf, StepRight, filled-all, steps-right}
+use Rattle.timed.specs.Steps.{Step, delay, guard, resets, staySteps, moveSteps, stepsFrom, stepsOf, moves}
+use Rattle.timed.specs.Visits.{Visits, steps-visits, steps-moves}
 use Rattle.zones.specs.Coded.{rowOf, boundsOf, zoneOf, zonesIn, coded}
 use Rattle.zones.specs.CodedGuard.{NarrowZone, Sound, guard-sound, guard-coded}
 use Rattle.zones.specs.CodedTests.{NarrowB, NarrowM, zero-narrow}
-use Rattle.zones.specs.Listed.{pick, blankZone}
+use Rattle.zones.specs.Guarded.{guardedC}
+use Rattle.zones.specs.Listed.{blankZone}
 use Rattle.zones.specs.Walked.{delayedB, resetPair, resetB, resetIfB, resetsB, onFirst, delayedZone, resetsZone, delayedAll, resetsAll, atVisit, guardsAll, stayAll, moveAll, walkAll, startAll, zonesAll}
 use Rattle.zones.specs.declared.zone.Zone.{Zone}
 use Rattle.zones.specs.declared.zone.Zones.{Zones}
@@ -45,11 +49,8 @@ delayed-narrow w m n = record { entry = λ i j. cond-narrow (ltb 0 i && (leb i w
 
 -- ---- resets
 -- clock r, if there is such a clock
-abbrev resetIn : ℕ → ℕ → Bounds → Bounds
-resetIn w r m = cutting.pick (ltb w r) m (resetM w r m)
-
 abbrev Resets : Bounds → ℕ → ℕ → Type 0
-Resets m r w = pick (ltb w r) (boundsOf m) (resetB w r (boundsOf m)) ≡ boundsOf (resetIn w r m)
+Resets m r w = cond (ltb w r) (boundsOf m) (resetB w r (boundsOf m)) ≡ boundsOf (cond (leb r w) (resetM w r m) m)
 
 module _ (m : Bounds) where
   reset-1 : (w : ℕ) → w ≤ 4 → Resets m 1 w
@@ -69,38 +70,21 @@ module _ (m : Bounds) where
   reset-4 = up-to-4 (Resets m 4) refl refl refl refl refl
 
 -- where the bit is 1
-abbrev resetBit : ℕ → ℕ → ℕ → Bounds → Bounds
-resetBit w r bit m = cutting.pick (eqb bit 1) (resetIn w r m) m
-
 reset-if : (w r bit : ℕ) (m : Bounds) → Resets m r w → resetIfB w r bit (boundsOf m) ≡ boundsOf (resetBit w r bit m)
 unfolding resetIfB
 reset-if w r bit m h = by (eqb bit 1)
   where
-    by : (b : Bool) → pick b (pick (ltb w r) (boundsOf m) (resetB w r (boundsOf m))) (boundsOf m) ≡ boundsOf (cutting.pick b (resetIn w r m) m)
+    by : (b : Bool) → cond b (cond (ltb w r) (boundsOf m) (resetB w r (boundsOf m))) (boundsOf m) ≡ boundsOf (cond b (cond (leb r w) (resetM w r m) m) m)
     by true = h
     by false = refl
 
--- all four bits
-abbrev resetBits : ℕ → ℕ → Bounds → Bounds
-resetBits w bits m = resetBit w 4 (bits / 8 % 2) (resetBit w 3 (bits / 4 % 2) (resetBit w 2 (bits / 2 % 2) (resetBit w 1 (bits % 2) m)))
-
-pick-same : {A : Type 0} (b : Bool) (a : A) → cutting.pick b a a ≡ a
-pick-same true a = refl
-pick-same false a = refl
-
--- bits of clocks that are not there do nothing
-bits-steps : (bits : ℕ) (m : Bounds) (w : ℕ) → w ≤ 4 → resetBits w bits m ≡ resetBounds w bits w m
-unfolding resetBounds
-bits-steps bits m = up-to-4 (λ w. resetBits w bits m ≡ resetBounds w bits w m)
-    (simp pick-same) (simp (pick-same, div-one)) (simp (pick-same, div-one)) (simp (pick-same, div-one)) (simp div-one)
-
-resets-coded : (w bits : ℕ) (m : Bounds) → w ≤ 4 → resetsB w bits (boundsOf m) ≡ boundsOf (resetBounds w bits w m)
+resets-coded : (w bits : ℕ) (m : Bounds) → w ≤ 4 → resetsB w bits (boundsOf m) ≡ boundsOf (resetsM w bits w m)
 unfolding resetsB
 resets-coded w bits m four =
     let m₁ = resetBit w 1 (bits % 2) m in
     let m₂ = resetBit w 2 (bits / 2 % 2) m₁ in
     let m₃ = resetBit w 3 (bits / 4 % 2) m₂ in
-    rw (← bits-steps bits m w four)
+    rw (← bits-resets bits m w four)
     (ap (λ (l : List Bound). resetIfB w 4 (bits / 8 % 2) (resetIfB w 3 (bits / 4 % 2) (resetIfB w 2 (bits / 2 % 2) l))) (reset-if w 1 (bits % 2) m (reset-1 m w four))
     ∙ ap (λ (l : List Bound). resetIfB w 4 (bits / 8 % 2) (resetIfB w 3 (bits / 4 % 2) l)) (reset-if w 2 (bits / 2 % 2) m₁ (reset-2 m₁ w four))
     ∙ ap (λ (l : List Bound). resetIfB w 4 (bits / 8 % 2) l) (reset-if w 3 (bits / 4 % 2) m₂ (reset-3 m₂ w four))
@@ -116,13 +100,13 @@ reset-narrow : (w r : ℕ) (m : Bounds) → NarrowM m → NarrowM (resetM w r m)
 unfolding resetM
 reset-narrow w r m n = record { entry = λ i j. cond-narrow (inside w i j) (resetAt m (eqb i r) (eqb j r) i j) (m i j) (resetAt-narrow m (eqb i r) (eqb j r) i j n) (n .entry i j) }
 
-resets-narrow : (w bits k : ℕ) (m : Bounds) → NarrowM m → NarrowM (resetBounds w bits k m)
-unfolding resetBounds
+resets-narrow : (w bits k : ℕ) (m : Bounds) → NarrowM m → NarrowM (resetsM w bits k m)
+unfolding resetsM
 resets-narrow w bits zero m n = n
 resets-narrow w bits (suc k) m n = by (eqb (bits / 2 ^ k % 2) 1) (resets-narrow w bits k m n)
   where
-    by : (b : Bool) → NarrowM (resetBounds w bits k m) → NarrowM (cutting.pick b (resetM w (suc k) (resetBounds w bits k m)) (resetBounds w bits k m))
-    by true ih = reset-narrow w (suc k) (resetBounds w bits k m) ih
+    by : (b : Bool) → NarrowM (resetsM w bits k m) → NarrowM (cond b (resetM w (suc k) (resetsM w bits k m)) (resetsM w bits k m))
+    by true ih = reset-narrow w (suc k) (resetsM w bits k m) ih
     by false ih = ih
 
 -- ---- a step on every zone's matrix
@@ -132,11 +116,6 @@ module _ (f : Zone → Zone) (h : Bounds → Bounds) where
   unfolding onFirst onBounds
   on-first e [] rest = refl
   on-first e (z ∷ zs) rest = rw (e z, on-first e zs rest) refl
-
-  on-length : (zs : List cutting.Zone) → length (onBounds h zs) ≡ length zs
-  unfolding onBounds
-  on-length [] = refl
-  on-length (z ∷ zs) = ap suc (on-length zs)
 
   on-narrow : ((m : Bounds) → NarrowM m → NarrowM (h m)) → (zs : List cutting.Zone) → AllOf NarrowZone zs → AllOf NarrowZone (onBounds h zs)
   unfolding onBounds
@@ -148,7 +127,7 @@ module _ (f : Zone → Zone) (h : Bounds → Bounds) where
   unfolding coded zonesIn
   on-list e visit zs =
       ap (λ (l : List Zone). record { refusal = 0; visit = visit; count = length zs; list = l }) (on-first e zs (replicate (32 - length zs) blankZone))
-      ∙ ap (λ (k : ℕ). record { refusal = 0; visit = visit; count = k; list = map zoneOf (onBounds h zs) ++ replicate (32 - k) blankZone }) (sym (on-length zs))
+      ∙ ap (λ (k : ℕ). record { refusal = 0; visit = visit; count = k; list = map zoneOf (onBounds h zs) ++ replicate (32 - k) blankZone }) (sym (on-length h zs))
 
 -- the step after a listing
 abbrev steps : (Bounds → Bounds) → Listing → Listing
@@ -166,11 +145,11 @@ delayed-all w visit four (listed zs) = on-list (delayedZone w) (delayed w none) 
     one z = rw (delayed-coded (z .bounds) w four) refl
 delayed-all w visit four (refused n k) = refl
 
-resets-all : (w bits visit : ℕ) → w ≤ 4 → (o : Listing) → resetsAll w bits (coded visit o) ≡ coded visit (steps (resetBounds w bits w) o)
+resets-all : (w bits visit : ℕ) → w ≤ 4 → (o : Listing) → resetsAll w bits (coded visit o) ≡ coded visit (steps (resetsM w bits w) o)
 unfolding resetsAll coded onFirst zoneOf
-resets-all w bits visit four (listed zs) = on-list (resetsZone w bits) (resetBounds w bits w) one visit zs
+resets-all w bits visit four (listed zs) = on-list (resetsZone w bits) (resetsM w bits w) one visit zs
   where
-    one : (z : cutting.Zone) → resetsZone w bits (zoneOf z) ≡ zoneOf (record { ineqs = z .ineqs; bounds = resetBounds w bits w (z .bounds) })
+    one : (z : cutting.Zone) → resetsZone w bits (zoneOf z) ≡ zoneOf (record { ineqs = z .ineqs; bounds = resetsM w bits w (z .bounds) })
     one z = rw (resets-coded w bits (z .bounds) four) refl
 resets-all w bits visit four (refused n k) = refl
 
@@ -180,130 +159,140 @@ unfolding atVisit coded
 next-visit visit k (listed zs) s = refl
 next-visit visit k (refused n j) s = rw s refl
 
--- ---- guards in file order
-then-then : (o : Listing) (f g : List cutting.Zone → Listing) → andThen (andThen o f) g ≡ andThen o (λ zs. andThen (f zs) g)
-then-then (listed zs) f g = refl
-then-then (refused n k) f g = refl
+-- ---- any list of steps
+-- a step of the code on its zones after k moves, and steps in order
+unfoldable pub stepAll : Ranges → ℕ → ℕ → Step → Zones → Zones
+stepAll b w k delay zs = delayedAll w zs
+stepAll b w k (guard visit g) zs = guardedC b w g zs
+stepAll b w k (resets bits) zs = atVisit (suc k) (resetsAll w bits zs)
+
+-- the moves made after the step
+abbrev pub made : ℕ → Step → ℕ
+made k delay = k
+made k (guard visit g) = k
+made k (resets bits) = suc k
+
+unfoldable pub stepsAll : Ranges → ℕ → ℕ → List Step → Zones → Zones
+stepsAll b w k [] zs = zs
+stepsAll b w k (s ∷ steps) zs = stepsAll b w (made k s) steps (stepAll b w k s zs)
+
+made-moves : (k : ℕ) (s : Step) (steps : List Step) → made k s + moves steps ≡ k + moves (s ∷ steps)
+unfolding moves
+made-moves k delay steps = refl
+made-moves k (guard visit g) steps = refl
+made-moves k (resets bits) steps = omega arith
+
+none-made : (k : ℕ) → k ≡ k + moves []
+unfolding moves
+none-made k = omega arith
+
+first-visit : (k : ℕ) (s : Step) (steps : List Step) → Visits k (s ∷ steps) → Visits k (s ∷ []) × Visits (made k s) steps
+first-visit k delay steps h = (tt, h)
+first-visit k (guard visit g) steps h = ((h .0, tt), h .1)
+first-visit k (resets bits) steps h = (tt, h)
+
+module _ (parameters : ℕ) (b : Ranges) {w : ℕ} (four : w ≤ 4) where
+  small : {i : ℕ} → i ≤ w → i ≤ 4
+  small h = omega arith
+
+  abbrev cutBy : Step → Listing → Listing
+  cutBy s o = andThen o (stepZones (rangeList b) w s)
+
+  abbrev cuts : List Step → Listing → Listing
+  cuts steps o = andThen o (cutSteps (rangeList b) w steps)
+
+  step-sound : (s : Step) → StepRight parameters w s → (o : Listing) → Sound o → Sound (cutBy s o)
+  unfolding stepZones
+  step-sound delay r o n = steps-sound (delayed w none) (delayed-narrow w) o n
+  step-sound (guard visit g) r o n = guard-sound b visit w g four (small (r .left)) (small (r .right)) o n
+  step-sound (resets bits) r o n = steps-sound (resetsM w bits w) (resets-narrow w bits w) o n
+
+  step-coded : (k : ℕ) (s : Step) → Visits k (s ∷ []) → StepRight parameters w s → (o : Listing) → Sound o
+      → stepAll b w k s (coded k o) ≡ coded (made k s) (cutBy s o)
+  unfolding stepAll stepZones
+  step-coded k delay a r o n = delayed-all w k four o
+  step-coded k (guard visit g) a r o n = rw (← a .0) (guard-coded b visit w g four (small (r .left)) (small (r .right)) o n)
+  step-coded k (resets bits) a r o n =
+      ap (atVisit (suc k)) (resets-all w bits k four o)
+      ∙ next-visit k (suc k) (steps (resetsM w bits w) o) (steps-sound (resetsM w bits w) (resets-narrow w bits w) o n)
+
+  none-is : (o : Listing) → o ≡ cuts [] o
+  unfolding cutSteps
+  none-is (listed zs) = refl
+  none-is (refused n k) = refl
+
+  next-is : (s : Step) (steps : List Step) (o : Listing) → cuts steps (cutBy s o) ≡ cuts (s ∷ steps) o
+  unfolding cutSteps
+  next-is s steps (listed zs) = refl
+  next-is s steps (refused n k) = refl
+
+  pub all-coded : (steps : List Step) (k : ℕ) → Visits k steps → AllOf (StepRight parameters w) steps → (o : Listing) → Sound o
+      → stepsAll b w k steps (coded k o) ≡ coded (k + moves steps) (cuts steps o)
+  unfolding stepsAll
+  all-coded [] k a r o n = ap (coded k) (none-is o) ∙ ap (λ (j : ℕ). coded j (cuts [] o)) (none-made k)
+  all-coded (s ∷ steps) k a r o n =
+      let (here, then) = first-visit k s steps a in
+      ap (stepsAll b w (made k s) steps) (step-coded k s here (r .0) o n)
+      ∙ all-coded steps (made k s) then (r .1) (cutBy s o) (step-sound s (r .0) o n)
+      ∙ ap (coded (made k s + moves steps)) (next-is s steps o)
+      ∙ ap (λ (j : ℕ). coded j (cuts (s ∷ steps) o)) (made-moves k s steps)
+
+-- ---- the code's walk makes the steps along the route
+module _ (b : Ranges) (w k : ℕ) (rest : List Step) where
+  guards-then : (gs : List Guard) (zs : Zones) → stepsAll b w k rest (guardsAll b w gs zs) ≡ stepsAll b w k (map (guard k) gs ++ rest) zs
+  unfolding guardsAll stepsAll stepAll
+  guards-then [] zs = refl
+  guards-then (g ∷ gs) zs = guards-then gs (guardedC b w g zs)
+
+  ends-then : (bits : ℕ) (gs : List Guard) (zs : Zones)
+      → stepsAll b w (suc k) rest (atVisit (suc k) (resetsAll w bits (guardsAll b w gs zs))) ≡ stepsAll b w k ((map (guard k) gs ++ (resets bits ∷ [])) ++ rest) zs
+  unfolding guardsAll stepsAll stepAll
+  ends-then bits [] zs = refl
+  ends-then bits (g ∷ gs) zs = ends-then bits gs (guardedC b w g zs)
+
+guards-last : (b : Ranges) (w k : ℕ) (gs : List Guard) (zs : Zones) → guardsAll b w gs zs ≡ stepsAll b w k (map (guard k) gs) zs
+unfolding guardsAll stepsAll stepAll
+guards-last b w k [] zs = refl
+guards-last b w k (g ∷ gs) zs = guards-last b w k gs (guardedC b w g zs)
 
 module _ {s : Sheet} (f : WellFormed s) where
-  abbrev cutGuards : ℕ → List Guard → Listing → Listing
-  cutGuards visit gs o = andThen o (guardsZones (rangeList (s .ranges)) visit (s .clocks) gs)
+  abbrev goes : ℕ → List Step → Zones → Zones
+  goes k steps zs = stepsAll (s .ranges) (s .clocks) k steps zs
 
-  abbrev cutGuard : ℕ → Guard → Listing → Listing
-  cutGuard visit g o = andThen o (λ zs. guardZones (rangeList (s .ranges)) visit (s .clocks) g zs (listed []))
+  abbrev stays : ℕ → Zones → Zones
+  stays l zs = stayAll (s .ranges) (s .clocks) (locationC s l) zs
 
-  one-first : (visit : ℕ) (g : Guard) (gs : List Guard) (o : Listing) → cutGuards visit gs (cutGuard visit g o) ≡ cutGuards visit (g ∷ gs) o
-  unfolding guardsZones
-  one-first visit g gs (listed zs) = refl
-  one-first visit g gs (refused n k) = refl
+  last-is : (k l : ℕ) → l < s .locations → (zs : Zones) → stays l zs ≡ goes k (staySteps s k l) zs
+  unfolding stayAll staySteps stepsAll stepAll invariants
+  last-is k l hl zs =
+      rw (location-in s l (omega (arith, f .location .few))) (guards-last (s .ranges) (s .clocks) k (invariants s l) (delayedAll (s .clocks) zs))
 
-  none-first : (visit : ℕ) (o : Listing) → o ≡ cutGuards visit [] o
-  unfolding guardsZones
-  none-first visit (listed zs) = refl
-  none-first visit (refused n k) = refl
+  stay-then : (k l : ℕ) (rest : List Step) → l < s .locations → (zs : Zones) → goes k rest (stays l zs) ≡ goes k (staySteps s k l ++ rest) zs
+  unfolding stayAll staySteps stepsAll stepAll invariants
+  stay-then k l rest hl zs =
+      rw (location-in s l (omega (arith, f .location .few))) (guards-then (s .ranges) (s .clocks) k rest (invariants s l) (delayedAll (s .clocks) zs))
 
-  small : {i : ℕ} → i ≤ s .clocks → i ≤ 4
-  small h = let c = f .clocks in omega arith
+  move-then : (k n : ℕ) (rest : List Step) → n < s .transitions → (zs : Zones)
+      → goes (suc k) rest (moveAll (s .ranges) (s .clocks) k (transitionC s n) zs) ≡ goes k (moveSteps s k n ++ rest) zs
+  unfolding moveAll moveSteps guardsOf
+  move-then k n rest hn zs =
+      rw (transition-in s n (omega (arith, f .transition .few))) (ends-then (s .ranges) (s .clocks) k rest (transitionAt s n .resets) (guardsOf s n) zs)
 
-  guards-sound : (visit : ℕ) (gs : List Guard) → GuardsAll s gs → (o : Listing) → Sound o → Sound (cutGuards visit gs o)
-  guards-sound visit [] r o n = rw (← none-first visit o) n
-  guards-sound visit (g ∷ gs) r o n =
-      rw (← one-first visit g gs o) (guards-sound visit gs (r .1) (cutGuard visit g o)
-      (guard-sound (s .ranges) visit (s .clocks) g (f .clocks) (small (r .0 .left)) (small (r .0 .right)) o n))
-
-  guards-coded : (visit : ℕ) (gs : List Guard) → GuardsAll s gs → (o : Listing) → Sound o → guardsAll s gs (coded visit o) ≡ coded visit (cutGuards visit gs o)
-  unfolding guardsAll
-  guards-coded visit [] r o n = ap (coded visit) (none-first visit o)
-  guards-coded visit (g ∷ gs) r o n =
-      ap (guardsAll s gs) (guard-coded (s .ranges) visit (s .clocks) g (f .clocks) (small (r .0 .left)) (small (r .0 .right)) o n)
-      ∙ guards-coded visit gs (r .1) (cutGuard visit g o) (guard-sound (s .ranges) visit (s .clocks) g (f .clocks) (small (r .0 .left)) (small (r .0 .right)) o n)
-      ∙ ap (coded visit) (one-first visit g gs o)
-
-  -- ---- a stay
-  abbrev cutStay : ℕ → ℕ → Listing → Listing
-  cutStay visit l o = andThen o (stayZones s visit l)
-
-  stay-is : (visit l : ℕ) (o : Listing) → cutGuards visit (invariants s l) (steps (delayed (s .clocks) none) o) ≡ cutStay visit l o
-  unfolding stayZones
-  stay-is visit l (listed zs) = refl
-  stay-is visit l (refused n k) = refl
-
-  stay-sound : (visit l : ℕ) (o : Listing) → Sound o → Sound (cutStay visit l o)
-  stay-sound visit l o n =
-      rw (← stay-is visit l o) (guards-sound visit (invariants s l) (invariants-right f l) (steps (delayed (s .clocks) none) o)
-      (steps-sound (delayed (s .clocks) none) (delayed-narrow (s .clocks)) o n))
-
-  stay-coded : (visit l : ℕ) → l < s .locations → (o : Listing) → Sound o → stayAll s (locationC s l) (coded visit o) ≡ coded visit (cutStay visit l o)
-  unfolding stayAll invariants
-  stay-coded visit l hl o n =
-      rw (location-in s l (omega (arith, f .location .few)))
-      (ap (guardsAll s (invariants s l)) (delayed-all (s .clocks) visit (f .clocks) o)
-      ∙ guards-coded visit (invariants s l) (invariants-right f l) (steps (delayed (s .clocks) none) o) (steps-sound (delayed (s .clocks) none) (delayed-narrow (s .clocks)) o n)
-      ∙ ap (coded visit) (stay-is visit l o))
-
-  -- ---- a transition
-  abbrev cutMove : ℕ → ℕ → Listing → Listing
-  cutMove visit n o = andThen o (moveZones s visit n)
-
-  abbrev resets : ℕ → Bounds → Bounds
-  resets n = resetBounds (s .clocks) (transitionAt s n .resets) (s .clocks)
-
-  move-is : (visit n : ℕ) (o : Listing) → steps (resets n) (cutGuards visit (guardsOf s n) o) ≡ cutMove visit n o
-  unfolding moveZones
-  move-is visit n (listed zs) = refl
-  move-is visit n (refused a k) = refl
-
-  move-sound : (visit n : ℕ) (o : Listing) → Sound o → Sound (cutMove visit n o)
-  move-sound visit n o h =
-      rw (← move-is visit n o) (steps-sound (resets n) (resets-narrow (s .clocks) (transitionAt s n .resets) (s .clocks)) (cutGuards visit (guardsOf s n) o)
-      (guards-sound visit (guardsOf s n) (guards-right f n) o h))
-
-  move-coded : (visit n : ℕ) → n < s .transitions → (o : Listing) → Sound o → moveAll s visit (transitionC s n) (coded visit o) ≡ coded (suc visit) (cutMove visit n o)
-  unfolding moveAll guardsOf
-  move-coded visit n hn o h =
-      let bits = transitionAt s n .resets in
-      rw (transition-in s n (omega (arith, f .transition .few)))
-      (ap (λ (z : Zones). atVisit (suc visit) (resetsAll (s .clocks) bits z)) (guards-coded visit (guardsOf s n) (guards-right f n) o h)
-      ∙ ap (atVisit (suc visit)) (resets-all (s .clocks) bits visit (f .clocks) (cutGuards visit (guardsOf s n) o) ∙ ap (coded visit) (move-is visit n o))
-      ∙ next-visit visit (suc visit) (cutMove visit n o) (move-sound visit n o h))
-
-  -- ---- the rest of a route
-  abbrev cutRest : ℕ → ℕ → List ℕ → Listing → Listing
-  cutRest visit l ns o = andThen o (cutRoute s visit l ns)
-
-  last-is : (visit l : ℕ) (o : Listing) → cutStay visit l o ≡ cutRest visit l [] o
-  unfolding cutRoute
-  last-is visit l (listed zs) = refl
-  last-is visit l (refused n k) = refl
-
-  next-is : (visit l n : ℕ) (ns : List ℕ) (o : Listing)
-      → cutRest (suc visit) (transitionAt s n .to) ns (cutMove visit n (cutStay visit l o)) ≡ cutRest visit l (n ∷ ns) o
-  unfolding cutRoute
-  next-is visit l n ns (listed zs) = then-then (stayZones s visit l zs) (moveZones s visit n) (cutRoute s (suc visit) (transitionAt s n .to) ns)
-  next-is visit l n ns (refused a k) = refl
-
-  rest-coded : (ns : List ℕ) → AllOf (λ n. n < s .transitions) ns → (visit l : ℕ) → l < s .locations → (o : Listing) → Sound o
-      → walkAll s visit l ns (coded visit o) ≡ coded (visit + length ns) (cutRest visit l ns o)
-  unfolding walkAll
-  rest-coded [] r visit l hl o h =
-      let e : visit ≡ visit + 0 = omega arith in
-      stay-coded visit l hl o h ∙ ap (coded visit) (last-is visit l o) ∙ ap (λ (k : ℕ). coded k (cutRest visit l [] o)) e
-  rest-coded (n ∷ ns) (hn, r) visit l hl o h =
-      let t = transitionC s n in
-      let to = transition-in s n (omega (arith, f .transition .few)) in
-      let e : suc visit + length ns ≡ visit + suc (length ns) = omega arith in
-      ap (λ (z : Zones). walkAll s (suc visit) (t .to) ns (moveAll s visit t z)) (stay-coded visit l hl o h)
-      ∙ ap (walkAll s (suc visit) (t .to) ns) (move-coded visit n hn (cutStay visit l o) (stay-sound visit l o h))
-      ∙ rw to (rest-coded ns r (suc visit) (transitionAt s n .to) (f .transition .each n hn .to) (cutMove visit n (cutStay visit l o))
-      (move-sound visit n (cutStay visit l o) (stay-sound visit l o h)))
-      ∙ ap (coded (suc visit + length ns)) (next-is visit l n ns o)
-      ∙ ap (λ (k : ℕ). coded k (cutRest visit l (n ∷ ns) o)) e
+  walk-is : (ns : List ℕ) → AllOf (λ n. n < s .transitions) ns → (k l : ℕ) → l < s .locations → (zs : Zones)
+      → walkAll s k l ns zs ≡ goes k (stepsFrom s k l ns) zs
+  unfolding walkAll stepsFrom
+  walk-is [] r k l hl zs = last-is k l hl zs
+  walk-is (n ∷ ns) (hn, r) k l hl zs =
+      let to = transitionAt s n .to in
+      let rest = stepsFrom s (suc k) to ns in
+      let gone = moveAll (s .ranges) (s .clocks) k (transitionC s n) (stays l zs) in
+      ap (λ (j : ℕ). walkAll s (suc k) j ns gone) (ap (λ (t : Transition). t .to) (transition-in s n (omega (arith, f .transition .few))))
+      ∙ walk-is ns r (suc k) to (f .transition .each n hn .to) gone
+      ∙ move-then k n rest hn (stays l zs)
+      ∙ stay-then k l (moveSteps s k n ++ rest) hl zs
 
 -- ---- the whole route
-abbrev start : cutting.Zone
-start = record { ineqs = []; bounds = startB }
-
-start-coded : startAll ≡ coded 0 (listed (start ∷ []))
+start-coded : startAll ≡ coded 0 (listed (startZone ∷ []))
 unfolding startAll coded zonesIn zoneOf boundsOf rowOf startB
 start-coded = refl
 
@@ -320,8 +309,11 @@ route-length {s} f =
 
 -- what the code lists is what the cutting lists, or both are refused alike
 pub zones-coded : (s : Sheet) → WellFormed s → zonesAll s ≡ coded (s .moves) (zonesOf s)
-unfolding zonesAll zonesOf routeOf
+unfolding zonesAll zonesOf zonesAlong stepsOf routeOf
 zones-coded s f =
-    ap (walkAll s 0 0 (routeOf s)) start-coded
-    ∙ rest-coded f (routeOf s) (filled-all (f .route)) 0 0 (omega (arith, f .some-location)) (listed (start ∷ [])) (record { bounds = start-narrow }, tt)
-    ∙ ap (λ (k : ℕ). coded k (zonesOf s)) (route-length f)
+    let steps = stepsOf s (routeOf s) in
+    walk-is f (routeOf s) (filled-all (f .route)) 0 0 (omega (arith, f .some-location)) startAll
+    ∙ ap (stepsAll (s .ranges) (s .clocks) 0 steps) start-coded
+    ∙ all-coded (s .parameters) (s .ranges) (f .clocks) steps 0 (steps-visits s (routeOf s)) (steps-right f (routeOf s)) (listed (startZone ∷ []))
+    (record { bounds = start-narrow }, tt)
+    ∙ ap (λ (k : ℕ). coded k (zonesOf s)) (ap (λ (k : ℕ). 0 + k) (steps-moves s (routeOf s)) ∙ route-length f)

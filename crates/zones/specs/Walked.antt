@@ -1,26 +1,27 @@
 -- The whole route, on the code's records: waits, resets, guards in file order, stays and transitions.
 use mathlib.Core.List.{List, [], _∷_}
-use mathlib.Core.Bool.{Bool, true}
+use mathlib.Core.Bool.{Bool, true, cond}
 use Prim.Native.Nat.{ℕ, zero, suc, _+_, _*_, _/_, _%_}
 use lib.Dec.{ltb, eqb}
 use lib.ListN.{getD, set, take, replicate}
 use Rattle.expr.specs.Limit.{none}
 use Rattle.expr.specs.Three.{boundOf}
 use Rattle.expr.specs.declared.bound.Bound.{Bound}
+use Rattle.expr.specs.declared.range.Ranges.{Ranges}
 use Rattle.sheet.specs.declared.Guard.{Guard}
 use Rattle.sheet.specs.declared.Location.{Location}
 use Rattle.sheet.specs.declared.Sheet.{Sheet}
 use Rattle.sheet.specs.declared.Transition.{Transition}
-use Rattle.sweep.specs.Tables.{locationC, transitionC}
+use Rattle.timed.specs.Indexed.{locationC, transitionC}
 use Rattle.zones.specs.Guarded.{guardedC}
-use Rattle.zones.specs.Listed.{pick, zeroBound, zeroExpr, blankZone}
+use Rattle.zones.specs.Listed.{zeroBound, zeroExpr, blankZone}
 use Rattle.zones.specs.Parts.{withBounds}
 use Rattle.zones.specs.declared.zone.Zone.{Zone}
 use Rattle.zones.specs.declared.zone.Zones.{Zones}
 
 -- ---- one matrix, five rows of five
 abbrev pub noneIf : Bool → ℕ → List Bound → List Bound
-noneIf t x m = pick t (set m x (boundOf none)) m
+noneIf t x m = cond t (set m x (boundOf none)) m
 
 -- a wait: entries (i, 0), i ≥ 1, of the clocks become none
 unfoldable pub delayedB : ℕ → List Bound → List Bound
@@ -29,8 +30,8 @@ delayedB w m = noneIf (ltb 3 w) 20 (noneIf (ltb 2 w) 15 (noneIf (ltb 1 w) 10 (no
 -- where clock r is reset, (r, j) takes (0, j) and (j, r) takes (j, 0), for another clock j that there is
 unfoldable pub resetPair : ℕ → ℕ → ℕ → List Bound → List Bound
 resetPair w r j m =
-    pick (ltb w j) m
-    (pick (eqb j r) m
+    cond (ltb w j) m
+    (cond (eqb j r) m
     (let a = set m (5 * r + j) (getD m j zeroBound) in
     set a (5 * j + r) (getD a (5 * j) zeroBound)))
 
@@ -39,7 +40,7 @@ resetB w r m = resetPair w r 4 (resetPair w r 3 (resetPair w r 2 (resetPair w r 
 
 -- clock r is reset if its bit is set and there is such a clock
 unfoldable pub resetIfB : ℕ → ℕ → ℕ → List Bound → List Bound
-resetIfB w r bit m = pick (eqb bit 1) (pick (ltb w r) m (resetB w r m)) m
+resetIfB w r bit m = cond (eqb bit 1) (cond (ltb w r) m (resetB w r m)) m
 
 -- resets in rising order: bit i - 1 for clock i
 unfoldable pub resetsB : ℕ → ℕ → List Bound → List Bound
@@ -66,25 +67,27 @@ resetsAll w bits zs = record { refusal = zs .refusal; visit = zs .visit; count =
 
 -- the visit, unless it was refused before
 unfoldable pub atVisit : ℕ → Zones → Zones
-atVisit k zs = pick (eqb (zs .refusal) 0) (record { refusal = zs .refusal; visit = k; count = zs .count; list = zs .list }) zs
+atVisit k zs = cond (eqb (zs .refusal) 0) (record { refusal = zs .refusal; visit = k; count = zs .count; list = zs .list }) zs
 
 -- guards in file order
-unfoldable pub guardsAll : Sheet → List Guard → Zones → Zones
-guardsAll s [] zs = zs
-guardsAll s (g ∷ gs) zs = guardsAll s gs (guardedC (s .ranges) (s .clocks) g zs)
+unfoldable pub guardsAll : Ranges → ℕ → List Guard → Zones → Zones
+guardsAll b w [] zs = zs
+guardsAll b w (g ∷ gs) zs = guardsAll b w gs (guardedC b w g zs)
 
 -- a stay: a wait, then the location's invariants
-unfoldable pub stayAll : Sheet → Location → Zones → Zones
-stayAll s here zs = guardsAll s (take (here .count) (here .guards)) (delayedAll (s .clocks) zs)
+unfoldable pub stayAll : Ranges → ℕ → Location → Zones → Zones
+stayAll b w here zs = guardsAll b w (take (here .count) (here .guards)) (delayedAll w zs)
 
 -- a transition: its guards, which belong to the visit before it, then its resets
-unfoldable pub moveAll : Sheet → ℕ → Transition → Zones → Zones
-moveAll s visit t zs = atVisit (suc visit) (resetsAll (s .clocks) (t .resets) (guardsAll s (take (t .count) (t .guards)) zs))
+unfoldable pub moveAll : Ranges → ℕ → ℕ → Transition → Zones → Zones
+moveAll b w visit t zs = atVisit (suc visit) (resetsAll w (t .resets) (guardsAll b w (take (t .count) (t .guards)) zs))
 
 -- from location l along the rest of a route
 unfoldable pub walkAll : Sheet → ℕ → ℕ → List ℕ → Zones → Zones
-walkAll s visit l [] zs = stayAll s (locationC s l) zs
-walkAll s visit l (n ∷ ns) zs = walkAll s (suc visit) (transitionC s n .to) ns (moveAll s visit (transitionC s n) (stayAll s (locationC s l) zs))
+walkAll s visit l [] zs = stayAll (s .ranges) (s .clocks) (locationC s l) zs
+walkAll s visit l (n ∷ ns) zs =
+    walkAll s (suc visit) (transitionC s n .to) ns
+    (moveAll (s .ranges) (s .clocks) visit (transitionC s n) (stayAll (s .ranges) (s .clocks) (locationC s l) zs))
 
 -- one zone without inequalities, all entries zero, not strict
 unfoldable pub startAll : Zones

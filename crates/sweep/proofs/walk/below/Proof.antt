@@ -1,5 +1,5 @@
 -- The branches are the cases of `at`.
-use Rattle.sweep.proofs.Steps.{at-below, at-past}
+use Rattle.timed.specs.Indexed.{at-below, at-past}
 use Rattle.sweep.proofs.walk.below.Statement.{statement}
 use Rattle.sweep.proofs.walk.below.Tie as tie
 

@@ -1,14 +1,13 @@
 -- The index is below 16.
 use Prim.Native.Nat.{ℕ, _<_}
 use Rattle.sheet.specs.WellFormed.{noLocation}
-use Rattle.sweep.specs.Tables.{locationC}
+use Rattle.timed.specs.Indexed.{locationC, at-fits}
 use borrow.Author.Needs.{needs}
 use lib.Dec.{lit<}
 use lib.ListN.{getD}
 use mathlib.Core.Path.{ap}
 use mathlib.Core.Path.{subst, sym}
 use native.Mathlib.Omega.{arith}
-use Rattle.sweep.proofs.Steps.{at-fits}
 use Rattle.sweep.proofs.walk.location_at.Statement.{statement}
 use Rattle.sweep.proofs.walk.location_at.Tie as tie
 

@@ -1,14 +1,13 @@
 -- The index is below 32.
 use Prim.Native.Nat.{ℕ, _<_}
 use Rattle.sheet.specs.Route.{noTransition}
-use Rattle.sweep.specs.Tables.{transitionC}
+use Rattle.timed.specs.Indexed.{transitionC, at-fits}
 use borrow.Author.Needs.{needs}
 use lib.Dec.{lit<}
 use lib.ListN.{getD}
 use mathlib.Core.Path.{ap}
 use mathlib.Core.Path.{subst, sym}
 use native.Mathlib.Omega.{arith}
-use Rattle.sweep.proofs.Steps.{at-fits}
 use Rattle.sweep.proofs.walk.transition_at.Statement.{statement}
 use Rattle.sweep.proofs.walk.transition_at.Tie as tie
 

@@ -1,7 +1,8 @@
 -- The loop's invariant: what is left of the route takes the matrix to where the whole route takes it.
 use Prim.Native.Nat.{ℕ, _≤_, _-_}
 use Rattle.expr.specs.Three.{point}
-use Rattle.sweep.specs.Tables.{Table, walkTable, sweepTable, transitionC}
+use Rattle.sweep.specs.Tables.{Table, walkTable, sweepTable}
+use Rattle.timed.specs.Indexed.{transitionC}
 use borrow.Author.Needs.{needs}
 use lib.ListN.{length, take, drop}
 use mathlib.Core.Path.{_≡_, refl, ap, _∙_}

@@ -1,7 +1,7 @@
 -- The branches are the cases of `at`.
 use Rattle.windows.proofs.route.below.Statement.{statement}
 use Rattle.windows.proofs.route.below.Tie as tie
-use Rattle.windows.proofs.Steps.{at-below, at-past}
+use Rattle.timed.specs.Indexed.{at-below, at-past}
 
 returns : tie.Need-returns
 returns c = at-below _ _ (c .if1 .taken)

@@ -4,13 +4,13 @@ use Rattle.windows.proofs.route.guards_of.Tie as tie
 use borrow.Author.Needs.{needs}
 use Prim.Native.Nat.{ℕ, _≤_, _-_}
 use lib.ListN.{length, take, drop, length-map}
-use Rattle.windows.specs.Route.{guardsFor}
+use Rattle.zones.specs.Walked.{guardsAll}
 use mathlib.Core.Path.{_≡_, refl}
 use native.Mathlib.Omega.{arith}
 use Rattle.windows.proofs.Steps.{size-is, guards-turn, guards-done}
 
 abbrev Inv-loop : tie.InvT-loop
-Inv-loop b clocks count guards n now₀ i₀ now i = (n ≤ 6) × (n ≡ length (take count guards)) × (guardsFor b clocks (drop i (take count guards)) now ≡ guardsFor b clocks (take count guards) now₀)
+Inv-loop b clocks count guards n now₀ i₀ now i = (n ≤ 6) × (n ≡ length (take count guards)) × (guardsAll b clocks (drop i (take count guards)) now ≡ guardsAll b clocks (take count guards) now₀)
 
 abbrev μ-loop : tie.MeasureT-loop
 μ-loop b clocks count guards n now₀ i₀ now i = n - i

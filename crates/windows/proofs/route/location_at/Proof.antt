@@ -6,10 +6,9 @@ use Prim.Native.Nat.{ℕ, _<_}
 use lib.Dec.{lit<}
 use lib.ListN.{getD}
 use Rattle.sheet.specs.WellFormed.{noLocation}
-use Rattle.sweep.specs.Tables.{locationC}
+use Rattle.timed.specs.Indexed.{locationC, at-fits}
 use mathlib.Core.Path.{ap, subst, sym}
 use native.Mathlib.Omega.{arith}
-use Rattle.windows.proofs.Steps.{at-fits}
 
 below-requires : tie.Need-below-requires
 below-requires c κs = search needs

@@ -3,7 +3,7 @@ use borrow.Author.Needs.{needs}
 use Rattle.windows.proofs.route.stay.Statement.{statement}
 use Rattle.windows.proofs.route.stay.Tie as tie
 use mathlib.Core.Path.{_∙_, ap}
-use Rattle.windows.specs.Route.{guardsFor, stayFor}
+use Rattle.zones.specs.Walked.{guardsAll, stayAll}
 use Rattle.zones.specs.declared.zone.Zones.{Zones}
 use lib.ListN.{take}
 
@@ -14,10 +14,10 @@ guards-of-requires : tie.Need-guards-of-requires
 guards-of-requires c κs = search needs
 
 returns : tie.Need-returns
-unfolding stayFor
+unfolding stayAll
 returns c =
     let a = c .before .before .before .args in
-    c .guards-of .ensures ∙ ap (λ (z : Zones). guardsFor (a .b) (a .clocks) (take (a .here .count) (a .here .guards)) z) (c .before .delayed-all .ensures)
+    c .guards-of .ensures ∙ ap (λ (z : Zones). guardsAll (a .b) (a .clocks) (take (a .here .count) (a .here .guards)) z) (c .before .delayed-all .ensures)
 
 pub stay-spec : {M : Type 1} → statement M
 stay-spec = tie.close (tie.spec delayed-all-requires guards-of-requires returns)

@@ -3,7 +3,7 @@ use Rattle.windows.proofs.route.walk.Statement.{statement}
 use Rattle.windows.proofs.route.walk.Tie as tie
 use Prim.Native.Nat.{ℕ, _≤_, _-_}
 use lib.ListN.{length, take, drop}
-use Rattle.sweep.specs.Tables.{transitionC}
+use Rattle.timed.specs.Indexed.{transitionC}
 use Rattle.zones.specs.Walked.{walkAll, zonesAll}
 use Rattle.zones.specs.declared.zone.Zones.{Zones}
 use mathlib.Core.Path.{_≡_, refl, ap, _∙_}

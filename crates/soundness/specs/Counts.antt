@@ -1,7 +1,7 @@
--- Kept and cut (paper 01, "Cutting the ranges"): the numbers of valuations with a run and without.
+-- Kept is the number of valuations with a run, and cut of those without (paper 01, "Cutting the ranges").
 use mathlib.Core.Path.{_≡_, refl, sym, ap, subst, _∙_}
 use mathlib.Core.List.{List, [], _∷_, List·Memᴰ, List·Memᴰ·head, List·Memᴰ·tail}
-use mathlib.Core.Bool.{Bool, true, false}
+use mathlib.Core.Bool.{Bool, true, false, cond}
 use Prim.Native.Nat.{ℕ, suc, _+_, _-_, _≤_}
 use native.Mathlib.Omega.{arith}
 use lib.IntN.{ℤ}
@@ -13,28 +13,14 @@ use Rattle.search.specs.Valuations.{valuations, satisfies, countIn, count, pick
 use Rattle.expr.specs.declared.range.Range.{Range}
 use Rattle.sheet.specs.declared.Sheet.{Sheet}
 use Rattle.sheet.specs.WellFormed.{WellFormed}
-use Rattle.sweep.specs.Proofs.{void-iff-no-run}
-use Rattle.sweep.specs.Walk.{sweepAt}
-use Rattle.timed.specs.Runs.{Run}
-use Rattle.cutting.specs.Agree.{found-sweep}
-use Rattle.cutting.specs.Cutting.{Zone, pick, listed, zonesOf}
-use Rattle.cutting.specs.Held.{holds, at, found, listOf}
-use Rattle.cutting.specs.Theorems.{InRanges, found-held, held-iff-run}
-
--- n of the listed valuations have P
-pub data Counted (P : List ℤ → Type 0) : List (List ℤ) → ℕ → Type 0 where
-  nil : Counted P [] 0
-  has : {v : List ℤ} {vs : List (List ℤ)} {n : ℕ} → P v → Counted P vs n → Counted P (v ∷ vs) (suc n)
-  lacks : {v : List ℤ} {vs : List (List ℤ)} {n : ℕ} → (P v → ⊥) → Counted P vs n → Counted P (v ∷ vs) n
-
--- the zones' valuations, zone by zone
-unfoldable pub keptOf : List Range → List Zone → ℕ
-keptOf rs [] = 0
-keptOf rs (z ∷ zs) = count rs (z .ineqs) + keptOf rs zs
-
--- the others
-abbrev pub cutOf : List Range → List Zone → ℕ
-cutOf rs zs = widths rs - keptOf rs zs
+use Rattle.sweep.specs.Proofs.{along-right}
+use Rattle.sweep.specs.Walk.{sweepAlong}
+use Rattle.timed.specs.Automaton.{routeOf}
+use Rattle.timed.specs.Runs.{Run, RunAlong}
+use Rattle.soundness.specs.Along.{found-held, along-found, along-held}
+use Rattle.cutting.specs.Cutting.{Zone, listed, zonesAlong, zonesOf}
+use Rattle.cutting.specs.Held.{InRanges, holds, at, found, listOf}
+use Rattle.cutting.specs.Kept.{Counted, nil, has, lacks, keptOf, cutOf}
 
 -- ---- the statements
 -- kept is the number of valuations of the ranges with a run
@@ -75,35 +61,40 @@ tally-step v vs (z ∷ zs) = by (holds v z) (tally-step v vs zs)
   where
     by : (b : Bool) → tally (v ∷ vs) zs ≡ length (found v zs) + tally vs zs
         → pickN b (suc (countIn (satisfies (z .ineqs)) vs)) (countIn (satisfies (z .ineqs)) vs) + tally (v ∷ vs) zs
-        ≡ length (pick b (at v (z .bounds) ∷ found v zs) (found v zs)) + (countIn (satisfies (z .ineqs)) vs + tally vs zs)
+        ≡ length (cond b (at v (z .bounds) ∷ found v zs) (found v zs)) + (countIn (satisfies (z .ineqs)) vs + tally vs zs)
     by true ih = omega arith
     by false ih = omega arith
 
-module _ (s : Sheet) (f : WellFormed s) (zs : List Zone) (q : zonesOf s ≡ listed zs) where
-  tally-counted : (vs : List (List ℤ)) → ((v : List ℤ) → List·Memᴰ v vs → InRanges s v) → Counted (Run s) vs (tally vs zs)
-  tally-counted [] h = subst (Counted (Run s) []) (sym (tally-none zs)) nil
-  tally-counted (v ∷ vs) h = subst (Counted (Run s) (v ∷ vs)) (sym (tally-step v vs zs)) (by (sweepAt s v) refl (tally-counted vs (λ u i. h u (List·Memᴰ·tail i))))
+module _ (s : Sheet) (f : WellFormed s) (route : List ℕ) (zs : List Zone) (q : zonesAlong s route ≡ listed zs) where
+  tally-counted : (vs : List (List ℤ)) → ((v : List ℤ) → List·Memᴰ v vs → InRanges s v) → Counted (RunAlong s route) vs (tally vs zs)
+  tally-counted [] h = subst (Counted (RunAlong s route) []) (sym (tally-none zs)) nil
+  tally-counted (v ∷ vs) h = subst (Counted (RunAlong s route) (v ∷ vs)) (sym (tally-step v vs zs)) (by (sweepAlong s route v) refl (tally-counted vs (λ u i. h u (List·Memᴰ·tail i))))
     where
       in-ranges : InRanges s v
       in-ranges = h v (List·Memᴰ·head refl)
 
-      by : (o : Outcome) → sweepAt s v ≡ o → Counted (Run s) vs (tally vs zs) → Counted (Run s) (v ∷ vs) (length (found v zs) + tally vs zs)
+      by : (o : Outcome) → sweepAlong s route v ≡ o → Counted (RunAlong s route) vs (tally vs zs) → Counted (RunAlong s route) (v ∷ vs) (length (found v zs) + tally vs zs)
       by void e c =
-          let k : found v zs ≡ [] = found-sweep s v in-ranges zs q ∙ ap listOf e in
+          let k : found v zs ≡ [] = along-found s route zs q v in-ranges ∙ ap listOf e in
           let l : length (found v zs) ≡ 0 = ap length k in
           let n : tally vs zs ≡ length (found v zs) + tally vs zs = omega arith in
-          subst (Counted (Run s) (v ∷ vs)) n (lacks (void-iff-no-run s f v .0 e) c)
+          subst (Counted (RunAlong s route) (v ∷ vs)) n (lacks (along-right s f route v .0 .0 e) c)
       by (kept m) e c =
-          let k : found v zs ≡ m ∷ [] = found-sweep s v in-ranges zs q ∙ ap listOf e in
+          let k : found v zs ≡ m ∷ [] = along-found s route zs q v in-ranges ∙ ap listOf e in
           let l : length (found v zs) ≡ 1 = ap length k in
           let n : suc (tally vs zs) ≡ length (found v zs) + tally vs zs = omega arith in
-          subst (Counted (Run s) (v ∷ vs)) n
-          (has (held-iff-run s f zs q v in-ranges .0 (found-held v zs m [] k)) c)
+          subst (Counted (RunAlong s route) (v ∷ vs)) n
+          (has (along-held s route zs q v in-ranges f .0 (found-held v zs m [] k)) c)
+
+  -- along any route
+  pub along-counts-runs : Counted (RunAlong s route) (valuations (rangeList (s .ranges))) (keptOf (rangeList (s .ranges)) zs)
+  along-counts-runs =
+      subst (Counted (RunAlong s route) (valuations (rangeList (s .ranges)))) (sym (tally-kept (rangeList (s .ranges)) zs))
+      (tally-counted (valuations (rangeList (s .ranges))) (valuations-inside (rangeList (s .ranges))))
 
 pub kept-counts-runs : KeptCountsRuns
-kept-counts-runs s f zs q =
-    subst (Counted (Run s) (valuations (rangeList (s .ranges)))) (sym (tally-kept (rangeList (s .ranges)) zs))
-    (tally-counted s f zs q (valuations (rangeList (s .ranges))) (valuations-inside (rangeList (s .ranges))))
+unfolding zonesOf
+kept-counts-runs s f zs q = along-counts-runs s f (routeOf s) zs q
 
 counted-length : {P : List ℤ → Type 0} {vs : List (List ℤ)} {n : ℕ} → Counted P vs n → n ≤ length vs
 counted-length nil = omega arith

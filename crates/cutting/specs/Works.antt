@@ -1,5 +1,5 @@
--- Windows against Sweep: the zones that hold a valuation, with it put in, are what Sweep's walk leaves at it: none where that is void, else one,
--- with the same matrix.
+-- What steps list for one valuation: working a tree lists just what the tree comes to, and a guard, a delay or resets over all zones do to the
+-- zones that hold the valuation what the rules of the matrices do there.
 use mathlib.Core.Path.{_≡_, refl, sym, ap, subst, fun-ext, _∙_}
 use mathlib.Core.List.{List, [], _∷_, _++_, append-assoc}
 use mathlib.Core.Bool.{Bool, true, false, _&&_, not, cond}
@@ -11,35 +11,27 @@ use lib.Dec.{eqb, ltb, leb}
 use lib.IntN.{ℤ, pos}
 use lib.ListN.{length}
 use lib.Signed.{leZ}
-use Rattle.dbm.specs.Matrix.{Matrix, start, inside, delayed, resetAt, resetM, Outcome, void, kept}
+use Rattle.dbm.specs.Matrix.{Matrix, start, inside, delayed, resetAt, resetM, resetsM, Outcome, void, kept, guarded}
 use Rattle.expr.specs.Affine.{Affine, value, dot, opposite}
 use Rattle.expr.specs.Limit.{Limit, none, atV}
 use Rattle.expr.specs.Ranges.{Inside}
 use Rattle.integer.specs.Bools.{and-left, and-right}
 use Rattle.expr.specs.Laws.{opposite-holds}
 use Rattle.search.specs.SearchLaws.{first-none}
-use Rattle.expr.specs.Three.{limitOf, rangeList}
+use Rattle.expr.specs.Three.{limitOf}
 use Rattle.search.specs.Valuations.{satisfies, first}
 use Rattle.expr.specs.declared.range.Range.{Range}
 use Rattle.sheet.specs.declared.Guard.{Guard}
-use Rattle.sheet.specs.declared.Sheet.{Sheet}
-use Rattle.sweep.specs.Walk.{guardStep, guardSteps, pickM, resetSteps, stay, move, walk, sweepAt}
-use Rattle.sweep.specs.Walk as sweep
-use Rattle.timed.specs.Runs.{invariants, guardsOf, routeOf, transitionAt}
-use Rattle.cutting.specs.Cutting.{Bounds, pick, startB, Zone, Tree, cut, keep, wideTree, asks, guardTree, Listing, listed, refused, INEQS, ZONES, never, listZone, worked, guardZones, andThen, guardsZones, onBounds, resetBounds, stayZones, moveZones, cutRoute, zonesOf}
+use Rattle.timed.specs.Steps.{delay, guard, resets}
+use Rattle.cutting.specs.Cutting.{Bounds, startB, Zone, Tree, cut, keep, wideTree, asks, guardTree, Listing, listed, refused, INEQS, ZONES, never, listZone, worked, guardZones, onBounds, stepZones}
 use Rattle.cutting.specs.Held.{holds, at, found, listOf}
+use Rattle.cutting.specs.Listings.{listed-same, not-listed, worked-refused, guards-refused}
 use Rattle.cutting.specs.Comes.{Comes, guard-comes}
 
 -- ---- lists
-append-nil : {A : Type 0} (xs : List A) → xs ++ [] ≡ xs
+pub append-nil : {A : Type 0} (xs : List A) → xs ++ [] ≡ xs
 append-nil [] = refl
 append-nil (x ∷ xs) = ap (λ ys. x ∷ ys) (append-nil xs)
-
-pub listed-same : {xs ys : List Zone} → listed xs ≡ listed ys → xs ≡ ys
-listed-same h = cc
-
-pub not-listed : {n k : ℕ} {ys : List Zone} → refused n k ≡ listed ys → ⊥
-not-listed h = let z : _≡_ {A = ℕ} 0 1 = cc in omega arith
 
 found-append : (v : List ℤ) (xs ys : List Zone) → found v (xs ++ ys) ≡ found v xs ++ found v ys
 unfolding found
@@ -47,7 +39,7 @@ found-append v [] ys = refl
 found-append v (z ∷ xs) ys = by (holds v z) (found-append v xs ys)
   where
     by : (b : Bool) → found v (xs ++ ys) ≡ found v xs ++ found v ys
-        → pick b (at v (z .bounds) ∷ found v (xs ++ ys)) (found v (xs ++ ys)) ≡ pick b (at v (z .bounds) ∷ found v xs) (found v xs) ++ found v ys
+        → cond b (at v (z .bounds) ∷ found v (xs ++ ys)) (found v (xs ++ ys)) ≡ cond b (at v (z .bounds) ∷ found v xs) (found v xs) ++ found v ys
     by true ih = ap (λ (l : List (Matrix (Limit ℤ))). at v (z .bounds) ∷ l) ih
     by false ih = ih
 
@@ -79,16 +71,9 @@ never-fails rs is e v i h s =
     ap (λ (b : Bool). b && leZ (pos 0) (value e v)) (sym s) ∙ sym (satisfies-one-more is e v) ∙ first-none rs (is ++ (e ∷ [])) (never-none rs is e h) v i
 
 -- ---- a tree worked on a zone's inequalities
-pub worked-refused : (rs : List Range) (visit : ℕ) (t : Tree) (is : List Affine) (n k : ℕ) → worked rs visit t is (refused n k) ≡ refused n k
-unfolding worked
-worked-refused rs visit cut is n k = refl
-worked-refused rs visit (keep m) is n k = refl
-worked-refused rs visit wideTree is n k = refl
-worked-refused rs visit (asks e f) is n k = refl
-
 -- the zones of an outcome that stands for v if b
 abbrev ofV : Bool → Outcome → List (Matrix (Limit ℤ))
-ofV b r = pick b (listOf r) []
+ofV b r = cond b (listOf r) []
 
 halves : (a b c : Bool) (xs : List (Matrix (Limit ℤ))) (r : Outcome) → c ≡ not b → (xs ++ ofV (a && b) r) ++ ofV (a && c) r ≡ xs ++ ofV a r
 halves true true true xs r h = cc
@@ -125,11 +110,11 @@ module _ (rs : List Range) (visit : ℕ) (v : List ℤ) (inside-ranges : Inside 
   keep-works m is zs zs′ r h q =
       by (ltb (length zs) ZONES) q ∙ found-append v zs (record { ineqs = is; bounds = m } ∷ []) ∙ ap (λ (l : List (Matrix (Limit ℤ))). found v zs ++ l) (one (satisfies is v) h)
     where
-      by : (b : Bool) → pick b (listed (zs ++ (record { ineqs = is; bounds = m } ∷ []))) (refused 7 visit) ≡ listed zs′ → found v zs′ ≡ found v (zs ++ (record { ineqs = is; bounds = m } ∷ []))
+      by : (b : Bool) → cond b (listed (zs ++ (record { ineqs = is; bounds = m } ∷ []))) (refused 7 visit) ≡ listed zs′ → found v zs′ ≡ found v (zs ++ (record { ineqs = is; bounds = m } ∷ []))
       by true k = ap (found v) (sym (listed-same k))
       by false k = absurd (not-listed k)
 
-      one : (b : Bool) → (b ≡ true → r ≡ kept (at v m)) → pick b (at v m ∷ []) [] ≡ ofV b r
+      one : (b : Bool) → (b ≡ true → r ≡ kept (at v m)) → cond b (at v m ∷ []) [] ≡ ofV b r
       one true k = ap listOf (sym (k refl))
       one false k = refl
 
@@ -168,19 +153,19 @@ module _ (rs : List Range) (visit : ℕ) (v : List ℤ) (inside-ranges : Inside 
             (of-opposite (leZ (pos 0) (value (opposite e) v)) (leZ (pos 0) (value e v)) (opposite-holds e v)
             (and-right (satisfies is v) (leZ (pos 0) (value (opposite e) v)) a))
 
-    room : (b : Bool) → pick b (no-half yes-half) (refused 8 visit) ≡ listed zs′ → Goal
+    room : (b : Bool) → cond b (no-half yes-half) (refused 8 visit) ≡ listed zs′ → Goal
     room true q = split-works yes-half refl q
     room false q = absurd (not-listed q)
 
     all-do : (b : Bool) → never rs is (opposite e) ≡ b
-        → pick b (worked rs visit (f true) is (listed zs)) (pick (ltb (length is) INEQS) (no-half yes-half) (refused 8 visit)) ≡ listed zs′ → Goal
+        → cond b (worked rs visit (f true) is (listed zs)) (cond (ltb (length is) INEQS) (no-half yes-half) (refused 8 visit)) ≡ listed zs′ → Goal
     all-do true k q = ih true is zs zs′ r
         (λ s. on true s (not-opposite (leZ (pos 0) (value (opposite e) v)) (leZ (pos 0) (value e v)) (opposite-holds e v) (never-fails rs is (opposite e) v inside-ranges k s))) q
     all-do false k q = room (ltb (length is) INEQS) q
 
     none-does : (b : Bool) → never rs is e ≡ b
-        → pick b (worked rs visit (f false) is (listed zs))
-        (pick (never rs is (opposite e)) (worked rs visit (f true) is (listed zs)) (pick (ltb (length is) INEQS) (no-half yes-half) (refused 8 visit))) ≡ listed zs′
+        → cond b (worked rs visit (f false) is (listed zs))
+        (cond (never rs is (opposite e)) (worked rs visit (f true) is (listed zs)) (cond (ltb (length is) INEQS) (no-half yes-half) (refused 8 visit))) ≡ listed zs′
         → Goal
     none-does true k q = ih false is zs zs′ r (λ s. on false s (never-fails rs is e v inside-ranges k s)) q
     none-does false k q = all-do (never rs is (opposite e)) refl q
@@ -197,54 +182,29 @@ module _ (rs : List Range) (visit : ℕ) (v : List ℤ) (inside-ranges : Inside 
   tree-works (asks e f) = asks-works e f (λ b. tree-works (f b))
 
 -- ---- steps on all matrices of a list
-unfoldable each : (Matrix (Limit ℤ) → Outcome) → List (Matrix (Limit ℤ)) → List (Matrix (Limit ℤ))
+unfoldable pub each : (Matrix (Limit ℤ) → Outcome) → List (Matrix (Limit ℤ)) → List (Matrix (Limit ℤ))
 each f [] = []
 each f (m ∷ ms) = listOf (f m) ++ each f ms
 
-each-kept : (ms : List (Matrix (Limit ℤ))) → each kept ms ≡ ms
+pub each-kept : (ms : List (Matrix (Limit ℤ))) → each kept ms ≡ ms
 unfolding each
 each-kept [] = refl
 each-kept (m ∷ ms) = ap (λ (l : List (Matrix (Limit ℤ))). m ∷ l) (each-kept ms)
 
-each-append : (f : Matrix (Limit ℤ) → Outcome) (xs ys : List (Matrix (Limit ℤ))) → each f (xs ++ ys) ≡ each f xs ++ each f ys
-unfolding each
-each-append f [] ys = refl
-each-append f (x ∷ xs) ys = ap (λ (l : List (Matrix (Limit ℤ))). listOf (f x) ++ l) (each-append f xs ys) ∙ sym (append-assoc (listOf (f x)) (each f xs) (each f ys))
-
-each-outcome : (g : Matrix (Limit ℤ) → Outcome) (r : Outcome) → each g (listOf r) ≡ listOf (sweep.andThen r g)
-unfolding each
-each-outcome g void = refl
-each-outcome g (kept m) = append-nil (listOf (g m))
-
-each-then : (f g : Matrix (Limit ℤ) → Outcome) (ms : List (Matrix (Limit ℤ))) → each g (each f ms) ≡ each (λ m. sweep.andThen (f m) g) ms
-unfolding each
-each-then f g [] = refl
-each-then f g (m ∷ ms) =
-    each-append g (listOf (f m)) (each f ms)
-    ∙ ap (λ (l : List (Matrix (Limit ℤ))). l ++ each g (each f ms)) (each-outcome g (f m))
-    ∙ ap (λ (l : List (Matrix (Limit ℤ))). listOf (sweep.andThen (f m) g) ++ l) (each-then f g ms)
-
--- ---- guards
-pub guards-refused : (rs : List Range) (visit w : ℕ) (g : Guard) (zs : List Zone) (n k : ℕ) → guardZones rs visit w g zs (refused n k) ≡ refused n k
-unfolding guardZones
-guards-refused rs visit w g [] n k = refl
-guards-refused rs visit w g (z ∷ zs) n k =
-    ap (guardZones rs visit w g zs) (worked-refused rs visit (guardTree w (g .left) (g .right) (limitOf (g .bound)) (z .bounds)) (z .ineqs) n k)
-    ∙ guards-refused rs visit w g zs n k
-
+-- ---- a guard
 one-more : (b : Bool) (f : Matrix (Limit ℤ) → Outcome) (m : Matrix (Limit ℤ)) (xs ms : List (Matrix (Limit ℤ)))
-    → (xs ++ ofV b (f m)) ++ each f ms ≡ xs ++ each f (pick b (m ∷ ms) ms)
+    → (xs ++ ofV b (f m)) ++ each f ms ≡ xs ++ each f (cond b (m ∷ ms) ms)
 unfolding each
 one-more true f m xs ms = append-assoc xs (listOf (f m)) (each f ms)
 one-more false f m xs ms = ap (λ (l : List (Matrix (Limit ℤ))). l ++ each f ms) (append-nil xs)
 
-pub listed-first : (o : Listing) (f : List Zone → Listing) (zs′ : List Zone) → andThen o f ≡ listed zs′ → (zs : List Zone) × (o ≡ listed zs) × (f zs ≡ listed zs′)
-listed-first (listed zs) f zs′ h = (zs, refl, h)
-listed-first (refused n k) f zs′ h = absurd (not-listed h)
+-- the guard's rules at v
+abbrev pub guardAt : ℕ → List ℤ → Guard → Matrix (Limit ℤ) → Outcome
+guardAt w v g m = guarded w (g .left) (g .right) (atV v (limitOf (g .bound))) m
 
 module _ (rs : List Range) (visit : ℕ) (v : List ℤ) (inside-ranges : Inside v rs) (w : ℕ) where
-  guard-zones : (g : Guard) (zs os zs′ : List Zone) → guardZones rs visit w g zs (listed os) ≡ listed zs′ → found v zs′ ≡ found v os ++ each (guardStep w v g) (found v zs)
-  unfolding guardZones found each guardStep
+  guard-zones : (g : Guard) (zs os zs′ : List Zone) → guardZones rs visit w g zs (listed os) ≡ listed zs′ → found v zs′ ≡ found v os ++ each (guardAt w v g) (found v zs)
+  unfolding guardZones found each
   guard-zones g [] os zs′ q = ap (found v) (sym (listed-same q)) ∙ sym (append-nil (found v os))
   guard-zones g (z ∷ zs) os zs′ q = by (worked rs visit tree (z .ineqs) (listed os)) refl q (λ os₁. guard-zones g zs os₁ zs′)
     where
@@ -252,24 +212,15 @@ module _ (rs : List Range) (visit : ℕ) (v : List ℤ) (inside-ranges : Inside 
       tree = guardTree w (g .left) (g .right) (limitOf (g .bound)) (z .bounds)
 
       by : (o : Listing) → worked rs visit tree (z .ineqs) (listed os) ≡ o → guardZones rs visit w g zs o ≡ listed zs′
-          → ((os₁ : List Zone) → guardZones rs visit w g zs (listed os₁) ≡ listed zs′ → found v zs′ ≡ found v os₁ ++ each (guardStep w v g) (found v zs))
-          → found v zs′ ≡ found v os ++ each (guardStep w v g) (pick (holds v z) (at v (z .bounds) ∷ found v zs) (found v zs))
+          → ((os₁ : List Zone) → guardZones rs visit w g zs (listed os₁) ≡ listed zs′ → found v zs′ ≡ found v os₁ ++ each (guardAt w v g) (found v zs))
+          → found v zs′ ≡ found v os ++ each (guardAt w v g) (cond (holds v z) (at v (z .bounds) ∷ found v zs) (found v zs))
       by (refused n k) e q ih = absurd (not-listed (sym (guards-refused rs visit w g zs n k) ∙ q))
       by (listed os₁) e q ih =
           ih os₁ q
-          ∙ ap (λ (l : List (Matrix (Limit ℤ))). l ++ each (guardStep w v g) (found v zs))
-          (tree-works rs visit v inside-ranges tree (z .ineqs) os os₁ (guardStep w v g (at v (z .bounds)))
+          ∙ ap (λ (l : List (Matrix (Limit ℤ))). l ++ each (guardAt w v g) (found v zs))
+          (tree-works rs visit v inside-ranges tree (z .ineqs) os os₁ (guardAt w v g (at v (z .bounds)))
           (λ s. guard-comes v w (g .left) (g .right) (limitOf (g .bound)) (z .bounds)) e)
-          ∙ one-more (holds v z) (guardStep w v g) (at v (z .bounds)) (found v os) (found v zs)
-
-  guards-zones : (gs : List Guard) (zs zs′ : List Zone) → guardsZones rs visit w gs zs ≡ listed zs′ → found v zs′ ≡ each (guardSteps w v gs) (found v zs)
-  unfolding guardsZones guardSteps found
-  guards-zones [] zs zs′ q = ap (found v) (sym (listed-same q)) ∙ sym (each-kept (found v zs))
-  guards-zones (g ∷ gs) zs zs′ q =
-      let (zs₁, a, b) = listed-first (guardZones rs visit w g zs (listed [])) (guardsZones rs visit w gs) zs′ q in
-      guards-zones gs zs₁ zs′ b
-      ∙ ap (each (guardSteps w v gs)) (guard-zones g zs [] zs₁ a)
-      ∙ each-then (guardStep w v g) (guardSteps w v gs) (found v zs)
+          ∙ one-more (holds v z) (guardAt w v g) (at v (z .bounds)) (found v os) (found v zs)
 
 -- ---- steps on every zone's matrix
 on-found : (v : List ℤ) (f : Bounds → Bounds) (f′ : Matrix (Limit ℤ) → Matrix (Limit ℤ)) → ((m : Bounds) → at v (f m) ≡ f′ (at v m))
@@ -279,7 +230,7 @@ on-found v f f′ h [] = refl
 on-found v f f′ h (z ∷ zs) = by (holds v z) (on-found v f f′ h zs)
   where
     by : (b : Bool) → found v (onBounds f zs) ≡ each (λ m. kept (f′ m)) (found v zs)
-        → pick b (at v (f (z .bounds)) ∷ found v (onBounds f zs)) (found v (onBounds f zs)) ≡ each (λ m. kept (f′ m)) (pick b (at v (z .bounds) ∷ found v zs) (found v zs))
+        → cond b (at v (f (z .bounds)) ∷ found v (onBounds f zs)) (found v (onBounds f zs)) ≡ each (λ m. kept (f′ m)) (cond b (at v (z .bounds) ∷ found v zs) (found v zs))
     by true ih = rw (h (z .bounds), ih) refl
     by false ih = ih
 
@@ -304,55 +255,30 @@ reset-at v w r m = fun-ext (λ i. fun-ext (λ j.
     at-cond v (inside w i j) (resetAt m (eqb i r) (eqb j r) i j) (m i j)
     ∙ ap (λ (x : Limit ℤ). cond (inside w i j) x (at v m i j)) (resetAt-at v m (eqb i r) (eqb j r) i j)))
 
-resets-at : (v : List ℤ) (w bits n : ℕ) (m : Bounds) → at v (resetBounds w bits n m) ≡ resetSteps w bits n (at v m)
-unfolding resetBounds resetSteps
+resets-at : (v : List ℤ) (w bits n : ℕ) (m : Bounds) → at v (resetsM w bits n m) ≡ resetsM w bits n (at v m)
+unfolding resetsM
 resets-at v w bits zero m = refl
 resets-at v w bits (suc i) m = by (eqb (bits / 2 ^ i % 2) 1) (resets-at v w bits i m)
   where
-    by : (b : Bool) → at v (resetBounds w bits i m) ≡ resetSteps w bits i (at v m)
-        → at v (pick b (resetM w (suc i) (resetBounds w bits i m)) (resetBounds w bits i m)) ≡ pickM b (resetM w (suc i) (resetSteps w bits i (at v m))) (resetSteps w bits i (at v m))
-    by true ih = reset-at v w (suc i) (resetBounds w bits i m) ∙ ap (resetM w (suc i)) ih
+    by : (b : Bool) → at v (resetsM w bits i m) ≡ resetsM w bits i (at v m)
+        → at v (cond b (resetM w (suc i) (resetsM w bits i m)) (resetsM w bits i m)) ≡ cond b (resetM w (suc i) (resetsM w bits i (at v m))) (resetsM w bits i (at v m))
+    by true ih = reset-at v w (suc i) (resetsM w bits i m) ∙ ap (resetM w (suc i)) ih
     by false ih = ih
 
--- ---- the route
-module _ (s : Sheet) (v : List ℤ) (inside-ranges : Inside v (rangeList (s .ranges))) where
-  stay-zones : (visit l : ℕ) (zs zs′ : List Zone) → stayZones s visit l zs ≡ listed zs′ → found v zs′ ≡ each (stay s v l) (found v zs)
-  unfolding stayZones stay
-  stay-zones visit l zs zs′ q =
-      guards-zones (rangeList (s .ranges)) visit v inside-ranges (s .clocks) (invariants s l) (onBounds (delayed (s .clocks) none) zs) zs′ q
-      ∙ ap (each (guardSteps (s .clocks) v (invariants s l))) (on-found v (delayed (s .clocks) none) (delayed (s .clocks) none) (delay-at v (s .clocks)) zs)
-      ∙ each-then (λ m. kept (delayed (s .clocks) none m)) (guardSteps (s .clocks) v (invariants s l)) (found v zs)
+-- ---- each kind of step
+module _ (rs : List Range) (v : List ℤ) (inside-ranges : Inside v rs) (w : ℕ) (zs zs′ : List Zone) where
+  pub delay-found : stepZones rs w delay zs ≡ listed zs′ → found v zs′ ≡ each (λ m. kept (delayed w none m)) (found v zs)
+  unfolding stepZones
+  delay-found q = ap (found v) (sym (listed-same q)) ∙ on-found v (delayed w none) (delayed w none) (delay-at v w) zs
 
-  move-zones : (visit n : ℕ) (zs zs′ : List Zone) → moveZones s visit n zs ≡ listed zs′ → found v zs′ ≡ each (move s v n) (found v zs)
-  unfolding moveZones move
-  move-zones visit n zs zs′ q =
-      let resets = transitionAt s n .resets in
-      let (zs₁, a, b) = listed-first (guardsZones (rangeList (s .ranges)) visit (s .clocks) (guardsOf s n) zs) (λ ks. listed (onBounds (resetBounds (s .clocks) resets (s .clocks)) ks)) zs′ q in
-      ap (found v) (sym (listed-same b))
-      ∙ on-found v (resetBounds (s .clocks) resets (s .clocks)) (resetSteps (s .clocks) resets (s .clocks)) (resets-at v (s .clocks) resets (s .clocks)) zs₁
-      ∙ ap (each (λ m. kept (resetSteps (s .clocks) resets (s .clocks) m))) (guards-zones (rangeList (s .ranges)) visit v inside-ranges (s .clocks) (guardsOf s n) zs zs₁ a)
-      ∙ each-then (guardSteps (s .clocks) v (guardsOf s n)) (λ m. kept (resetSteps (s .clocks) resets (s .clocks) m)) (found v zs)
+  pub guard-found : (visit : ℕ) (g : Guard) → stepZones rs w (guard visit g) zs ≡ listed zs′ → found v zs′ ≡ each (guardAt w v g) (found v zs)
+  unfolding stepZones found
+  guard-found visit g q = guard-zones rs visit v inside-ranges w g zs [] zs′ q
 
-  route-zones : (ns : List ℕ) (visit l : ℕ) (zs zs′ : List Zone) → cutRoute s visit l ns zs ≡ listed zs′ → found v zs′ ≡ each (walk s v l ns) (found v zs)
-  unfolding cutRoute walk
-  route-zones [] visit l zs zs′ q = stay-zones visit l zs zs′ q
-  route-zones (n ∷ ns) visit l zs zs′ q =
-      let (zs₁, a, b) = listed-first (stayZones s visit l zs) (λ ks. andThen (moveZones s visit n ks) (cutRoute s (suc visit) (transitionAt s n .to) ns)) zs′ q in
-      let (zs₂, c, d) = listed-first (moveZones s visit n zs₁) (cutRoute s (suc visit) (transitionAt s n .to) ns) zs′ b in
-      route-zones ns (suc visit) (transitionAt s n .to) zs₂ zs′ d
-      ∙ ap (each (walk s v (transitionAt s n .to) ns)) (move-zones visit n zs₁ zs₂ c)
-      ∙ each-then (move s v n) (walk s v (transitionAt s n .to) ns) (found v zs₁)
-      ∙ ap (each (λ m. sweep.andThen (move s v n m) (walk s v (transitionAt s n .to) ns))) (stay-zones visit l zs zs₁ a)
-      ∙ each-then (stay s v l) (λ m. sweep.andThen (move s v n m) (walk s v (transitionAt s n .to) ns)) (found v zs)
+  pub resets-found : (bits : ℕ) → stepZones rs w (resets bits) zs ≡ listed zs′ → found v zs′ ≡ each (λ m. kept (resetsM w bits w m)) (found v zs)
+  unfolding stepZones
+  resets-found bits q = ap (found v) (sym (listed-same q)) ∙ on-found v (resetsM w bits w) (resetsM w bits w) (resets-at v w bits w) zs
 
-start-at : (v : List ℤ) → at v startB ≡ start
+pub start-at : (v : List ℤ) → at v startB ≡ start
 unfolding at startB start atV value dot
 start-at v = refl
-
--- the zones that hold v are what Sweep's walk leaves at v
-pub found-sweep : (s : Sheet) (v : List ℤ) → Inside v (rangeList (s .ranges)) → (zs : List Zone) → zonesOf s ≡ listed zs → found v zs ≡ listOf (sweepAt s v)
-unfolding zonesOf sweepAt found each satisfies
-found-sweep s v i zs q =
-    route-zones s v i (routeOf s) 0 0 (record { ineqs = []; bounds = startB } ∷ []) zs q
-    ∙ ap (λ (m : Matrix (Limit ℤ)). each (walk s v 0 (routeOf s)) (m ∷ [])) (start-at v)
-    ∙ append-nil (listOf (walk s v 0 (routeOf s) start))
