@@ -29,10 +29,10 @@ use Rattle.sheet.specs.Accepted.{read-well-formed}
 use Rattle.sheet.specs.File.{readOf}
 use Rattle.sheet.specs.declared.Sheet.{Sheet}
 use Rattle.dbm.specs.Entries.{up-to-4}
-use Rattle.sweep.specs.Coded.{row, in-row, weighed-of}
+use Rattle.walk.specs.Coded.{row, in-row, weighed-of}
 use Rattle.sweep.specs.Reply.{rowRecord, blankReply, swept, inRange, sheetReply, readingReply, replyOf}
 use Rattle.sweep.specs.Theorems.{Asked, entryAt, sweep-right}
-use Rattle.sweep.specs.Walk.{sweepAt}
+use Rattle.concrete.specs.Walk.{sweepAt}
 use Rattle.sweep.specs.declared.reply.Answer.the-variants as sweepAnswer
 use Rattle.sweep.specs.declared.reply.Reply.{Reply}
 use Rattle.timed.specs.Runs.{Run, Tightest}

@@ -30,10 +30,10 @@ use Rattle.sheet.specs.File.{blankSheet, refusedBy, bodiesOf, judgedRoute, judg
 use Rattle.sheet.specs.Guards.{signedOf, exprOf, boundOf, oneZero, rightField, coefficientField, guardAt, blankGuard, blankGuards, guardStep, guardsAt}
 use Rattle.sheet.specs.Route.{endsAt, linkStep, linksOf}
 use Rattle.sheet.specs.declared.Sheet.{Sheet}
-use Rattle.sweep.specs.Coded.{row}
+use Rattle.walk.specs.Coded.{row}
 use Rattle.sweep.specs.Reply.{blankReply, swept, sheetReply, readingReply, replyOf}
 use Rattle.sweep.specs.Theorems.{entryAt, sweep-right}
-use Rattle.sweep.specs.Walk.{step, walk, sweepAlong, sweepAt}
+use Rattle.concrete.specs.Walk.{step, walk, sweepAlong, sweepAt}
 use Rattle.timed.specs.Automaton.{invariants, guardsOf, routeOf}
 use Rattle.timed.specs.Runs.{Run, Tightest}
 use Rattle.timed.specs.Steps.{staySteps, moveSteps, stepsFrom, stepsOf}

@@ -15,7 +15,7 @@ use Rattle.expr.specs.Three.{rangeList}
 use Rattle.search.specs.Valuations.{satisfies}
 use Rattle.expr.specs.declared.range.Range.{Range}
 use Rattle.sheet.specs.declared.Sheet.{Sheet}
-use Rattle.sweep.specs.Walk.{andThen, step, walk, sweepAlong}
+use Rattle.concrete.specs.Walk.{andThen, step, walk, sweepAlong}
 use Rattle.timed.specs.Steps.{Step, delay, guard, resets, stepsOf}
 
 -- ---- one step after another on all matrices of a list

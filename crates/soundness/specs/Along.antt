@@ -11,8 +11,8 @@ use Rattle.dbm.specs.Matrix.{Matrix, Outcome, void, kept}
 use Rattle.expr.specs.Limit.{Limit, none, limit}
 use Rattle.sheet.specs.declared.Sheet.{Sheet}
 use Rattle.sheet.specs.WellFormed.{WellFormed}
-use Rattle.sweep.specs.Proofs.{along-right}
-use Rattle.sweep.specs.Walk.{sweepAlong}
+use Rattle.concrete.specs.Proofs.{along-right}
+use Rattle.concrete.specs.Walk.{sweepAlong}
 use Rattle.timed.specs.Runs.{RunAlong, TightestAlong}
 use Rattle.cutting.specs.Cutting.{Zone, listed, zonesAlong}
 use Rattle.cutting.specs.Held.{HeldBy, InRanges, holds, at, found, listOf}

@@ -13,8 +13,8 @@ use Rattle.search.specs.Valuations.{valuations, satisfies, countIn, count, pick
 use Rattle.expr.specs.declared.range.Range.{Range}
 use Rattle.sheet.specs.declared.Sheet.{Sheet}
 use Rattle.sheet.specs.WellFormed.{WellFormed}
-use Rattle.sweep.specs.Proofs.{along-right}
-use Rattle.sweep.specs.Walk.{sweepAlong}
+use Rattle.concrete.specs.Proofs.{along-right}
+use Rattle.concrete.specs.Walk.{sweepAlong}
 use Rattle.timed.specs.Automaton.{routeOf}
 use Rattle.timed.specs.Runs.{Run, RunAlong}
 use Rattle.soundness.specs.Along.{found-held, along-found, along-held}

@@ -12,8 +12,8 @@ use Rattle.dbm.specs.Matrix.{Matrix, kept}
 use Rattle.expr.specs.Limit.{Limit}
 use Rattle.sheet.specs.declared.Sheet.{Sheet}
 use Rattle.sheet.specs.WellFormed.{WellFormed}
-use Rattle.sweep.specs.Proofs.{entries-tightest}
-use Rattle.sweep.specs.Walk.{sweepAt}
+use Rattle.concrete.specs.Proofs.{entries-tightest}
+use Rattle.concrete.specs.Walk.{sweepAt}
 use Rattle.timed.specs.Automaton.{routeOf}
 use Rattle.timed.specs.Runs.{Run, Tightest}
 use Rattle.soundness.specs.Along.{along-found, along-found-one, along-agree, along-tightest, along-held}

@@ -14,14 +14,14 @@ use Rattle.expr.specs.declared.range.Range.{Range}
 use Rattle.integer.specs.Order.{≤ℤ-trans}
 use Rattle.sheet.specs.declared.Sheet.{Sheet}
 use Rattle.sheet.specs.WellFormed.{WellFormed, RangeRight, Small}
-use Rattle.sweep.specs.Coded.{coded, row-at, table-not-void}
-use Rattle.sweep.specs.CodedWalk.{sweep-coded}
+use Rattle.walk.specs.Coded.{coded, row-at, table-not-void}
+use Rattle.walk.specs.CodedWalk.{sweep-coded}
 use Rattle.sweep.specs.Reply.{swept, outside, orOutside, sheetReply}
 use Rattle.sweep.specs.ReplyLaws.{outside-none}
-use Rattle.sweep.specs.Sizes.{Thousands, start-visited, walk-visited}
+use Rattle.concrete.specs.Sizes.{Thousands, start-visited, walk-visited}
 use Rattle.sweep.specs.TableReply.{sweptTable, sheetTable}
-use Rattle.sweep.specs.Tables.{sweepTable}
-use Rattle.sweep.specs.Walk.{sweepAlong, sweepAt}
+use Rattle.walk.specs.Tables.{sweepTable}
+use Rattle.concrete.specs.Walk.{sweepAlong, sweepAt}
 use Rattle.timed.specs.Automaton.{routeOf}
 use Rattle.timed.specs.Right.{steps-right}
 use Rattle.timed.specs.Steps.{stepsOf}

@@ -1,19 +1,7 @@
--- What is read first: Walk (Sweep's rules at one valuation) and Claims (what is claimed of them against runs). Proofs has the theorems, Sizes
--- why no number wraps, Tables what the code does step by step; the others serve these.
-pub mod Claims
-pub mod Coded
-pub mod CodedSteps
-pub mod CodedWalk
+-- What is read first: Reply (what Sweep replies to every file and valuation) and Theorems (what that is worth against runs). TableReply is what
+-- the code does, Faithful that it is the same; ReplyLaws serves these.
 pub mod Faithful
-pub mod Moves
-pub mod Padding
-pub mod Proofs
 pub mod Reply
 pub mod ReplyLaws
-pub mod Route
-pub mod Sizes
-pub mod Steps
 pub mod TableReply
-pub mod Tables
 pub mod Theorems
-pub mod Walk

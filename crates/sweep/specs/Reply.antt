@@ -16,9 +16,9 @@ use Rattle.expr.specs.declared.range.Range.{Range}
 use Rattle.expr.specs.declared.weight.Weight.{Weight}
 use Rattle.sheet.specs.File.{Read, readOf}
 use Rattle.sheet.specs.declared.Sheet.{Sheet}
-use Rattle.sweep.specs.Coded.{row}
-use Rattle.sweep.specs.Tables.{zeroRow}
-use Rattle.sweep.specs.Walk.{sweepAt}
+use Rattle.walk.specs.Coded.{row}
+use Rattle.walk.specs.Tables.{zeroRow}
+use Rattle.concrete.specs.Walk.{sweepAt}
 use Rattle.sweep.specs.declared.reply.Reply.{Reply}
 use Rattle.sweep.specs.declared.reply.Row.{Row}
 

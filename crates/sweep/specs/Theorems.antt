@@ -17,13 +17,13 @@ use Rattle.expr.specs.Three.{weighed, rangeList}
 use Rattle.sheet.specs.Accepted.{Fine, read-well-formed}
 use Rattle.sheet.specs.File.{readOf}
 use Rattle.sheet.specs.declared.Sheet.{Sheet}
-use Rattle.sweep.specs.Coded.{row, in-row, weighed-of}
-use Rattle.sweep.specs.Padding.{padded}
-use Rattle.sweep.specs.Proofs.{void-iff-no-run, entries-tightest}
+use Rattle.walk.specs.Coded.{row, in-row, weighed-of}
+use Rattle.concrete.specs.Padding.{padded}
+use Rattle.concrete.specs.Proofs.{void-iff-no-run, entries-tightest}
 use Rattle.sweep.specs.Reply.{SweepReply, rowRecord, zeroRows, blankReply, swept, outside, orOutside, sheetReply, readReply, replyOf}
 use Rattle.sweep.specs.ReplyLaws.{inside-none}
-use Rattle.sweep.specs.Tables.{zeroWeight}
-use Rattle.sweep.specs.Walk.{sweepAt}
+use Rattle.walk.specs.Tables.{zeroWeight}
+use Rattle.concrete.specs.Walk.{sweepAt}
 use Rattle.timed.specs.Runs.{Run, Tightest}
 
 -- ---- the words of the statement

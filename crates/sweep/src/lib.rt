@@ -2,9 +2,7 @@
 //
 // The contract of `sweep` is an equation with `replyOf` of specs/Reply, for every file and every three numbers; specs/Theorems says what that
 // reply is worth: void exactly if no run exists, and else the matrix of tightest bounds over the end states of all runs.
-mod matrix;
 mod reply;
-mod walk;
 
 use answers::file::Checked;
 use answers::sweep::Answer;

@@ -1,6 +1,4 @@
 // What Sweep replies for a sheet and three numbers.
-use crate::matrix;
-use crate::walk;
 use answers::sweep::Answer;
 use expr::Range;
 use expr::Ranges;
@@ -51,7 +49,7 @@ pub(crate) fn blank(answer: Answer) -> Reply
 fn swept(m: [[Weight; 5]; 5]) -> Reply
     ensures { λ r. ⌜ replyAs r ≡ sweptTable m ⌝ }
 {
-    if matrix::is_void(m) {
+    if walk::is_void(m) {
         return blank(Answer::Void);
     }
     Reply {

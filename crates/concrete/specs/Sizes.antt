@@ -1,0 +1,201 @@
+-- How large the numbers of Sweep's matrices grow, where every parameter lies from -1,000 to 1,000: a guard's number is at most 3,001,000 in size,
+-- and after any steps with at most 33 delays every number stays within 2 ^ 57.
+use mathlib.Core.Path.{_≡_, refl, ap, subst}
+use mathlib.Core.Logic.{_⊎_, inl, inr}
+use mathlib.Core.List.{List, [], _∷_}
+use mathlib.Core.Bool.{Bool, true, false, cond}
+use Prim.Native.Nat.{ℕ, zero, suc, _+_, _*_, _/_, _%_, _^_, _≤_, _<_}
+use native.Mathlib.Omega.{arith}
+use lib.Dec.{eqb}
+use lib.IntN.{ℤ, natAbs, _*ℤ_}
+use lib.ListN.{length}
+use Rattle.integer.specs.Parts.{p, n, pos-parts, natAbs-parts}
+use Rattle.integer.specs.Product.{size-in, size-low, size-high, sum-size, product-size}
+use Rattle.dbm.specs.Matrix.{Matrix, start, delayed, resetM, resetsM, guarded, Outcome, void, kept, Closed}
+use Rattle.dbm.specs.State.{start-closed}
+use Rattle.dbm.specs.Size.{AtMost, Small, Visit, atMost-more, atMost-sum, small-visit, delayed-visit, visit-small, guarded-visit, reset-visit}
+use Rattle.expr.specs.Affine.{dot, value}
+use Rattle.expr.specs.Limit.{Limit, none, limit, sumW, atV, saturated}
+use Rattle.expr.specs.Laws.{saturate-same}
+use Rattle.expr.specs.Three.{affine, limitOf, pickL}
+use Rattle.expr.specs.declared.number.Expr.{Expr}
+use Rattle.sheet.specs.declared.Guard.{Guard}
+use Rattle.sheet.specs.declared.Sheet.{Sheet}
+use Rattle.sheet.specs.WellFormed.{Small as Thousand, ExprRight, GuardRight, WellFormed}
+use Rattle.timed.specs.Automaton.{routeOf}
+use Rattle.timed.specs.Right.{AllOf, StepRight, steps-right, route-delays}
+use Rattle.timed.specs.Steps.{Step, delay, guard, resets, stepsOf, delays}
+use Rattle.concrete.specs.Walk.{andThen, step, walk, sweepAlong, sweepAt}
+
+-- every parameter lies from -1,000 to 1,000
+abbrev pub Thousands : List ℤ → Type 0
+Thousands = AllOf Thousand
+
+-- ---- a guard's number
+thousand-size : {x : ℤ} → Thousand x → p x + n x ≤ 1000
+thousand-size h = size-in (h .least) (h .most)
+
+dot-size : (cs v : List ℤ) → Thousands cs → Thousands v → p (dot cs v) + n (dot cs v) ≤ length cs * 1000000
+unfolding dot
+dot-size [] v h k = omega (arith, pos-parts 0)
+dot-size (c ∷ cs) [] h k = omega (arith, pos-parts 0)
+dot-size (c ∷ cs) (x ∷ v) h k =
+    omega (arith, sum-size (c *ℤ x) (dot cs v) (product-size c x (thousand-size (h .0)) (thousand-size (k .0))) (dot-size cs v (h .1) (k .1)))
+
+value-size : {parameters : ℕ} (e : Expr) (v : List ℤ) → ExprRight parameters e → Thousands v → natAbs (value (affine e) v) ≤ 3001000
+unfolding value
+value-size e v r h =
+    let d = dot-size (e .p ∷ e .q ∷ e .r ∷ []) v (r .p, (r .q, (r .r, tt))) h in
+    rw natAbs-parts (sum-size (e .constant) (dot (e .p ∷ e .q ∷ e .r ∷ []) v) (thousand-size (r .constant)) d)
+
+-- a guard's number is at most 3,001,000 in size
+pub guard-size : {parameters w : ℕ} {g : Guard} (v : List ℤ) → GuardRight parameters w g → Thousands v → AtMost 3001000 (atV v (limitOf (g .bound)))
+unfolding atV
+guard-size {parameters} {w} {g} v r h = by (g .bound .none)
+  where
+    by : (b : Bool) → AtMost 3001000 (atV v (pickL b none (limit (g .bound .strict) (affine (g .bound .expr)))))
+    by true = record { size = tt }
+    by false = record { size = value-size (g .bound .expr) v (r .expr) h }
+
+-- ---- from delay to delay
+-- how large numbers are after k delays, but for what guards add after the last
+unfoldable pub size : ℕ → ℕ
+size zero = 0
+size (suc k) = 2 * (size k + 3001000)
+
+-- a matrix after k delays, with guards and resets among them
+abbrev pub Visited : ℕ → ℕ → Matrix (Limit ℤ) → Type 0
+Visited w k m = Visit w (size k) 3001000 m
+
+pub start-visited : (w : ℕ) → Visited w 0 start
+unfolding start size
+start-visited w = small-visit 3001000 (start-closed w) (λ i j hi hj. record { size = omega arith })
+
+delayed-visited : {w : ℕ} {m : Matrix (Limit ℤ)} (k : ℕ) → Visited w k m → Visited w (suc k) (delayed w none m)
+unfolding size
+delayed-visited k a = delayed-visit 3001000 (a .closed) (visit-small a)
+
+-- ---- guards and resets
+one-clock : {parameters w : ℕ} {g : Guard} → GuardRight parameters w g → (g .left ≡ 0) ⊎ (g .right ≡ 0)
+one-clock {g = g} r = by (r .one-zero)
+  where
+    by : ((g .left ≡ 0) × (0 < g .right)) ⊎ ((0 < g .left) × (g .right ≡ 0)) → (g .left ≡ 0) ⊎ (g .right ≡ 0)
+    by (inl h) = inl (h .0)
+    by (inr h) = inr (h .1)
+
+-- the outcome, if it is a matrix, has P
+abbrev pub IfKept : (Matrix (Limit ℤ) → Type 0) → Outcome → Type 0
+IfKept P void = Unit
+IfKept P (kept m) = P m
+
+if-kept : (P : Matrix (Limit ℤ) → Type 0) (r : Outcome) → ((m : Matrix (Limit ℤ)) → r ≡ kept m → P m) → IfKept P r
+if-kept P void f = tt
+if-kept P (kept m) f = f m refl
+
+then-kept : (P Q : Matrix (Limit ℤ) → Type 0) (f : Matrix (Limit ℤ) → Outcome) → ((m : Matrix (Limit ℤ)) → P m → IfKept Q (f m))
+    → (r : Outcome) → IfKept P r → IfKept Q (andThen r f)
+then-kept P Q f b void a = tt
+then-kept P Q f b (kept m) a = b m a
+
+reset-cond : {w B C : ℕ} {m : Matrix (Limit ℤ)} (r : ℕ) (b : Bool) → r ≤ w → Visit w B C m → Visit w B C (cond b (resetM w r m) m)
+reset-cond r true hr a = reset-visit r hr a
+reset-cond r false hr a = a
+
+resets-visit : {w B C : ℕ} {m : Matrix (Limit ℤ)} (bits k : ℕ) → k ≤ w → Visit w B C m → Visit w B C (resetsM w bits k m)
+unfolding resetsM
+resets-visit bits zero h a = a
+resets-visit bits (suc k) h a = reset-cond (suc k) (eqb (bits / 2 ^ k % 2) 1) h (resets-visit bits k (omega arith) a)
+
+-- ---- any list of steps
+-- the number of delays after a step
+abbrev pub after : ℕ → Step → ℕ
+after k delay = suc k
+after k (guard visit g) = k
+after k (resets bits) = k
+
+pub after-delays : (k : ℕ) (s : Step) (steps : List Step) → after k s + delays steps ≡ k + delays (s ∷ steps)
+unfolding delays
+after-delays k delay steps = omega arith
+after-delays k (guard visit g) steps = omega arith
+after-delays k (resets bits) steps = omega arith
+
+none-more : (k : ℕ) → k ≡ k + delays []
+unfolding delays
+none-more k = omega arith
+
+module _ (parameters : ℕ) {w : ℕ} (v : List ℤ) (h : Thousands v) where
+  step-if : (s : Step) → StepRight parameters w s → (k : ℕ) (m : Matrix (Limit ℤ)) → Visited w k m → IfKept (Visited w (after k s)) (step w v s m)
+  unfolding step
+  step-if delay r k m a = delayed-visited k a
+  step-if (guard visit g) r k m a =
+      if-kept (Visited w k) (guarded w (g .left) (g .right) (atV v (limitOf (g .bound))) m)
+      (λ m′ e. guarded-visit a (guard-size v r h) (g .left) (g .right) (r .left) (r .right) (one-clock r) e)
+  step-if (resets bits) r k m a = resets-visit bits w (omega arith) a
+
+  pub step-visited : {m m′ : Matrix (Limit ℤ)} (s : Step) → StepRight parameters w s → (k : ℕ) → Visited w k m → step w v s m ≡ kept m′
+      → Visited w (after k s) m′
+  step-visited {m} s r k a e = subst (IfKept (Visited w (after k s))) e (step-if s r k m a)
+
+  walk-if : (steps : List Step) → AllOf (StepRight parameters w) steps → (k : ℕ) (m : Matrix (Limit ℤ)) → Visited w k m
+      → IfKept (Visited w (k + delays steps)) (walk w v steps m)
+  unfolding walk
+  walk-if [] r k m a =
+      let e : k ≡ k + delays [] = none-more k in
+      subst (λ (n : ℕ). Visited w n m) e a
+  walk-if (s ∷ steps) r k m a =
+      then-kept (Visited w (after k s)) (Visited w (k + delays (s ∷ steps))) (walk w v steps)
+      (λ b c. subst (λ (n : ℕ). IfKept (Visited w n) (walk w v steps b)) (after-delays k s steps) (walk-if steps (r .1) (after k s) b c))
+      (step w v s m) (step-if s (r .0) k m a)
+
+  pub walk-visited : {m m′ : Matrix (Limit ℤ)} (steps : List Step) → AllOf (StepRight parameters w) steps → (k : ℕ) → Visited w k m
+      → walk w v steps m ≡ kept m′ → Visited w (k + delays steps) m′
+  walk-visited {m} steps r k a e = subst (IfKept (Visited w (k + delays steps))) e (walk-if steps r k m a)
+
+-- ---- all of it lies within 2 ^ 57
+pub size-order : (j k : ℕ) → j ≤ k → size j ≤ size k
+unfolding size
+size-order zero k h = omega arith
+size-order (suc j) zero h = absurd (omega arith)
+size-order (suc j) (suc k) h = omega (arith, size-order j k (omega arith))
+
+size-34 : size 34 < 2 ^ 57
+unfolding size
+size-34 = omega arith
+
+pub visited-within : {w : ℕ} {m : Matrix (Limit ℤ)} (k : ℕ) → k ≤ 33 → Visited w k m → Small w (2 ^ 57) m
+unfolding size
+visited-within k h a i j hi hj = atMost-more (omega (arith, size-order (suc k) 34 (omega arith), size-34)) (visit-small a i j hi hj)
+
+-- every number after any right steps with at most 33 delays
+pub steps-within : (parameters : ℕ) {w : ℕ} {m : Matrix (Limit ℤ)} (v : List ℤ) → Thousands v → (steps : List Step)
+    → AllOf (StepRight parameters w) steps → delays steps ≤ 33 → walk w v steps start ≡ kept m → Small w (2 ^ 57) m
+steps-within parameters {w} v h steps r few e =
+    visited-within (0 + delays steps) (omega arith) (walk-visited parameters v h steps r 0 (start-visited w) e)
+
+-- so every number that Sweep comes to, along the sheet's own route
+pub sweep-within : {s : Sheet} {m : Matrix (Limit ℤ)} → WellFormed s → (v : List ℤ) → Thousands v → sweepAt s v ≡ kept m → Small (s .clocks) (2 ^ 57) m
+unfolding sweepAt sweepAlong
+sweep-within {s} f v h e =
+    steps-within (s .parameters) v h (stepsOf s (routeOf s)) (steps-right f (routeOf s)) (route-delays f) e
+
+-- ---- so the code's sums, which count a number past 2 ^ 62 - 1 as that end, are exact
+pub saturated-same : (a : Limit ℤ) {B : ℕ} → B < 2 ^ 62 → AtMost B a → saturated a ≡ a
+unfolding saturated
+saturated-same none g h = refl
+saturated-same (limit t x) {B} g h =
+    let l : p x + n x ≤ 4611686018427387903 = omega (arith, natAbs-parts x, h .size) in
+    ap (limit t) (saturate-same x (size-low l) (size-high l))
+
+module _ {w : ℕ} {m : Matrix (Limit ℤ)} {e : Limit ℤ} (h : Small w (2 ^ 57) m) (g : AtMost 3001000 e) where
+  -- e + (j, i), which says whether a guard leaves it void
+  pub loop-exact : (i j : ℕ) → i ≤ w → j ≤ w → sumW (saturated e) (saturated (m j i)) ≡ sumW e (m j i)
+  loop-exact i j hi hj = rw (saturated-same e (omega arith) g, saturated-same (m j i) (omega arith) (h j i hj hi)) refl
+
+  -- (k, i) + e + (j, l), what a guard gives to (k, l)
+  pub way-exact : (i j k l : ℕ) → i ≤ w → j ≤ w → k ≤ w → l ≤ w
+      → sumW (saturated (sumW (saturated (m k i)) (saturated e))) (saturated (m j l)) ≡ sumW (sumW (m k i) e) (m j l)
+  way-exact i j k l hi hj hk hl =
+      let a = atMost-sum (h k i hk hi) g in
+      rw (saturated-same (m k i) (omega arith) (h k i hk hi), saturated-same e (omega arith) g) (
+      rw (saturated-same (sumW (m k i) e) (omega arith) a, saturated-same (m j l) (omega arith) (h j l hj hl)) refl
+      )

@@ -1,0 +1,112 @@
+-- The cases of the code's steps on tables, with the branches' tests.
+use mathlib.Core.Path.{_≡_, refl, sym, _∙_, ap}
+use mathlib.Core.List.{List, [], _∷_}
+use mathlib.Core.Bool.{Bool, true, false, cond}
+use Prim.Native.Nat.{ℕ, suc, _+_, _≤_, _<_, min}
+use native.Mathlib.Numerals.{add-one}
+use native.Mathlib.Omega.{arith}
+use borrow.Author.Tests.{lt-ltb, le-ltb}
+use lib.Dec.{ltb, leb, eqb}
+use lib.IntN.{ℤ}
+use lib.ListN.{length, getD, take, drop, length-take, drop-of-length-le}
+use lib.Seq.{drop-cons, getD-take}
+use Rattle.expr.specs.declared.weight.Weight.{Weight}
+use Rattle.sheet.specs.declared.Guard.{Guard}
+use Rattle.sheet.specs.declared.Location.{Location}
+use Rattle.sheet.specs.declared.Sheet.{Sheet}
+use Rattle.sheet.specs.declared.Transition.{Transition}
+use Rattle.walk.specs.Tables.{Table, zeroWeight, voidTable, entryOf, rowOf, isVoid, sumC, tighterC, limitedEntry, limitedTable, guardedTable, guardTable, guardsTable, stayTable, moveTable, walkTable}
+use Rattle.timed.specs.Indexed.{locationC, transitionC}
+
+pub list5 : {A : Type 0} {a b c d e a′ b′ c′ d′ e′ : A} → a ≡ a′ → b ≡ b′ → c ≡ c′ → d ≡ d′ → e ≡ e′
+    → _≡_ {A = List A} (a ∷ b ∷ c ∷ d ∷ e ∷ []) (a′ ∷ b′ ∷ c′ ∷ d′ ∷ e′ ∷ [])
+list5 p q r s t = λ i. p i ∷ q i ∷ r i ∷ s i ∷ t i ∷ []
+
+module _ (past : Bool) (was s add via : Weight) (t : Bool) (h : past ≡ false) (ev : via ≡ sumC s add) (et : t ≡ tighterC via was) where
+  pub entry-via : t ≡ true → via ≡ limitedEntry past was s add
+  unfolding limitedEntry
+  entry-via ht =
+      let k : tighterC (sumC s add) was ≡ true = sym (ap (λ (x : Weight). tighterC x was) ev) ∙ sym et ∙ ht in
+      rw (h, k) ev
+
+  pub entry-was : t ≡ false → was ≡ limitedEntry past was s add
+  unfolding limitedEntry
+  entry-was ht =
+      let k : tighterC (sumC s add) was ≡ false = sym (ap (λ (x : Weight). tighterC x was) ev) ∙ sym et ∙ ht in
+      rw (h, k) refl
+
+-- ---- the rules for a guard
+module _ (m : Table) (clocks i j : ℕ) (e : Weight) where
+  pub guard-past-i : 4 < i → m ≡ guardedTable m clocks i j e
+  unfolding guardedTable
+  guard-past-i h = rw (lt-ltb 4 i h) refl
+
+  pub guard-past-j : i ≤ 4 → 4 < j → m ≡ guardedTable m clocks i j e
+  unfolding guardedTable
+  guard-past-j h k = rw (le-ltb 4 i h, lt-ltb 4 j k) refl
+
+  module _ (hi : i ≤ 4) (hj : j ≤ 4) (v : Bool) (ev : v ≡ isVoid m) where
+    pub guard-void : v ≡ true → m ≡ guardedTable m clocks i j e
+    unfolding guardedTable
+    guard-void h = rw (le-ltb 4 i hi, le-ltb 4 j hj, sym ev ∙ h) refl
+
+    module _ (hv : v ≡ false) (s : Weight) (t : Bool) (es : s ≡ sumC e (entryOf m j i)) (et : t ≡ tighterC s zeroWeight) where
+      cut : (b : Bool) → t ≡ b → tighterC (sumC e (entryOf m j i)) zeroWeight ≡ b
+      cut b h = sym (ap (λ (x : Weight). tighterC x zeroWeight) es) ∙ sym et ∙ h
+
+      pub guard-cut : t ≡ true → voidTable ≡ guardedTable m clocks i j e
+      unfolding guardedTable
+      guard-cut h = rw (le-ltb 4 i hi, le-ltb 4 j hj, sym ev ∙ hv, cut true h) refl
+
+      module _ (ht : t ≡ false) (u : Bool) (eu : u ≡ tighterC e (entryOf m i j)) where
+        pub guard-limited : u ≡ true → limitedTable m clocks i j e ≡ guardedTable m clocks i j e
+        unfolding guardedTable
+        guard-limited h = rw (le-ltb 4 i hi, le-ltb 4 j hj, sym ev ∙ hv, cut false ht, sym eu ∙ h) refl
+
+        pub guard-stays : u ≡ false → m ≡ guardedTable m clocks i j e
+        unfolding guardedTable
+        guard-stays h = rw (le-ltb 4 i hi, le-ltb 4 j hj, sym ev ∙ hv, cut false ht, sym eu ∙ h) refl
+
+-- ---- the loop over guards: what is left of the list takes the matrix to where the whole list takes it
+pub size-is : {A : Type 0} (n k most : ℕ) (xs : List A) → n ≡ min k most → length xs ≡ most → (n ≤ most) × (n ≡ length (take k xs))
+size-is n k most xs e l = (omega arith, rw (length-take k xs, l) e)
+
+module _ (clocks : ℕ) (v : List ℤ) (xs : List Guard) (k : ℕ) where
+  guards-cons : (l : List Guard) (g : Guard) (rest : List Guard) (m : Table) → l ≡ g ∷ rest → guardsTable m clocks v l ≡ guardsTable (guardTable m clocks v g) clocks v rest
+  unfolding guardsTable
+  guards-cons l g rest m h = rw h refl
+
+  pub guards-turn : (i : ℕ) (m n w : Table) (d : Guard) → i < length (take k xs) → guardsTable m clocks v (drop i (take k xs)) ≡ w
+      → n ≡ guardTable m clocks v (getD xs i d) → guardsTable n clocks v (drop (i + 1) (take k xs)) ≡ w
+  guards-turn i m n w d h e f =
+      let b : i < k = omega (arith, length-take k xs) in
+      rw (add-one i, f, ← getD-take k xs i d b)
+      (sym (guards-cons (drop i (take k xs)) (getD (take k xs) i d) (drop (suc i) (take k xs)) m (drop-cons (take k xs) i d h)) ∙ e)
+
+  pub guards-done : (i : ℕ) (m w : Table) → length (take k xs) ≤ i → guardsTable m clocks v (drop i (take k xs)) ≡ w → m ≡ w
+  unfolding guardsTable
+  guards-done i m w h e = rw (drop-of-length-le (take k xs) h) at e
+
+-- ---- the loop over the route: what is left of it takes the matrix to where the whole route takes it
+module _ (s : Sheet) (v : List ℤ) where
+  walk-cons : (ns : List ℕ) (n : ℕ) (rest : List ℕ) (l : ℕ) (m : Table) → ns ≡ n ∷ rest
+      → walkTable s v l ns m ≡ walkTable s v (transitionC s n .to) rest (moveTable (stayTable m (s .clocks) v (locationC s l)) (s .clocks) v (transitionC s n))
+  unfolding walkTable
+  walk-cons ns n rest l m h = rw h refl
+
+  pub walk-turn : (k l : ℕ) (m stayed next w : Table) (here : Location) (t : Transition) → k < length (take (s .moves) (s .route))
+      → walkTable s v l (drop k (take (s .moves) (s .route))) m ≡ w → t ≡ transitionC s (getD (s .route) k 0) → here ≡ locationC s l
+      → stayed ≡ stayTable m (s .clocks) v here → next ≡ moveTable stayed (s .clocks) v t
+      → walkTable s v (t .to) (drop (k + 1) (take (s .moves) (s .route))) next ≡ w
+  walk-turn k l m stayed next w here t h e et eh es en =
+      let b : k < s .moves = omega (arith, length-take (s .moves) (s .route)) in
+      rw (add-one k, en, es, eh, et, ← getD-take (s .moves) (s .route) k 0 b)
+      (sym (walk-cons (drop k (take (s .moves) (s .route))) (getD (take (s .moves) (s .route)) k 0) (drop (suc k) (take (s .moves) (s .route))) l m
+      (drop-cons (take (s .moves) (s .route)) k 0 h)) ∙ e)
+
+  pub walk-done : (k l : ℕ) (m r w : Table) (here : Location) → length (take (s .moves) (s .route)) ≤ k
+      → walkTable s v l (drop k (take (s .moves) (s .route))) m ≡ w → here ≡ locationC s l → r ≡ stayTable m (s .clocks) v here → r ≡ w
+  unfolding walkTable
+  walk-done k l m r w here h e eh er =
+      let f : stayTable m (s .clocks) v (locationC s l) ≡ w = rw (drop-of-length-le (take (s .moves) (s .route)) h) at e in
+      er ∙ ap (λ (p : Location). stayTable m (s .clocks) v p) eh ∙ f

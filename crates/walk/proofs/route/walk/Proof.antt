@@ -1,0 +1,103 @@
+-- The loop's invariant: what is left of the route takes the matrix to where the whole route takes it.
+use Prim.Native.Nat.{ℕ, _≤_, _-_}
+use Rattle.expr.specs.Three.{point}
+use Rattle.walk.specs.Tables.{Table, walkTable, sweepTable}
+use Rattle.timed.specs.Indexed.{transitionC}
+use borrow.Author.Needs.{needs}
+use lib.ListN.{length, take, drop}
+use mathlib.Core.Path.{_≡_, refl, ap, _∙_}
+use native.Mathlib.Omega.{arith}
+use Rattle.walk.proofs.Steps.{size-is, walk-turn, walk-done}
+use Rattle.walk.proofs.route.walk.Statement.{statement}
+use Rattle.walk.proofs.route.walk.Tie as tie
+
+abbrev Inv-loop : tie.InvT-loop
+Inv-loop v s n m₀ l₀ k₀ m l k =
+    (n ≤ 32) × (n ≡ length (take (s .moves) (s .route))) × (walkTable s (point v) l (drop k (take (s .moves) (s .route))) m ≡ sweepTable s (point v))
+
+abbrev μ-loop : tie.MeasureT-loop
+μ-loop v s n m₀ l₀ k₀ m l k = n - k
+
+at-most-requires : tie.Need-at-most-requires Inv-loop μ-loop
+at-most-requires c κs = search needs
+
+start-requires : tie.Need-start-requires Inv-loop μ-loop
+start-requires c κs = search needs
+
+loop-holds : tie.Need-loop-holds Inv-loop μ-loop
+unfolding sweepTable
+loop-holds c =
+    let a = c .before .before .args in
+    let l : length (a .t1 .route) ≡ 32 = search needs in
+    let h = size-is _ (a .t1 .moves) 32 (a .t1 .route) (c .before .at-most .ensures) l in
+    (h .0, h .1, ap (λ (m : Table). walkTable (a .t1) (point (a .v)) 0 (take (a .t1 .moves) (a .t1 .route)) m) (c .start .ensures))
+
+element-copy-out-wide : tie.Need-element-copy-out-wide Inv-loop μ-loop
+element-copy-out-wide c = omega arith
+
+wide-requires : tie.Need-wide-requires Inv-loop μ-loop
+wide-requires c κs = search needs
+
+transition-at-requires : tie.Need-transition-at-requires Inv-loop μ-loop
+transition-at-requires c κs = search needs
+
+location-at-requires : tie.Need-location-at-requires Inv-loop μ-loop
+location-at-requires c κs = search needs
+
+stay-requires : tie.Need-stay-requires Inv-loop μ-loop
+stay-requires c κs = search needs
+
+moved-requires : tie.Need-moved-requires Inv-loop μ-loop
+moved-requires c κs = search needs
+
+add-k : tie.Need-add-k Inv-loop μ-loop
+add-k c = omega arith
+
+loop-less : tie.Need-loop-less Inv-loop μ-loop
+loop-less c = omega arith
+
+loop-again : tie.Need-loop-again Inv-loop μ-loop
+loop-again c =
+    let a = c .before .before .before .before .before .before .before .before .before .before .args in
+    let i = c .before .before .before .before .before .before .before .loop in
+    let v = i .inv in (
+      v .0,
+      v .1,
+      walk-turn (a .t1) (point (a .v)) (i .k) (i .l) (i .m) _ _ _ _ _ (omega arith) (v .2)
+          (c .before .before .before .transition-at .ensures ∙ ap (λ (n : ℕ). transitionC (a .t1) n) (c .before .before .before .before .wide .ensures))
+          (c .before .before .location-at .ensures) (c .before .stay .ensures) (c .moved .ensures),
+    )
+
+location-at-requires-2 : tie.Need-location-at-requires-2 Inv-loop μ-loop
+location-at-requires-2 c κs = search needs
+
+stay-requires-2 : tie.Need-stay-requires-2 Inv-loop μ-loop
+stay-requires-2 c κs = search needs
+
+returns : tie.Need-returns Inv-loop μ-loop
+returns c =
+    let a = c .before .before .before .before .before .before .args in
+    let i = c .before .before .before .loop in
+    walk-done (a .t1) (point (a .v)) (i .k) (i .l) (i .m) _ _ _ (omega arith) (i .inv .2) (c .before .location-at2 .ensures) (c .stay2 .ensures)
+
+pub walk-spec : {M : Type 1} → statement M
+walk-spec =
+    tie.close
+    (tie.spec
+    Inv-loop
+    μ-loop
+    at-most-requires
+    start-requires
+    loop-holds
+    element-copy-out-wide
+    wide-requires
+    transition-at-requires
+    location-at-requires
+    stay-requires
+    moved-requires
+    add-k
+    loop-less
+    loop-again
+    location-at-requires-2
+    stay-requires-2
+    returns)

@@ -1,0 +1,75 @@
+-- The code's table of a matrix of weights: its entries up to index 4, as the code's records. And that of an outcome, void being `voidTable`.
+-- The laws that read it. CodedSteps and CodedWalk say with these that Tables is Walk.
+use mathlib.Core.Path.{_≡_, refl, ap, _∙_}
+use mathlib.Core.List.{List, [], _∷_}
+use mathlib.Core.Bool.{Bool, true, false, cond}
+use Prim.Native.Nat.{ℕ, zero, suc, _≤_}
+use native.Mathlib.Omega.{arith}
+use lib.IntN.{ℤ}
+use lib.ListN.{getD}
+use Rattle.dbm.specs.Entries.{up-to-4}
+use Rattle.dbm.specs.Matrix.{Matrix, Outcome, void, kept}
+use Rattle.expr.specs.Limit.{Limit, none, limit, sumW, tighterW, zeroW, saturated}
+use Rattle.expr.specs.Three.{weighed, weightOf}
+use Rattle.expr.specs.declared.weight.Weight.{Weight}
+use Rattle.walk.specs.Tables.{Table, zeroWeight, voidTable, rowOf, entryOf, isVoid, sumC, tighterC}
+
+-- row i
+unfoldable pub row : Matrix (Limit ℤ) → ℕ → List Weight
+row f i = weightOf (f i 0) ∷ weightOf (f i 1) ∷ weightOf (f i 2) ∷ weightOf (f i 3) ∷ weightOf (f i 4) ∷ []
+
+-- rows 0 to 4
+unfoldable pub table : Matrix (Limit ℤ) → Table
+table f = row f 0 ∷ row f 1 ∷ row f 2 ∷ row f 3 ∷ row f 4 ∷ []
+
+unfoldable pub coded : Outcome → Table
+coded void = voidTable
+coded (kept m) = table m
+
+-- ---- weights
+pub weighed-of : (a : Limit ℤ) → weighed (weightOf a) ≡ a
+weighed-of none = refl
+weighed-of (limit s x) = refl
+
+pub sum-of : (a b : Limit ℤ) → sumC (weightOf a) (weightOf b) ≡ weightOf (sumW (saturated a) (saturated b))
+sum-of a b = rw (weighed-of a, weighed-of b) refl
+
+pub tighter-of : (a b : Limit ℤ) → tighterC (weightOf a) (weightOf b) ≡ tighterW a b
+tighter-of a b = rw (weighed-of a, weighed-of b) refl
+
+pub cond-of : (b : Bool) (x y : Limit ℤ) → cond b (weightOf x) (weightOf y) ≡ weightOf (cond b x y)
+cond-of true x y = refl
+cond-of false x y = refl
+
+-- ---- entries
+module _ (f : Matrix (Limit ℤ)) where
+  pub row-at : (i : ℕ) → i ≤ 4 → rowOf (table f) i ≡ row f i
+  unfolding table
+  row-at = up-to-4 (λ i. rowOf (table f) i ≡ row f i) refl refl refl refl refl
+
+  pub in-row : (i j : ℕ) → j ≤ 4 → getD (row f i) j zeroWeight ≡ weightOf (f i j)
+  unfolding row
+  in-row i = up-to-4 (λ j. getD (row f i) j zeroWeight ≡ weightOf (f i j)) refl refl refl refl refl
+
+  pub entry-at : (i j : ℕ) → i ≤ 4 → j ≤ 4 → entryOf (table f) i j ≡ weightOf (f i j)
+  entry-at i j hi hj = rw (row-at i hi) (in-row i j hj)
+
+  pub table-not-void : f 0 0 ≡ zeroW → isVoid (table f) ≡ false
+  table-not-void e = ap (λ (a : Weight). a .strict) (entry-at 0 0 (omega arith) (omega arith)) ∙ ap (λ (a : Limit ℤ). weightOf a .strict) e
+
+  -- five weights that are the entries of a row, and five rows that are the rows of a table
+  pub row-of : (i : ℕ) {a b c d e : Weight}
+      → a ≡ weightOf (f i 0) → b ≡ weightOf (f i 1) → c ≡ weightOf (f i 2) → d ≡ weightOf (f i 3) → e ≡ weightOf (f i 4)
+      → (a ∷ b ∷ c ∷ d ∷ e ∷ []) ≡ row f i
+  unfolding row
+  row-of i p q r s t = rw (p, q, r, s, t) refl
+
+  pub table-of : {a b c d e : List Weight} → a ≡ row f 0 → b ≡ row f 1 → c ≡ row f 2 → d ≡ row f 3 → e ≡ row f 4
+      → (a ∷ b ∷ c ∷ d ∷ e ∷ []) ≡ table f
+  unfolding table
+  table-of p q r s t = rw (p, q, r, s, t) refl
+
+-- rows with the same entries
+pub row-same : (f g : Matrix (Limit ℤ)) (i : ℕ) → ((j : ℕ) → f i j ≡ g i j) → row f i ≡ row g i
+unfolding row
+row-same f g i h = rw (h 0, h 1, h 2, h 3, h 4) refl
