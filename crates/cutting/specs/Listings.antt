@@ -1,6 +1,6 @@
 -- Laws of listings: a refusal sticks, and what is listed in the end was listed on the way.
 use mathlib.Core.Path.{_≡_, refl, ap, _∙_}
-use mathlib.Core.List.{List, [], _∷_}
+use mathlib.Core.List.{List, [], _∷_, _++_}
 use Prim.Native.Nat.{ℕ, suc}
 use native.Mathlib.Omega.{arith}
 use lib.ListN.{length}
@@ -8,7 +8,8 @@ use Rattle.expr.specs.Affine.{Affine}
 use Rattle.expr.specs.Three.{limitOf}
 use Rattle.expr.specs.declared.ranges.Range.{Range}
 use Rattle.sheet.specs.declared.Guard.{Guard}
-use Rattle.cutting.specs.Cutting.{Bounds, Zone, Tree, cut, keep, wideTree, asks, guardTree, Listing, listed, refused, worked, guardZones, onBounds, andThen}
+use Rattle.timed.specs.Steps.{Step}
+use Rattle.cutting.specs.Cutting.{Bounds, Zone, Tree, cut, keep, wideTree, asks, guardTree, Listing, listed, refused, worked, guardZones, onBounds, stepZones, andThen, cutSteps}
 
 pub listed-same : {xs ys : List Zone} → listed xs ≡ listed ys → xs ≡ ys
 listed-same h = cc
@@ -39,3 +40,15 @@ pub on-length : (f : Bounds → Bounds) (zs : List Zone) → length (onBounds f 
 unfolding onBounds
 on-length f [] = refl
 on-length f (z ∷ zs) = ap suc (on-length f zs)
+
+-- ---- steps are made one after another: those of one list, then those of the other
+module _ (rs : List Range) (w : ℕ) where
+  after-listing : (xs ys : List Step) → ((zs : List Zone) → andThen (cutSteps rs w xs zs) (cutSteps rs w ys) ≡ cutSteps rs w (xs ++ ys) zs)
+      → (o : Listing) → andThen (andThen o (cutSteps rs w xs)) (cutSteps rs w ys) ≡ andThen o (cutSteps rs w (xs ++ ys))
+  after-listing xs ys h (listed zs) = h zs
+  after-listing xs ys h (refused n k) = refl
+
+  pub steps-append : (xs ys : List Step) (zs : List Zone) → andThen (cutSteps rs w xs zs) (cutSteps rs w ys) ≡ cutSteps rs w (xs ++ ys) zs
+  unfolding cutSteps
+  steps-append [] ys zs = refl
+  steps-append (s ∷ xs) ys zs = after-listing xs ys (steps-append xs ys) (stepZones rs w s zs)
