@@ -30,13 +30,21 @@ use Rattle.timed.specs.Steps.{stepsOf}
 first-zero : {s : Sheet} → WellFormed s → (v : List ℤ) → Thousands v → (m : Matrix (Limit ℤ)) → sweepAt s v ≡ kept m → m 0 0 ≡ zeroW
 unfolding sweepAt sweepAlong
 first-zero {s} f v h m e =
-    walk-visited (s .parameters) v h (stepsOf s (routeOf s)) (steps-right f (routeOf s)) 0 (start-visited (s .clocks)) e .closed .diagonal 0 zero-le
+    walk-visited (s .parameters) v h (stepsOf s (routeOf s)) (steps-right f (routeOf s)) 0
+    (start-visited (s .clocks)) e .closed .diagonal 0 zero-le
 
 swept-coded : (o : Outcome) → ((m : Matrix (Limit ℤ)) → o ≡ kept m → m 0 0 ≡ zeroW) → sweptTable (coded o) ≡ swept o
 unfolding sweptTable coded swept
 swept-coded void z = refl
 swept-coded (kept m) z =
-    rw (table-not-void m (z m refl), row-at m 0 zero-le, row-at m 1 (lit≤ tt), row-at m 2 (lit≤ tt), row-at m 3 (lit≤ tt), row-at m 4 (lit≤ tt)) refl
+    rw (
+      table-not-void m (z m refl),
+      row-at m 0 zero-le,
+      row-at m 1 (lit≤ tt),
+      row-at m 2 (lit≤ tt),
+      row-at m 3 (lit≤ tt),
+      row-at m 4 (lit≤ tt),
+    ) refl
 
 -- a number in an accepted range is small
 in-small : (parameters index : ℕ) (range : Range) (x : ℤ) → RangeRight parameters index range → inRange range x ≡ true → Small x
@@ -51,8 +59,10 @@ unfolding sheetTable sheetReply
 sheet-faithful s f p q r = by (inRange (s .ranges .p) p) (inRange (s .ranges .q) q) (inRange (s .ranges .r) r) refl refl refl
   where
     by : (a b c : Bool) → inRange (s .ranges .p) p ≡ a → inRange (s .ranges .q) q ≡ b → inRange (s .ranges .r) r ≡ c
-        → cond a (cond b (cond c (sweptTable (sweepTable s (p ∷ q ∷ r ∷ []))) (blankReply (answer.Outside 2))) (blankReply (answer.Outside 1))) (blankReply (answer.Outside 0))
-        ≡ cond a (cond b (cond c (swept (sweepAt s (p ∷ q ∷ r ∷ []))) (blankReply (answer.Outside 2))) (blankReply (answer.Outside 1))) (blankReply (answer.Outside 0))
+        → cond a (cond b (cond c (sweptTable (sweepTable s (p ∷ q ∷ r ∷ []))) (blankReply (answer.Outside 2)))
+        (blankReply (answer.Outside 1))) (blankReply (answer.Outside 0))
+        ≡ cond a (cond b (cond c (swept (sweepAt s (p ∷ q ∷ r ∷ []))) (blankReply (answer.Outside 2))) (blankReply (answer.Outside 1)))
+        (blankReply (answer.Outside 0))
     by false b c e g h = refl
     by true false c e g h = refl
     by true true false e g h = refl

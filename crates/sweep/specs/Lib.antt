@@ -1,5 +1,5 @@
--- What is read first: Walk (Sweep's rules at one valuation) and Claims (what is claimed of them against runs). Proofs has the theorems, Sizes
--- why no number wraps, Tables what the code does step by step; the others serve these.
+-- What is read first: Walk (Sweep's rules at one valuation) and Claims (what is claimed of them against runs). Proofs has the theorems,
+-- Sizes why no number wraps, Tables what the code does step by step; the others serve these.
 pub mod Claims
 pub mod Coded
 pub mod CodedSteps
