@@ -1,5 +1,5 @@
--- What Sweep's rules are worth (paper 01, "Runs"): for every accepted sheet and every valuation, Sweep of `Walk` is void exactly if there is no run,
--- and else its entries are the tightest bounds on the end states of the runs. `Proofs` has the proofs.
+-- What Sweep's rules are worth (paper 01, "Runs"): for every accepted sheet and every valuation, Sweep of `Walk` is void exactly if there
+-- is no run, and else its entries are the tightest bounds on the end states of the runs. `Proofs` has the proofs.
 use mathlib.Core.Path.{_≡_}
 use mathlib.Core.Logic.{_↔_}
 use mathlib.Core.List.{List}
@@ -17,7 +17,8 @@ use Rattle.concrete.specs.Walk.{sweepAlong, sweepAt}
 abbrev pub AlongRight : Sheet → List ℕ → List ℤ → Type 0
 AlongRight s route v =
     ((sweepAlong s route v ≡ void) ↔ (RunAlong s route v → ⊥))
-    × ((m : Matrix (Limit ℤ)) → sweepAlong s route v ≡ kept m → (i j : ℕ) → i ≤ s .clocks → j ≤ s .clocks → TightestAlong s route v i j (m i j))
+    × ((m : Matrix (Limit ℤ)) → sweepAlong s route v ≡ kept m
+    → (i j : ℕ) → i ≤ s .clocks → j ≤ s .clocks → TightestAlong s route v i j (m i j))
 
 -- along the sheet's own route: Sweep is void exactly if no run exists
 abbrev pub VoidIffNoRun : Type 0

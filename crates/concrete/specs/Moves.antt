@@ -105,7 +105,8 @@ same-state w e s = record { parts = s .parts; clock0 = e 0 (omega arith) ∙ s .
 module _ (w : ℕ) (m : Matrix (Limit ℤ)) (R S : Relation)
     (to : (D : ℕ) (x y : Clocks) → R D x y → (y′ : Clocks) × S D x y′ × Same w y y′)
     (from : (D : ℕ) (x y : Clocks) → S D x y → (y′ : Clocks) × R D x y′ × Same w y y′) where
-  forward-as : {m′ : Matrix (Limit ℤ)} → Kept w m R m′ → (D : ℕ) (x y : Clocks) → State D x → Meets w m D x → S D x y → State D y × Meets w m′ D y
+  forward-as : {m′ : Matrix (Limit ℤ)} → Kept w m R m′ → (D : ℕ) (x y : Clocks) → State D x → Meets w m D x → S D x y
+      → State D y × Meets w m′ D y
   forward-as a D x y s h q =
       let (y′, p, e) = from D x y q in
       let (t, g) = a .forward D x y′ s h p in

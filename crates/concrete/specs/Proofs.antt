@@ -50,7 +50,8 @@ record Ran (s : Sheet) (route : List ℕ) (v : List ℤ) (D : ℕ) (y : Clocks) 
   parts : run .parts ≡ factor * D
   ends : Same (s .clocks) (run .end) (times factor y)
 
-ran-difference : {s : Sheet} {route : List ℕ} {v : List ℤ} {D : ℕ} {y : Clocks} (r : Ran s route v D y) (i j : ℕ) → i ≤ s .clocks → j ≤ s .clocks
+ran-difference : {s : Sheet} {route : List ℕ} {v : List ℤ} {D : ℕ} {y : Clocks} (r : Ran s route v D y) (i j : ℕ) → i ≤ s .clocks
+    → j ≤ s .clocks
     → difference i j (r .run) ≡ pos (r .factor) *ℤ (y i -ℤ y j)
 ran-difference {y = y} r i j hi hj = rw (r .ends i hi, r .ends j hj) (difference-times (r .factor) y i j)
 

@@ -1,4 +1,5 @@
--- Runs against the steps along a route: what leads from these clock values to those is the same. This alone looks at how the steps are made.
+-- Runs against the steps along a route: what leads from these clock values to those is the same. This alone looks at how the steps are
+-- made.
 use mathlib.Core.Path.{_≡_, refl, sym, ap, subst, fun-ext, _∙_}
 use mathlib.Core.List.{List, [], _∷_, _++_, map}
 use Prim.Native.Nat.{ℕ, suc}
@@ -90,5 +91,6 @@ module _ (s : Sheet) (v : List ℤ) where
         d,
         h,
         subst (λ (q : Clocks). AllHold D v q (guardsOf s n)) e k,
-        subst (λ (q : Clocks). Leads s v D (transitionAt s n .to) ns q y) (f ∙ ap (reset n) e) (along-leads ns (suc visit) (transitionAt s n .to) D z₂ y c),
+        subst (λ (q : Clocks). Leads s v D (transitionAt s n .to) ns q y) (f ∙ ap (reset n) e)
+            (along-leads ns (suc visit) (transitionAt s n .to) D z₂ y c),
       )

@@ -1,5 +1,5 @@
--- How large the numbers of Sweep's matrices grow, where every parameter lies from -1,000 to 1,000: a guard's number is at most 3,001,000 in size,
--- and after any steps with at most 33 delays every number stays within 2 ^ 57.
+-- How large the numbers of Sweep's matrices grow, where every parameter lies from -1,000 to 1,000: a guard's number is at most 3,001,000
+-- in size, and after any steps with at most 33 delays every number stays within 2 ^ 57.
 use mathlib.Core.Path.{_≡_, refl, ap, subst}
 use mathlib.Core.Logic.{_⊎_, inl, inr}
 use mathlib.Core.List.{List, [], _∷_}
@@ -13,7 +13,8 @@ use Rattle.integer.specs.Parts.{p, n, pos-parts, natAbs-parts}
 use Rattle.integer.specs.Product.{size-in, size-low, size-high, sum-size, product-size}
 use Rattle.dbm.specs.Matrix.{Matrix, start, delayed, resetM, resetsM, guarded, Outcome, void, kept, Closed}
 use Rattle.dbm.specs.State.{start-closed}
-use Rattle.dbm.specs.Size.{AtMost, Small, Visit, atMost-more, atMost-sum, small-visit, delayed-visit, visit-small, guarded-visit, reset-visit}
+use Rattle.dbm.specs.Size.{AtMost, Small, Visit, atMost-more, atMost-sum, small-visit, delayed-visit, visit-small, guarded-visit}
+use Rattle.dbm.specs.Size.{reset-visit}
 use Rattle.expr.specs.Affine.{dot, value}
 use Rattle.expr.specs.Limit.{Limit, none, limit, sumW, atV, saturated}
 use Rattle.expr.specs.Laws.{saturate-same}
@@ -40,7 +41,11 @@ unfolding dot
 dot-size [] v h k = omega (arith, pos-parts 0)
 dot-size (c ∷ cs) [] h k = omega (arith, pos-parts 0)
 dot-size (c ∷ cs) (x ∷ v) h k =
-    omega (arith, sum-size (c *ℤ x) (dot cs v) (product-size c x (thousand-size (h .0)) (thousand-size (k .0))) (dot-size cs v (h .1) (k .1)))
+    omega (
+      arith,
+      sum-size (c *ℤ x) (dot cs v) (product-size c x (thousand-size (h .0)) (thousand-size (k .0)))
+          (dot-size cs v (h .1) (k .1)),
+    )
 
 value-size : {parameters : ℕ} (e : Expr) (v : List ℤ) → ExprRight parameters e → Thousands v → natAbs (value (affine e) v) ≤ 3001000
 unfolding value
@@ -49,7 +54,8 @@ value-size e v r h =
     rw natAbs-parts (sum-size (e .constant) (dot (e .p ∷ e .q ∷ e .r ∷ []) v) (thousand-size (r .constant)) d)
 
 -- a guard's number is at most 3,001,000 in size
-pub guard-size : {parameters w : ℕ} {g : Guard} (v : List ℤ) → GuardRight parameters w g → Thousands v → AtMost 3001000 (atV v (limitOf (g .bound)))
+pub guard-size : {parameters w : ℕ} {g : Guard} (v : List ℤ) → GuardRight parameters w g → Thousands v
+    → AtMost 3001000 (atV v (limitOf (g .bound)))
 unfolding atV
 guard-size {parameters} {w} {g} v r h = by (g .bound .none)
   where
@@ -124,7 +130,8 @@ unfolding delays
 none-more k = omega arith
 
 module _ (parameters : ℕ) {w : ℕ} (v : List ℤ) (h : Thousands v) where
-  step-if : (s : Step) → StepRight parameters w s → (k : ℕ) (m : Matrix (Limit ℤ)) → Visited w k m → IfKept (Visited w (after k s)) (step w v s m)
+  step-if : (s : Step) → StepRight parameters w s → (k : ℕ) (m : Matrix (Limit ℤ)) → Visited w k m
+      → IfKept (Visited w (after k s)) (step w v s m)
   unfolding step
   step-if delay r k m a = delayed-visited k a
   step-if (guard visit g) r k m a =
@@ -173,7 +180,8 @@ steps-within parameters {w} v h steps r few e =
     visited-within (0 + delays steps) (omega arith) (walk-visited parameters v h steps r 0 (start-visited w) e)
 
 -- so every number that Sweep comes to, along the sheet's own route
-pub sweep-within : {s : Sheet} {m : Matrix (Limit ℤ)} → WellFormed s → (v : List ℤ) → Thousands v → sweepAt s v ≡ kept m → Small (s .clocks) (2 ^ 57) m
+pub sweep-within : {s : Sheet} {m : Matrix (Limit ℤ)} → WellFormed s → (v : List ℤ) → Thousands v → sweepAt s v ≡ kept m
+    → Small (s .clocks) (2 ^ 57) m
 unfolding sweepAt sweepAlong
 sweep-within {s} f v h e =
     steps-within (s .parameters) v h (stepsOf s (routeOf s)) (steps-right f (routeOf s)) (route-delays f) e

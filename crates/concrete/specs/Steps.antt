@@ -1,4 +1,5 @@
--- Steps as relations between clock values before and after, and Sweep's rules against them: a delay, a guard, resets, and any list of steps.
+-- Steps as relations between clock values before and after, and Sweep's rules against them: a delay, a guard, resets, and any list of
+-- steps.
 use mathlib.Core.Path.{_≡_, refl, sym, ap, fun-ext, _∙_}
 use mathlib.Core.Logic.{_↔_, _⊎_, inl, inr, _≢_}
 use mathlib.Core.List.{List, [], _∷_}
@@ -7,7 +8,8 @@ use Prim.Native.Nat.{ℕ, zero, suc, _*_, _/_, _%_, _^_, _≤_, _<_}
 use native.Mathlib.Omega.{arith}
 use lib.Dec.{eqb}
 use lib.IntN.{ℤ, pos, _-ℤ_, _*ℤ_, *ℤ-zero}
-use Rattle.dbm.specs.Matrix.{Matrix, delayed, resetM, resetsM, Outcome, void, kept, guarded, keeps, State, Meets, moved, put, times, Closed, After}
+use Rattle.dbm.specs.Matrix.{Matrix, delayed, resetM, resetsM, Outcome, void, kept, guarded, keeps, State, Meets, moved, put, times}
+use Rattle.dbm.specs.Matrix.{Closed, After}
 use Rattle.dbm.specs.Weights.{keeps-≡, keeps-times}
 use Rattle.dbm.specs.Entries.{same-or-not, put-same, put-other}
 use Rattle.dbm.specs.State.{difference-times, times-moved, times-put}
@@ -23,7 +25,8 @@ use Rattle.timed.specs.Right.{AllOf, StepRight}
 use Rattle.timed.specs.Runs.{Clocks, waited, afterResets, compared, Holds}
 use Rattle.timed.specs.Steps.{Step, delay, guard, resets}
 use Rattle.concrete.specs.Walk.{step, walk}
-use Rattle.concrete.specs.Moves.{Relation, Same, Then, Stable, Comes, Kept, Moves, andThen-moves, then-stable, moves-as, Asks, after-moves}
+use Rattle.concrete.specs.Moves.{Relation, Same, Then, Stable, Comes, Kept, Moves, andThen-moves, then-stable, moves-as, Asks}
+use Rattle.concrete.specs.Moves.{after-moves}
 
 -- ---- a wait
 abbrev pub Waits : Relation
@@ -101,7 +104,8 @@ abbrev pub Guarded : List ℤ → Guard → Relation
 Guarded v g = Asks (λ D x. Holds D v x g)
 
 module _ (parameters : ℕ) {w : ℕ} (v : List ℤ) (g : Guard) (r : GuardRight parameters w g) where
-  guard-moves : (m : Matrix (Limit ℤ)) → Closed w m → Moves w m (Guarded v g) (guarded w (g .left) (g .right) (atV v (limitOf (g .bound))) m)
+  guard-moves : (m : Matrix (Limit ℤ)) → Closed w m
+      → Moves w m (Guarded v g) (guarded w (g .left) (g .right) (atV v (limitOf (g .bound))) m)
   guard-moves m c = after-moves w m (λ D x. Holds D v x g) (guarded w (g .left) (g .right) (atV v (limitOf (g .bound))) m)
       (after-iff w m (λ D x. keeps D (x (g .left) -ℤ x (g .right)) (atV v (limitOf (g .bound)))) (λ D x. Holds D v x g)
       (λ D x. let (to, from) = holds-keeps D v x g (r .some) in (from, to))
@@ -125,7 +129,13 @@ Put r D x y = y ≡ put r (pos 0) x
 put-moves : {w : ℕ} {m : Matrix (Limit ℤ)} (r : ℕ) → 1 ≤ r → r ≤ w → Closed w m → Kept w m (Put r) (resetM w r m)
 put-moves {w} {m} r g hr c = record {
   closed = reset-closed c hr;
-  forward = λ D x y s h e. rw e (record { parts = s .parts; clock0 = put-other r (pos 0) x 0 (omega arith) ∙ s .clock0 }, reset-met c hr s h);
+  forward = λ D x y s h e. rw e (
+    record {
+      parts = s .parts;
+      clock0 = put-other r (pos 0) x 0 (omega arith) ∙ s .clock0;
+    },
+    reset-met c hr s h,
+  );
   back = back;
 }
   where
@@ -162,7 +172,8 @@ Puts bits (suc n) = pickR (eqb (bits / 2 ^ n % 2) 1) (Then (Puts bits n) (Put (s
 puts-step : {w : ℕ} {m before : Matrix (Limit ℤ)} (n : ℕ) (R : Relation) (b : Bool) → suc n ≤ w → Kept w m R before
     → Kept w m (pickR b (Then R (Put (suc n))) R) (cond b (resetM w (suc n) before) before)
 puts-step {w} {m} {before} n R true h a =
-    andThen-moves w m R (Put (suc n)) (λ b. kept (resetM w (suc n) b)) (put-stable w (suc n)) (λ m₁ c. put-moves (suc n) (omega arith) h c) (kept before) a
+    andThen-moves w m R (Put (suc n)) (λ b. kept (resetM w (suc n) b)) (put-stable w (suc n))
+    (λ m₁ c. put-moves (suc n) (omega arith) h c) (kept before) a
 puts-step n R false h a = a
 
 puts-moves : {w : ℕ} {m : Matrix (Limit ℤ)} (bits n : ℕ) → n ≤ w → Closed w m → Kept w m (Puts bits n) (resetsM w bits n m)
@@ -175,7 +186,8 @@ record Told (bits n : ℕ) (x y : Clocks) : Type 0 where
   done : (i : ℕ) → i ≤ n → y i ≡ afterResets bits x i
   others : (i : ℕ) → n < i → y i ≡ x i
 
-told-yes : (bits n : ℕ) (x z y : Clocks) → eqb (bits / 2 ^ n % 2) 1 ≡ true → Told bits n x z → y ≡ put (suc n) (pos 0) z → Told bits (suc n) x y
+told-yes : (bits n : ℕ) (x z y : Clocks) → eqb (bits / 2 ^ n % 2) 1 ≡ true → Told bits n x z → y ≡ put (suc n) (pos 0) z
+    → Told bits (suc n) x y
 unfolding afterResets
 told-yes bits n x z y t a e = record {
   done = λ i h. rw e (by i h (same-or-not i (suc n)));
@@ -225,13 +237,18 @@ abbrev pub Resets : ℕ → Relation
 Resets bits D x y = y ≡ afterResets bits x
 
 resets-moves : {w : ℕ} {m : Matrix (Limit ℤ)} (bits : ℕ) → Closed w m → Kept w m (Resets bits) (resetsM w bits w m)
-resets-moves {w} {m} bits c = moves-as w m (Puts bits w) (Resets bits) to from (kept (resetsM w bits w m)) (puts-moves bits w (omega arith) c)
+resets-moves {w} {m} bits c = moves-as w m (Puts bits w) (Resets bits) to from (kept (resetsM w bits w m))
+    (puts-moves bits w (omega arith) c)
   where
     to : (D : ℕ) (x y : Clocks) → Puts bits w D x y → (y′ : Clocks) × Resets bits D x y′ × Same w y y′
     to D x y a = (afterResets bits x, refl, puts-told bits w D x y a .done)
 
     from : (D : ℕ) (x y : Clocks) → Resets bits D x y → (y′ : Clocks) × Puts bits w D x y′ × Same w y y′
-    from D x y e = let (z, a) = puts-total bits w D x in (z, a, λ i hi. ap (λ (u : Clocks). u i) e ∙ sym (puts-told bits w D x z a .done i hi))
+    from D x y e = let (z, a) = puts-total bits w D x in (
+      z,
+      a,
+      λ i hi. ap (λ (u : Clocks). u i) e ∙ sym (puts-told bits w D x z a .done i hi),
+    )
 
 cond-times : (K : ℕ) (b : Bool) (z : ℤ) → pos K *ℤ cond b (pos 0) z ≡ cond b (pos 0) (pos K *ℤ z)
 cond-times K true z = *ℤ-zero (pos K)

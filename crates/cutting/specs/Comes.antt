@@ -14,7 +14,8 @@ use Rattle.expr.specs.Affine.{Affine, value, dot, Judged, fine, wide}
 use Rattle.expr.specs.Limit.{Limit, atV, sumW, tighterW, zeroW, sumB, tighterB, Question, yes′, no′, ask, wide′}
 use Rattle.integer.specs.Bools.{and-left, and-right}
 use Rattle.expr.specs.Laws.{same-test, answer, sum-at, tighter-at}
-use Rattle.cutting.specs.Cutting.{Bounds, zeroB, Tree, cut, keep, wideTree, asks, summed, tested, Place, putEntry, rowFrom, rowsFrom, places, pushed, guardTree}
+use Rattle.cutting.specs.Cutting.{Bounds, zeroB, Tree, cut, keep, wideTree, asks, summed, tested, Place, putEntry, rowFrom}
+use Rattle.cutting.specs.Cutting.{rowsFrom, places, pushed, guardTree}
 use Rattle.cutting.specs.Held.{at}
 
 -- the path of v down the tree ends in r, unless it ends where a number leaves the range
@@ -35,7 +36,8 @@ module _ (v : List ℤ) where
       by (fine c) e = h c (sum-at a b c v e)
       by wide e = tt
 
-  tested-comes : (a b : Limit Affine) (f : Bool → Tree) (r : Outcome) → Comes v (f (tighterW (atV v a) (atV v b))) r → Comes v (tested (tighterB a b) f) r
+  tested-comes : (a b : Limit Affine) (f : Bool → Tree) (r : Outcome) → Comes v (f (tighterW (atV v a) (atV v b))) r
+      → Comes v (tested (tighterB a b) f) r
   unfolding tested answer
   tested-comes a b f r h = by (tighterB a b) refl
     where
@@ -68,7 +70,8 @@ unfoldable pushW : ℕ → ℕ → Limit ℤ → Matrix (Limit ℤ) → List Pla
 pushW i j e old [] new = new
 pushW i j e old (p ∷ ps) new =
     pushW i j e old ps
-    (cond (tighterW (through i j e old (p .row) (p .column)) (old (p .row) (p .column))) (putW p (through i j e old (p .row) (p .column)) new) new)
+    (cond (tighterW (through i j e old (p .row) (p .column)) (old (p .row) (p .column)))
+    (putW p (through i j e old (p .row) (p .column)) new) new)
 
 put-cond : (v : List ℤ) (x y : Bool) (b c : Limit Affine) → atV v (cond x (cond y b c) c) ≡ cond (x && y) (atV v b) (atV v c)
 put-cond v true true b c = refl
@@ -130,7 +133,8 @@ unfolding hits
 hits-left k l [] qs h = cc
 hits-left k l (p ∷ ps) qs h = by (or-which (hit k l p) (hits k l ps) h) (hits-left k l ps qs)
   where
-    by : (hit k l p ≡ true) ⊎ (hits k l ps ≡ true) → (hits k l ps ≡ true → hits k l (ps ++ qs) ≡ true) → (hit k l p || hits k l (ps ++ qs)) ≡ true
+    by : (hit k l p ≡ true) ⊎ (hits k l ps ≡ true) → (hits k l ps ≡ true → hits k l (ps ++ qs) ≡ true)
+        → (hit k l p || hits k l (ps ++ qs)) ≡ true
     by (inl e) ih = or-left (hit k l p) (hits k l (ps ++ qs)) e
     by (inr e) ih = or-right (hit k l p) (hits k l (ps ++ qs)) (ih e)
 
@@ -158,15 +162,18 @@ unfolding hits rowFrom
 row-in k l c zero a b = absurd (omega arith)
 row-in k l c (suc n) a b = by (eqb l c) refl (row-in k l (suc c) n)
   where
-    by : (t : Bool) → eqb l c ≡ t → (suc c ≤ l → l < suc c + n → hits k l (rowFrom k (suc c) n) ≡ true) → (hit k l (record { row = k; column = c }) || hits k l (rowFrom k (suc c) n)) ≡ true
-    by true e ih = or-left (hit k l (record { row = k; column = c })) (hits k l (rowFrom k (suc c) n)) (and-yes (eqb k k) (eqb l c) (eq-eqb k k refl) e)
+    by : (t : Bool) → eqb l c ≡ t → (suc c ≤ l → l < suc c + n → hits k l (rowFrom k (suc c) n) ≡ true)
+        → (hit k l (record { row = k; column = c }) || hits k l (rowFrom k (suc c) n)) ≡ true
+    by true e ih = or-left (hit k l (record { row = k; column = c })) (hits k l (rowFrom k (suc c) n))
+        (and-yes (eqb k k) (eqb l c) (eq-eqb k k refl) e)
     by false e ih = let d : l ≢ c = λ q. let y = eq-eqb l c q in let z : _≡_ {A = ℕ} 0 1 = cc in omega arith in
         or-right (hit k l (record { row = k; column = c })) (hits k l (rowFrom k (suc c) n)) (ih (omega arith) (omega arith))
 
 row-out : (k l r c n : ℕ) → hits k l (rowFrom r c n) ≡ true → (k ≡ r) × (c ≤ l) × (l < c + n)
 unfolding hits rowFrom
 row-out k l r c zero h = let z : _≡_ {A = ℕ} 0 1 = cc in absurd (omega arith)
-row-out k l r c (suc n) h = by (or-which (hit k l (record { row = r; column = c })) (hits k l (rowFrom r (suc c) n)) h) (row-out k l r (suc c) n)
+row-out k l r c (suc n) h = by (or-which (hit k l (record { row = r; column = c })) (hits k l (rowFrom r (suc c) n)) h)
+    (row-out k l r (suc c) n)
   where
     by : (hit k l (record { row = r; column = c }) ≡ true) ⊎ (hits k l (rowFrom r (suc c) n) ≡ true)
         → (hits k l (rowFrom r (suc c) n) ≡ true → (k ≡ r) × (suc c ≤ l) × (l < suc c + n)) → (k ≡ r) × (c ≤ l) × (l < c + suc n)
@@ -181,7 +188,8 @@ unfolding rowsFrom
 rows-in w k l r zero a b c = absurd (omega arith)
 rows-in w k l r (suc n) a b c = by (eqb k r) refl (rows-in w k l (suc r) n)
   where
-    by : (t : Bool) → eqb k r ≡ t → (suc r ≤ k → k < suc r + n → l ≤ w → hits k l (rowsFrom w (suc r) n) ≡ true) → hits k l (rowFrom r 0 (suc w) ++ rowsFrom w (suc r) n) ≡ true
+    by : (t : Bool) → eqb k r ≡ t → (suc r ≤ k → k < suc r + n → l ≤ w → hits k l (rowsFrom w (suc r) n) ≡ true)
+        → hits k l (rowFrom r 0 (suc w) ++ rowsFrom w (suc r) n) ≡ true
     by true e ih = hits-left k l (rowFrom r 0 (suc w)) (rowsFrom w (suc r) n)
         (subst (λ (q : ℕ). hits k l (rowFrom q 0 (suc w)) ≡ true) (eqb-true k r e) (row-in k l 0 (suc w) (omega arith) (omega arith)))
     by false e ih = let d : k ≢ r = λ q. let y = eq-eqb k r q in let z : _≡_ {A = ℕ} 0 1 = cc in omega arith in
@@ -225,22 +233,27 @@ module _ (i j : ℕ) (e : Limit ℤ) (old : Matrix (Limit ℤ)) where
   Either new k l = (new k l ≡ old k l) ⊎ (new k l ≡ taken k l)
 
   abbrev next : Place → Matrix (Limit ℤ) → Matrix (Limit ℤ)
-  next p new = cond (tighterW (through i j e old (p .row) (p .column)) (old (p .row) (p .column))) (putW p (through i j e old (p .row) (p .column)) new) new
+  next p new = cond (tighterW (through i j e old (p .row) (p .column)) (old (p .row) (p .column)))
+      (putW p (through i j e old (p .row) (p .column)) new) new
 
-  cond-put : (b : Bool) (p : Place) (x : Limit ℤ) (new : Matrix (Limit ℤ)) (k l : ℕ) → cond b (putW p x new) new k l ≡ cond b (cond (hit k l p) x (new k l)) (new k l)
+  cond-put : (b : Bool) (p : Place) (x : Limit ℤ) (new : Matrix (Limit ℤ)) (k l : ℕ)
+      → cond b (putW p x new) new k l ≡ cond b (cond (hit k l p) x (new k l)) (new k l)
   unfolding putW
   cond-put true p x new k l = refl
   cond-put false p x new k l = refl
 
   step-at : (p : Place) (new : Matrix (Limit ℤ)) (k l : ℕ) → Either new k l → next p new k l ≡ cond (hit k l p) (taken k l) (new k l)
   step-at p new k l h =
-      cond-put (tighterW (through i j e old (p .row) (p .column)) (old (p .row) (p .column))) p (through i j e old (p .row) (p .column)) new k l ∙ by (hit k l p) refl
+      cond-put (tighterW (through i j e old (p .row) (p .column)) (old (p .row) (p .column))) p
+      (through i j e old (p .row) (p .column)) new k l ∙ by (hit k l p) refl
     where
       by : (b : Bool) → hit k l p ≡ b
-          → cond (tighterW (through i j e old (p .row) (p .column)) (old (p .row) (p .column))) (cond b (through i j e old (p .row) (p .column)) (new k l)) (new k l) ≡ cond b (taken k l) (new k l)
+          → cond (tighterW (through i j e old (p .row) (p .column)) (old (p .row) (p .column)))
+          (cond b (through i j e old (p .row) (p .column)) (new k l)) (new k l) ≡ cond b (taken k l) (new k l)
       by false q = cond-same (tighterW (through i j e old (p .row) (p .column)) (old (p .row) (p .column))) (new k l)
       by true q =
-          subst (λ (y : ℕ). cond (tighterW (through i j e old y (p .column)) (old y (p .column))) (through i j e old y (p .column)) (new k l) ≡ taken k l)
+          subst (λ (y : ℕ). cond (tighterW (through i j e old y (p .column)) (old y (p .column))) (through i j e old y (p .column))
+          (new k l) ≡ taken k l)
           (eqb-true k (p .row) (and-left (eqb k (p .row)) (eqb l (p .column)) q))
           (subst (λ (z : ℕ). cond (tighterW (through i j e old k z) (old k z)) (through i j e old k z) (new k l) ≡ taken k l)
           (eqb-true l (p .column) (and-right (eqb k (p .row)) (eqb l (p .column)) q))
@@ -250,7 +263,8 @@ module _ (i j : ℕ) (e : Limit ℤ) (old : Matrix (Limit ℤ)) where
   follow new new′ k l q (inl h) = inl (q ∙ h)
   follow new new′ k l q (inr h) = inr (q ∙ h)
 
-  push-at : (ps : List Place) (new : Matrix (Limit ℤ)) (k l : ℕ) → Either new k l → pushW i j e old ps new k l ≡ cond (hits k l ps) (taken k l) (new k l)
+  push-at : (ps : List Place) (new : Matrix (Limit ℤ)) (k l : ℕ) → Either new k l
+      → pushW i j e old ps new k l ≡ cond (hits k l ps) (taken k l) (new k l)
   unfolding pushW hits
   push-at [] new k l h = refl
   push-at (p ∷ ps) new k l h = by (hit k l p) (step-at p new k l h) (push-at ps (next p new) k l)
@@ -263,7 +277,8 @@ module _ (i j : ℕ) (e : Limit ℤ) (old : Matrix (Limit ℤ)) where
 
   push-all : (w : ℕ) → pushW i j e old (places w) old ≡ limitedM w i j e old
   unfolding limitedM
-  push-all w = fun-ext (λ k. fun-ext (λ l. push-at (places w) old k l (inl refl) ∙ ap (λ (b : Bool). cond b (taken k l) (old k l)) (places-hit w k l)))
+  push-all w = fun-ext (λ k. fun-ext (λ l. push-at (places w) old k l (inl refl)
+      ∙ ap (λ (b : Bool). cond b (taken k l) (old k l)) (places-hit w k l)))
 
 -- ---- the three rules
 zero-at : (v : List ℤ) → atV v zeroB ≡ zeroW
@@ -273,11 +288,13 @@ zero-at v = refl
 stays-comes : (v : List ℤ) (w i j : ℕ) (e : Limit Affine) (m : Bounds) (b : Bool)
     → Comes v (cond b (pushed i j e m (places w) m) (keep m)) (kept (cond b (limitedM w i j (atV v e) (at v m)) (at v m)))
 stays-comes v w i j e m true =
-    subst (λ (x : Matrix (Limit ℤ)). Comes v (pushed i j e m (places w) m) (kept x)) (push-all i j (atV v e) (at v m) w) (pushed-comes v i j e m (places w) m)
+    subst (λ (x : Matrix (Limit ℤ)). Comes v (pushed i j e m (places w) m) (kept x)) (push-all i j (atV v e) (at v m) w)
+    (pushed-comes v i j e m (places w) m)
 stays-comes v w i j e m false = refl
 
 -- a guard's tree comes to what the guard does to the matrix with v put in
-pub guard-comes : (v : List ℤ) (w i j : ℕ) (e : Limit Affine) (m : Bounds) → Comes v (guardTree w i j e m) (guarded w i j (atV v e) (at v m))
+pub guard-comes : (v : List ℤ) (w i j : ℕ) (e : Limit Affine) (m : Bounds)
+    → Comes v (guardTree w i j e m) (guarded w i j (atV v e) (at v m))
 unfolding guardTree guarded at
 guard-comes v w i j e m =
     summed-comes v e (m j i) _ end (λ back h.
@@ -295,4 +312,5 @@ guard-comes v w i j e m =
     by back false q =
         subst (λ (r : Outcome). Comes v (tested (tighterB e (m i j)) (λ tight. cond tight (pushed i j e m (places w) m) (keep m))) r)
         (sym (ap (λ (b : Bool). cond b void stays) q))
-        (tested-comes v e (m i j) (λ tight. cond tight (pushed i j e m (places w) m) (keep m)) stays (stays-comes v w i j e m (tighterW (atV v e) (at v m i j))))
+        (tested-comes v e (m i j) (λ tight. cond tight (pushed i j e m (places w) m) (keep m)) stays
+        (stays-comes v w i j e m (tighterW (atV v e) (at v m i j))))

@@ -124,9 +124,9 @@ never rs is e = isNone (first rs (is ++ (e ∷ [])))
 unfoldable pub listZone : ℕ → Zone → List Zone → Listing
 listZone visit z zs = cond (ltb (length zs) ZONES) (listed (zs ++ (z ∷ []))) (refused 7 visit)
 
--- the tree worked on a zone's inequalities, what it keeps being listed after what was listed so far. A test is settled if none or all of the
--- zone's valuations satisfy it, and nothing is added; otherwise it splits: the yes part gains the inequality, the no part its opposite, and the
--- yes part's whole outcome stands before the no part's. A refusal sticks.
+-- the tree worked on a zone's inequalities, what it keeps being listed after what was listed so far. A test is settled if none or all of
+-- the zone's valuations satisfy it, and nothing is added; otherwise it splits: the yes part gains the inequality, the no part its
+-- opposite, and the yes part's whole outcome stands before the no part's. A refusal sticks.
 unfoldable pub worked : List Range → ℕ → Tree → List Affine → Listing → Listing
 worked rs visit cut is (listed zs) = listed zs
 worked rs visit (keep m) is (listed zs) = listZone visit (record { ineqs = is; bounds = m }) zs

@@ -1,4 +1,5 @@
--- No two zones hold the same valuation of the ranges: any steps leave it in no more zones than held it before, and one zone holds it at the start.
+-- No two zones hold the same valuation of the ranges: any steps leave it in no more zones than held it before, and one zone holds it at
+-- the start.
 use mathlib.Core.Path.{_≡_, refl, ap, subst, sym, _∙_}
 use mathlib.Core.List.{List, [], _∷_, _++_}
 use mathlib.Core.Bool.{Bool, true, false, cond}
@@ -33,7 +34,8 @@ PiecesDisjoint = (s : Sheet) (zs : List Zone) → zonesOf s ≡ listed zs → (v
 -- that is: zones at different places of the list have no valuation of the ranges in common
 abbrev pub ZonesApart : Type 0
 ZonesApart =
-    (s : Sheet) (zs : List Zone) → zonesOf s ≡ listed zs → (v : List ℤ) → InRanges s v → (d : Zone) (i j : ℕ) → i < length zs → j < length zs
+    (s : Sheet) (zs : List Zone) → zonesOf s ≡ listed zs → (v : List ℤ) → InRanges s v
+    → (d : Zone) (i j : ℕ) → i < length zs → j < length zs
     → holds v (getD zs i d) ≡ true → holds v (getD zs j d) ≡ true → i ≡ j
 
 -- ---- steps leave no more than there was
@@ -52,10 +54,13 @@ as-many f xs ms e = subst (λ (l : List (Matrix (Limit ℤ))). length l ≤ leng
 module _ (rs : List Range) (v : List ℤ) (inside-ranges : Inside v rs) (w : ℕ) where
   step-fewer : (s : Step) (zs zs′ : List Zone) → stepZones rs w s zs ≡ listed zs′ → length (found v zs′) ≤ length (found v zs)
   step-fewer delay zs zs′ q = as-many (λ m. kept (delayed w none m)) (found v zs′) (found v zs) (delay-found rs v inside-ranges w zs zs′ q)
-  step-fewer (guard visit g) zs zs′ q = as-many (guardAt w v g) (found v zs′) (found v zs) (guard-found rs v inside-ranges w zs zs′ visit g q)
-  step-fewer (resets bits) zs zs′ q = as-many (λ m. kept (resetsM w bits w m)) (found v zs′) (found v zs) (resets-found rs v inside-ranges w zs zs′ bits q)
+  step-fewer (guard visit g) zs zs′ q = as-many (guardAt w v g) (found v zs′) (found v zs)
+      (guard-found rs v inside-ranges w zs zs′ visit g q)
+  step-fewer (resets bits) zs zs′ q = as-many (λ m. kept (resetsM w bits w m)) (found v zs′) (found v zs)
+      (resets-found rs v inside-ranges w zs zs′ bits q)
 
-  pub steps-fewer : (steps : List Step) (zs zs′ : List Zone) → cutSteps rs w steps zs ≡ listed zs′ → length (found v zs′) ≤ length (found v zs)
+  pub steps-fewer : (steps : List Step) (zs zs′ : List Zone) → cutSteps rs w steps zs ≡ listed zs′
+      → length (found v zs′) ≤ length (found v zs)
   unfolding cutSteps
   steps-fewer [] zs zs′ q = subst (λ (l : List Zone). length (found v l) ≤ length (found v zs)) (listed-same q) (omega arith)
   steps-fewer (s ∷ steps) zs zs′ q =
@@ -89,8 +94,10 @@ one-place : (v : List ℤ) (zs : List Zone) → length (found v zs) ≤ 1 → (d
 unfolding found
 one-place v [] l d i j a b e g = absurd (omega arith)
 one-place v (z ∷ zs) l d zero zero a b e g = refl
-one-place v (z ∷ zs) l d zero (suc j) a b e g = absurd (both-count (at v (z .bounds)) (found v zs) (rw e at l) (holder-counts v zs d j (omega arith) g))
-one-place v (z ∷ zs) l d (suc i) zero a b e g = absurd (both-count (at v (z .bounds)) (found v zs) (rw g at l) (holder-counts v zs d i (omega arith) e))
+one-place v (z ∷ zs) l d zero (suc j) a b e g = absurd
+    (both-count (at v (z .bounds)) (found v zs) (rw e at l) (holder-counts v zs d j (omega arith) g))
+one-place v (z ∷ zs) l d (suc i) zero a b e g = absurd
+    (both-count (at v (z .bounds)) (found v zs) (rw g at l) (holder-counts v zs d i (omega arith) e))
 one-place v (z ∷ zs) l d (suc i) (suc j) a b e g =
     ap suc (one-place v zs (fewer (holds v z) (at v (z .bounds)) (found v zs) l) d i j (omega arith) (omega arith) e g)
 

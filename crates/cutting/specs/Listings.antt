@@ -9,7 +9,8 @@ use Rattle.expr.specs.Three.{limitOf}
 use Rattle.expr.specs.declared.range.Range.{Range}
 use Rattle.sheet.specs.declared.Guard.{Guard}
 use Rattle.timed.specs.Steps.{Step}
-use Rattle.cutting.specs.Cutting.{Bounds, Zone, Tree, cut, keep, wideTree, asks, guardTree, Listing, listed, refused, worked, guardZones, onBounds, stepZones, andThen, cutSteps}
+use Rattle.cutting.specs.Cutting.{Bounds, Zone, Tree, cut, keep, wideTree, asks, guardTree, Listing, listed, refused, worked}
+use Rattle.cutting.specs.Cutting.{guardZones, onBounds, stepZones, andThen, cutSteps}
 
 pub listed-same : {xs ys : List Zone} → listed xs ≡ listed ys → xs ≡ ys
 listed-same h = cc
@@ -17,21 +18,25 @@ listed-same h = cc
 pub not-listed : {n k : ℕ} {ys : List Zone} → refused n k ≡ listed ys → ⊥
 not-listed h = let z : _≡_ {A = ℕ} 0 1 = cc in omega arith
 
-pub worked-refused : (rs : List Range) (visit : ℕ) (t : Tree) (is : List Affine) (n k : ℕ) → worked rs visit t is (refused n k) ≡ refused n k
+pub worked-refused : (rs : List Range) (visit : ℕ) (t : Tree) (is : List Affine) (n k : ℕ)
+    → worked rs visit t is (refused n k) ≡ refused n k
 unfolding worked
 worked-refused rs visit cut is n k = refl
 worked-refused rs visit (keep m) is n k = refl
 worked-refused rs visit wideTree is n k = refl
 worked-refused rs visit (asks e f) is n k = refl
 
-pub guards-refused : (rs : List Range) (visit w : ℕ) (g : Guard) (zs : List Zone) (n k : ℕ) → guardZones rs visit w g zs (refused n k) ≡ refused n k
+pub guards-refused : (rs : List Range) (visit w : ℕ) (g : Guard) (zs : List Zone) (n k : ℕ)
+    → guardZones rs visit w g zs (refused n k) ≡ refused n k
 unfolding guardZones
 guards-refused rs visit w g [] n k = refl
 guards-refused rs visit w g (z ∷ zs) n k =
-    ap (guardZones rs visit w g zs) (worked-refused rs visit (guardTree w (g .left) (g .right) (limitOf (g .bound)) (z .bounds)) (z .ineqs) n k)
+    ap (guardZones rs visit w g zs)
+    (worked-refused rs visit (guardTree w (g .left) (g .right) (limitOf (g .bound)) (z .bounds)) (z .ineqs) n k)
     ∙ guards-refused rs visit w g zs n k
 
-pub listed-first : (o : Listing) (f : List Zone → Listing) (zs′ : List Zone) → andThen o f ≡ listed zs′ → (zs : List Zone) × (o ≡ listed zs) × (f zs ≡ listed zs′)
+pub listed-first : (o : Listing) (f : List Zone → Listing) (zs′ : List Zone) → andThen o f ≡ listed zs′
+    → (zs : List Zone) × (o ≡ listed zs) × (f zs ≡ listed zs′)
 listed-first (listed zs) f zs′ h = (zs, refl, h)
 listed-first (refused n k) f zs′ h = absurd (not-listed h)
 
@@ -41,17 +46,14 @@ unfolding onBounds
 on-length f [] = refl
 on-length f (z ∷ zs) = ap suc (on-length f zs)
 
--- ---- steps in order
+-- ---- steps are made one after another: those of one list, then those of the other
 module _ (rs : List Range) (w : ℕ) where
   after-listing : (xs ys : List Step) → ((zs : List Zone) → andThen (cutSteps rs w xs zs) (cutSteps rs w ys) ≡ cutSteps rs w (xs ++ ys) zs)
       → (o : Listing) → andThen (andThen o (cutSteps rs w xs)) (cutSteps rs w ys) ≡ andThen o (cutSteps rs w (xs ++ ys))
   after-listing xs ys h (listed zs) = h zs
   after-listing xs ys h (refused n k) = refl
 
-  from-zones : (xs ys : List Step) (zs : List Zone) → andThen (cutSteps rs w xs zs) (cutSteps rs w ys) ≡ cutSteps rs w (xs ++ ys) zs
+  pub steps-append : (xs ys : List Step) (zs : List Zone) → andThen (cutSteps rs w xs zs) (cutSteps rs w ys) ≡ cutSteps rs w (xs ++ ys) zs
   unfolding cutSteps
-  from-zones [] ys zs = refl
-  from-zones (s ∷ xs) ys zs = after-listing xs ys (from-zones xs ys) (stepZones rs w s zs)
-
-  pub steps-append : (xs ys : List Step) (o : Listing) → andThen (andThen o (cutSteps rs w xs)) (cutSteps rs w ys) ≡ andThen o (cutSteps rs w (xs ++ ys))
-  steps-append xs ys o = after-listing xs ys (from-zones xs ys) o
+  steps-append [] ys zs = refl
+  steps-append (s ∷ xs) ys zs = after-listing xs ys (steps-append xs ys) (stepZones rs w s zs)

@@ -6,7 +6,8 @@ use mathlib.Core.Bool.{Bool, true, false, cond}
 use Prim.Native.Nat.{ℕ, suc}
 use lib.Dec.{ltb}
 use lib.ListN.{length}
-use Rattle.cutting.specs.Cutting.{startZone, Zone, Tree, cut, keep, wideTree, asks, guardTree, Listing, listed, refused, ZONES, INEQS, never, listZone, worked, guardZones, andThen, stepZones, cutSteps, zonesAlong, zonesOf}
+use Rattle.cutting.specs.Cutting.{startZone, Zone, Tree, cut, keep, wideTree, asks, guardTree, Listing, listed, refused, ZONES}
+use Rattle.cutting.specs.Cutting.{INEQS, never, listZone, worked, guardZones, andThen, stepZones, cutSteps, zonesAlong, zonesOf}
 use Rattle.expr.specs.Affine.{Affine, opposite}
 use Rattle.expr.specs.Three.{limitOf, rangeList}
 use Rattle.expr.specs.declared.range.Range.{Range}
@@ -53,7 +54,8 @@ module _ (rs : List Range) (visit : ℕ) where
       cond-numbered (never rs is e) _ _ (worked-numbered (f false) is (listed zs) h)
       (cond-numbered (never rs is (opposite e)) _ _ (worked-numbered (f true) is (listed zs) h)
       (cond-numbered (ltb (length is) INEQS) _ (refused 8 visit)
-      (worked-numbered (f false) (is ++ (opposite e ∷ [])) (worked rs visit (f true) (is ++ (e ∷ [])) (listed zs)) (worked-numbered (f true) (is ++ (e ∷ [])) (listed zs) h))
+      (worked-numbered (f false) (is ++ (opposite e ∷ [])) (worked rs visit (f true) (is ++ (e ∷ [])) (listed zs))
+      (worked-numbered (f true) (is ++ (e ∷ [])) (listed zs) h))
       (inr (inl refl))))
   worked-numbered (asks e f) is (refused m k) h = h
 

@@ -19,7 +19,9 @@ use Rattle.sheet.specs.declared.Sheet.{Sheet}
 use Rattle.timed.specs.Automaton.{routeOf}
 use Rattle.timed.specs.Steps.{Step, delay, guard, resets, stepsOf}
 use Rattle.cutting.specs.Listings.{listed-same, not-listed, worked-refused, guards-refused, listed-first, on-length}
-use Rattle.cutting.specs.Cutting.{Bounds, zeroB, startB, startZone, Zone, Tree, cut, keep, wideTree, asks, summed, tested, Place, putEntry, rowFrom, rowsFrom, places, pushed, guardTree, Listing, listed, refused, INEQS, ZONES, never, listZone, worked, guardZones, onBounds, stepZones, cutSteps, zonesAlong, zonesOf}
+use Rattle.cutting.specs.Cutting.{Bounds, zeroB, startB, startZone, Zone, Tree, cut, keep, wideTree, asks, summed, tested, Place}
+use Rattle.cutting.specs.Cutting.{putEntry, rowFrom, rowsFrom, places, pushed, guardTree, Listing, listed, refused, INEQS, ZONES}
+use Rattle.cutting.specs.Cutting.{never, listZone, worked, guardZones, onBounds, stepZones, cutSteps, zonesAlong, zonesOf}
 
 -- past clock 0 and w clocks the matrix is zero, not strict
 abbrev pub Blank : ℕ → Bounds → Type 0
@@ -36,7 +38,8 @@ AlongShaped =
     → (length zs ≤ ZONES) × ((z : Zone) → List·Memᴰ z zs → Shaped (s .clocks) z)
 
 abbrev pub ZonesShaped : Type 0
-ZonesShaped = (s : Sheet) (zs : List Zone) → zonesOf s ≡ listed zs → (length zs ≤ ZONES) × ((z : Zone) → List·Memᴰ z zs → Shaped (s .clocks) z)
+ZonesShaped =
+    (s : Sheet) (zs : List Zone) → zonesOf s ≡ listed zs → (length zs ≤ ZONES) × ((z : Zone) → List·Memᴰ z zs → Shaped (s .clocks) z)
 
 -- ---- its proof
 abbrev AllShaped : ℕ → List Zone → Type 0
@@ -66,7 +69,8 @@ Leaves w (keep m) = Blank w m
 Leaves w wideTree = Unit {0}
 Leaves w (asks e f) = (b : Bool) → Leaves w (f b)
 
-summed-leaves : (w : ℕ) (j : Judged (Limit Affine)) (f : Limit Affine → Tree) → ((c : Limit Affine) → Leaves w (f c)) → Leaves w (summed j f)
+summed-leaves : (w : ℕ) (j : Judged (Limit Affine)) (f : Limit Affine → Tree) → ((c : Limit Affine) → Leaves w (f c))
+    → Leaves w (summed j f)
 unfolding summed
 summed-leaves w (fine c) f h = h c
 summed-leaves w wide f h = tt
@@ -95,7 +99,8 @@ row-placed w k l (suc n) a b = (a, omega arith, row-placed w k (suc l) n a (omeg
 rows-placed : (w k n : ℕ) → k + n ≤ suc w → Placed w (rowsFrom w k n)
 unfolding rowsFrom
 rows-placed w k zero a = tt
-rows-placed w k (suc n) a = placed-append w (rowFrom k 0 (suc w)) (rowsFrom w (suc k) n) (row-placed w k 0 (suc w) (omega arith) (omega arith)) (rows-placed w (suc k) n (omega arith))
+rows-placed w k (suc n) a = placed-append w (rowFrom k 0 (suc w)) (rowsFrom w (suc k) n)
+    (row-placed w k 0 (suc w) (omega arith) (omega arith)) (rows-placed w (suc k) n (omega arith))
 
 put-blank : (w : ℕ) (p : Place) (t : Limit Affine) (m : Bounds) → p .row ≤ w → p .column ≤ w → Blank w m → Blank w (putEntry p t m)
 unfolding putEntry
@@ -111,14 +116,16 @@ cond-blank : (w : ℕ) (b : Bool) (x y : Bounds) → Blank w x → Blank w y →
 cond-blank w true x y h k = h
 cond-blank w false x y h k = k
 
-pushed-leaves : (w i j : ℕ) (e : Limit Affine) (old : Bounds) (ps : List Place) (new : Bounds) → Placed w ps → Blank w new → Leaves w (pushed i j e old ps new)
+pushed-leaves : (w i j : ℕ) (e : Limit Affine) (old : Bounds) (ps : List Place) (new : Bounds) → Placed w ps → Blank w new
+    → Leaves w (pushed i j e old ps new)
 unfolding pushed
 pushed-leaves w i j e old [] new h k = k
 pushed-leaves w i j e old (p ∷ ps) new h k =
     summed-leaves w (sumB (old (p .row) i) e) _ (λ s.
     summed-leaves w (sumB s (old j (p .column))) _ (λ t.
     tested-leaves w (tighterB t (old (p .row) (p .column))) _ (λ b.
-    pushed-leaves w i j e old ps (cond b (putEntry p t new) new) (h .2) (cond-blank w b (putEntry p t new) new (put-blank w p t new (h .0) (h .1) k) k))))
+    pushed-leaves w i j e old ps (cond b (putEntry p t new) new) (h .2)
+    (cond-blank w b (putEntry p t new) new (put-blank w p t new (h .0) (h .1) k) k))))
 
 guard-leaves : (w i j : ℕ) (e : Limit Affine) (m : Bounds) → Blank w m → Leaves w (guardTree w i j e m)
 unfolding guardTree places
@@ -130,24 +137,30 @@ guard-leaves w i j e m h =
     stay-or true = pushed-leaves w i j e m (rowsFrom w 0 (suc w)) m (rows-placed w 0 (suc w) (omega arith)) h
     stay-or false = h
 
-    void-or : (b : Bool) → Leaves w (cond b cut (tested (tighterB e (m i j)) (λ tight. cond tight (pushed i j e m (rowsFrom w 0 (suc w)) m) (keep m))))
+    void-or : (b : Bool) → Leaves w
+        (cond b cut (tested (tighterB e (m i j)) (λ tight. cond tight (pushed i j e m (rowsFrom w 0 (suc w)) m) (keep m))))
     void-or true = tt
     void-or false = tested-leaves w (tighterB e (m i j)) _ stay-or
 
 -- ---- a tree worked
 module _ (rs : List Range) (visit w : ℕ) where
   abbrev Keeps : Tree → Type 0
-  Keeps t = (is : List Affine) (zs zs′ : List Zone) → length is ≤ INEQS → Right w zs → worked rs visit t is (listed zs) ≡ listed zs′ → Right w zs′
+  Keeps t =
+      (is : List Affine) (zs zs′ : List Zone) → length is ≤ INEQS → Right w zs → worked rs visit t is (listed zs) ≡ listed zs′
+      → Right w zs′
 
-  list-right : (is : List Affine) (m : Bounds) (zs zs′ : List Zone) → length is ≤ INEQS → Blank w m → Right w zs → (b : Bool) → ltb (length zs) ZONES ≡ b
+  list-right : (is : List Affine) (m : Bounds) (zs zs′ : List Zone) → length is ≤ INEQS → Blank w m → Right w zs → (b : Bool)
+      → ltb (length zs) ZONES ≡ b
       → cond b (listed (zs ++ (record { ineqs = is; bounds = m } ∷ []))) (refused 7 visit) ≡ listed zs′ → Right w zs′
   list-right is m zs zs′ l h r false e q = absurd (not-listed q)
   list-right is m zs zs′ l h r true e q =
       let a = ltb-true (length zs) ZONES e in
       let c = length-append zs (record { ineqs = is; bounds = m } ∷ []) in
-      subst (Right w) (listed-same q) (omega arith, shaped-more w zs (record { ineqs = is; bounds = m }) (r .1) (record { few = l; blank = h }))
+      subst (Right w) (listed-same q)
+      (omega arith, shaped-more w zs (record { ineqs = is; bounds = m }) (r .1) (record { few = l; blank = h }))
 
-  module _ (e : Affine) (f : Bool → Tree) (ih : (b : Bool) → Keeps (f b)) (is : List Affine) (zs zs′ : List Zone) (l : length is ≤ INEQS) (r : Right w zs) where
+  module _ (e : Affine) (f : Bool → Tree) (ih : (b : Bool) → Keeps (f b)) (is : List Affine) (zs zs′ : List Zone)
+      (l : length is ≤ INEQS) (r : Right w zs) where
     abbrev yes-half : Listing
     yes-half = worked rs visit (f true) (is ++ (e ∷ [])) (listed zs)
 
@@ -165,13 +178,16 @@ module _ (rs : List Range) (visit w : ℕ) where
     room-right true k q = split-right yes-half refl (ltb-true (length is) INEQS k) q
     room-right false k q = absurd (not-listed q)
 
-    all-right : (b : Bool) → cond b (worked rs visit (f true) is (listed zs)) (cond (ltb (length is) INEQS) (no-half yes-half) (refused 8 visit)) ≡ listed zs′ → Right w zs′
+    all-right : (b : Bool)
+        → cond b (worked rs visit (f true) is (listed zs)) (cond (ltb (length is) INEQS) (no-half yes-half) (refused 8 visit))
+        ≡ listed zs′ → Right w zs′
     all-right true q = ih true is zs zs′ l r q
     all-right false q = room-right (ltb (length is) INEQS) refl q
 
     none-right : (b : Bool)
         → cond b (worked rs visit (f false) is (listed zs))
-        (cond (never rs is (opposite e)) (worked rs visit (f true) is (listed zs)) (cond (ltb (length is) INEQS) (no-half yes-half) (refused 8 visit))) ≡ listed zs′
+        (cond (never rs is (opposite e)) (worked rs visit (f true) is (listed zs))
+        (cond (ltb (length is) INEQS) (no-half yes-half) (refused 8 visit))) ≡ listed zs′
         → Right w zs′
     none-right true q = ih false is zs zs′ l r q
     none-right false q = all-right (never rs is (opposite e)) q
@@ -184,7 +200,8 @@ module _ (rs : List Range) (visit w : ℕ) where
   tree-keeps (asks e f) h is zs zs′ l r q = none-right e f (λ b. tree-keeps (f b) (h b)) is zs zs′ l r (never rs is e) q
 
   -- ---- guards
-  guard-right : (g : Guard) (zs os zs′ : List Zone) → AllShaped w zs → Right w os → guardZones rs visit w g zs (listed os) ≡ listed zs′ → Right w zs′
+  guard-right : (g : Guard) (zs os zs′ : List Zone) → AllShaped w zs → Right w os → guardZones rs visit w g zs (listed os) ≡ listed zs′
+      → Right w zs′
   unfolding guardZones
   guard-right g [] os zs′ a r q = subst (Right w) (listed-same q) r
   guard-right g (z ∷ zs) os zs′ a r q = by (worked rs visit tree (z .ineqs) (listed os)) refl q (λ os₁. guard-right g zs os₁ zs′ (a .1))
@@ -196,15 +213,18 @@ module _ (rs : List Range) (visit w : ℕ) where
           → ((os₁ : List Zone) → Right w os₁ → guardZones rs visit w g zs (listed os₁) ≡ listed zs′ → Right w zs′) → Right w zs′
       by (refused n k) e q ih = absurd (not-listed (sym (guards-refused rs visit w g zs n k) ∙ q))
       by (listed os₁) e q ih =
-          ih os₁ (tree-keeps tree (guard-leaves w (g .left) (g .right) (limitOf (g .bound)) (z .bounds) (a .0 .blank)) (z .ineqs) os os₁ (a .0 .few) r e) q
+          ih os₁ (tree-keeps tree (guard-leaves w (g .left) (g .right) (limitOf (g .bound)) (z .bounds) (a .0 .blank)) (z .ineqs) os os₁
+          (a .0 .few) r e) q
 
 -- ---- steps on every zone's matrix
-on-shaped : (w : ℕ) (f : Bounds → Bounds) → ((m : Bounds) → Blank w m → Blank w (f m)) → (zs : List Zone) → AllShaped w zs → AllShaped w (onBounds f zs)
+on-shaped : (w : ℕ) (f : Bounds → Bounds) → ((m : Bounds) → Blank w m → Blank w (f m)) → (zs : List Zone) → AllShaped w zs
+    → AllShaped w (onBounds f zs)
 unfolding onBounds
 on-shaped w f h [] a = tt
 on-shaped w f h (z ∷ zs) a = (record { few = a .0 .few; blank = h (z .bounds) (a .0 .blank) }, on-shaped w f h zs (a .1))
 
-on-right : (w : ℕ) (f : Bounds → Bounds) → ((m : Bounds) → Blank w m → Blank w (f m)) → (zs : List Zone) → Right w zs → Right w (onBounds f zs)
+on-right : (w : ℕ) (f : Bounds → Bounds) → ((m : Bounds) → Blank w m → Blank w (f m)) → (zs : List Zone) → Right w zs
+    → Right w (onBounds f zs)
 on-right w f h zs r = (subst (λ (n : ℕ). n ≤ ZONES) (sym (on-length f zs)) (r .0), on-shaped w f h zs (r .1))
 
 -- ---- any list of steps

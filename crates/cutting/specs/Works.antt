@@ -1,5 +1,5 @@
--- What steps list for one valuation: working a tree lists just what the tree comes to, and a guard, a delay or resets over all zones do to the
--- zones that hold the valuation what the rules of the matrices do there.
+-- What steps list for one valuation: working a tree lists just what the tree comes to, and a guard, a delay or resets over all zones do
+-- to the zones that hold the valuation what the rules of the matrices do there.
 use mathlib.Core.Path.{_≡_, refl, sym, ap, subst, fun-ext, _∙_}
 use mathlib.Core.List.{List, [], _∷_, _++_, append-assoc}
 use mathlib.Core.Bool.{Bool, true, false, _&&_, not, cond}
@@ -23,7 +23,8 @@ use Rattle.search.specs.Valuations.{satisfies, first}
 use Rattle.expr.specs.declared.range.Range.{Range}
 use Rattle.sheet.specs.declared.Guard.{Guard}
 use Rattle.timed.specs.Steps.{delay, guard, resets}
-use Rattle.cutting.specs.Cutting.{Bounds, startB, Zone, Tree, cut, keep, wideTree, asks, guardTree, Listing, listed, refused, INEQS, ZONES, never, listZone, worked, guardZones, onBounds, stepZones}
+use Rattle.cutting.specs.Cutting.{Bounds, startB, Zone, Tree, cut, keep, wideTree, asks, guardTree, Listing, listed, refused, INEQS}
+use Rattle.cutting.specs.Cutting.{ZONES, never, listZone, worked, guardZones, onBounds, stepZones}
 use Rattle.cutting.specs.Held.{holds, at, found, listOf}
 use Rattle.cutting.specs.Listings.{listed-same, not-listed, worked-refused, guards-refused}
 use Rattle.cutting.specs.Comes.{Comes, guard-comes}
@@ -39,11 +40,13 @@ found-append v [] ys = refl
 found-append v (z ∷ xs) ys = by (holds v z) (found-append v xs ys)
   where
     by : (b : Bool) → found v (xs ++ ys) ≡ found v xs ++ found v ys
-        → cond b (at v (z .bounds) ∷ found v (xs ++ ys)) (found v (xs ++ ys)) ≡ cond b (at v (z .bounds) ∷ found v xs) (found v xs) ++ found v ys
+        → cond b (at v (z .bounds) ∷ found v (xs ++ ys)) (found v (xs ++ ys))
+        ≡ cond b (at v (z .bounds) ∷ found v xs) (found v xs) ++ found v ys
     by true ih = ap (λ (l : List (Matrix (Limit ℤ))). at v (z .bounds) ∷ l) ih
     by false ih = ih
 
-satisfies-one-more : (is : List Affine) (e : Affine) (v : List ℤ) → satisfies (is ++ (e ∷ [])) v ≡ (satisfies is v && leZ (pos 0) (value e v))
+satisfies-one-more : (is : List Affine) (e : Affine) (v : List ℤ)
+    → satisfies (is ++ (e ∷ [])) v ≡ (satisfies is v && leZ (pos 0) (value e v))
 unfolding satisfies
 satisfies-one-more [] e v = by (leZ (pos 0) (value e v))
   where
@@ -66,9 +69,11 @@ never-none rs is e h = by (first rs (is ++ (e ∷ []))) refl
     by option.none q = q
     by (option.some u) q = let k = rw q at h in let z : _≡_ {A = ℕ} 0 1 = cc in absurd (omega arith)
 
-never-fails : (rs : List Range) (is : List Affine) (e : Affine) (v : List ℤ) → Inside v rs → never rs is e ≡ true → satisfies is v ≡ true → leZ (pos 0) (value e v) ≡ false
+never-fails : (rs : List Range) (is : List Affine) (e : Affine) (v : List ℤ) → Inside v rs → never rs is e ≡ true → satisfies is v ≡ true
+    → leZ (pos 0) (value e v) ≡ false
 never-fails rs is e v i h s =
-    ap (λ (b : Bool). b && leZ (pos 0) (value e v)) (sym s) ∙ sym (satisfies-one-more is e v) ∙ first-none rs (is ++ (e ∷ [])) (never-none rs is e h) v i
+    ap (λ (b : Bool). b && leZ (pos 0) (value e v)) (sym s) ∙ sym (satisfies-one-more is e v)
+    ∙ first-none rs (is ++ (e ∷ [])) (never-none rs is e h) v i
 
 -- ---- a tree worked on a zone's inequalities
 -- the zones of an outcome that stands for v if b
@@ -99,7 +104,8 @@ Works rs visit v t =
 module _ (rs : List Range) (visit : ℕ) (v : List ℤ) (inside-ranges : Inside v rs) where
   cut-works : Works rs visit v cut
   unfolding worked
-  cut-works is zs zs′ r h q = ap (found v) (sym (listed-same q)) ∙ sym (append-nil (found v zs)) ∙ ap (λ (l : List (Matrix (Limit ℤ))). found v zs ++ l) (by (satisfies is v) h)
+  cut-works is zs zs′ r h q = ap (found v) (sym (listed-same q)) ∙ sym (append-nil (found v zs))
+      ∙ ap (λ (l : List (Matrix (Limit ℤ))). found v zs ++ l) (by (satisfies is v) h)
     where
       by : (b : Bool) → (b ≡ true → r ≡ void) → _≡_ {A = List (Matrix (Limit ℤ))} [] (ofV b r)
       by true k = ap listOf (sym (k refl))
@@ -108,9 +114,11 @@ module _ (rs : List Range) (visit : ℕ) (v : List ℤ) (inside-ranges : Inside 
   keep-works : (m : Bounds) → Works rs visit v (keep m)
   unfolding worked listZone found
   keep-works m is zs zs′ r h q =
-      by (ltb (length zs) ZONES) q ∙ found-append v zs (record { ineqs = is; bounds = m } ∷ []) ∙ ap (λ (l : List (Matrix (Limit ℤ))). found v zs ++ l) (one (satisfies is v) h)
+      by (ltb (length zs) ZONES) q ∙ found-append v zs (record { ineqs = is; bounds = m } ∷ [])
+      ∙ ap (λ (l : List (Matrix (Limit ℤ))). found v zs ++ l) (one (satisfies is v) h)
     where
-      by : (b : Bool) → cond b (listed (zs ++ (record { ineqs = is; bounds = m } ∷ []))) (refused 7 visit) ≡ listed zs′ → found v zs′ ≡ found v (zs ++ (record { ineqs = is; bounds = m } ∷ []))
+      by : (b : Bool) → cond b (listed (zs ++ (record { ineqs = is; bounds = m } ∷ []))) (refused 7 visit) ≡ listed zs′
+          → found v zs′ ≡ found v (zs ++ (record { ineqs = is; bounds = m } ∷ []))
       by true k = ap (found v) (sym (listed-same k))
       by false k = absurd (not-listed k)
 
@@ -136,9 +144,11 @@ module _ (rs : List Range) (visit : ℕ) (v : List ℤ) (inside-ranges : Inside 
     split-works (refused n k) o q = absurd (not-listed (sym (worked-refused rs visit (f false) (is ++ (opposite e ∷ [])) n k) ∙ q))
     split-works (listed zs₁) o q =
         ih false (is ++ (opposite e ∷ [])) zs₁ zs′ r no-comes q
-        ∙ ap (λ (l : List (Matrix (Limit ℤ))). l ++ ofV (satisfies (is ++ (opposite e ∷ [])) v) r) (ih true (is ++ (e ∷ [])) zs zs₁ r yes-comes o)
+        ∙ ap (λ (l : List (Matrix (Limit ℤ))). l ++ ofV (satisfies (is ++ (opposite e ∷ [])) v) r)
+        (ih true (is ++ (e ∷ [])) zs zs₁ r yes-comes o)
         ∙ ap (λ (b : Bool). (found v zs ++ ofV b r) ++ ofV (satisfies (is ++ (opposite e ∷ [])) v) r) (satisfies-one-more is e v)
-        ∙ ap (λ (b : Bool). (found v zs ++ ofV (satisfies is v && leZ (pos 0) (value e v)) r) ++ ofV b r) (satisfies-one-more is (opposite e) v)
+        ∙ ap (λ (b : Bool). (found v zs ++ ofV (satisfies is v && leZ (pos 0) (value e v)) r) ++ ofV b r)
+        (satisfies-one-more is (opposite e) v)
         ∙ halves (satisfies is v) (leZ (pos 0) (value e v)) (leZ (pos 0) (value (opposite e) v)) (found v zs) r (opposite-holds e v)
       where
         yes-comes : satisfies (is ++ (e ∷ [])) v ≡ true → Comes v (f true) r
@@ -158,14 +168,17 @@ module _ (rs : List Range) (visit : ℕ) (v : List ℤ) (inside-ranges : Inside 
     room false q = absurd (not-listed q)
 
     all-do : (b : Bool) → never rs is (opposite e) ≡ b
-        → cond b (worked rs visit (f true) is (listed zs)) (cond (ltb (length is) INEQS) (no-half yes-half) (refused 8 visit)) ≡ listed zs′ → Goal
+        → cond b (worked rs visit (f true) is (listed zs)) (cond (ltb (length is) INEQS) (no-half yes-half) (refused 8 visit))
+        ≡ listed zs′ → Goal
     all-do true k q = ih true is zs zs′ r
-        (λ s. on true s (not-opposite (leZ (pos 0) (value (opposite e) v)) (leZ (pos 0) (value e v)) (opposite-holds e v) (never-fails rs is (opposite e) v inside-ranges k s))) q
+        (λ s. on true s (not-opposite (leZ (pos 0) (value (opposite e) v)) (leZ (pos 0) (value e v)) (opposite-holds e v)
+        (never-fails rs is (opposite e) v inside-ranges k s))) q
     all-do false k q = room (ltb (length is) INEQS) q
 
     none-does : (b : Bool) → never rs is e ≡ b
         → cond b (worked rs visit (f false) is (listed zs))
-        (cond (never rs is (opposite e)) (worked rs visit (f true) is (listed zs)) (cond (ltb (length is) INEQS) (no-half yes-half) (refused 8 visit))) ≡ listed zs′
+        (cond (never rs is (opposite e)) (worked rs visit (f true) is (listed zs))
+        (cond (ltb (length is) INEQS) (no-half yes-half) (refused 8 visit))) ≡ listed zs′
         → Goal
     none-does true k q = ih false is zs zs′ r (λ s. on false s (never-fails rs is e v inside-ranges k s)) q
     none-does false k q = all-do (never rs is (opposite e)) refl q
@@ -203,7 +216,8 @@ abbrev pub guardAt : ℕ → List ℤ → Guard → Matrix (Limit ℤ) → Outco
 guardAt w v g m = guarded w (g .left) (g .right) (atV v (limitOf (g .bound))) m
 
 module _ (rs : List Range) (visit : ℕ) (v : List ℤ) (inside-ranges : Inside v rs) (w : ℕ) where
-  guard-zones : (g : Guard) (zs os zs′ : List Zone) → guardZones rs visit w g zs (listed os) ≡ listed zs′ → found v zs′ ≡ found v os ++ each (guardAt w v g) (found v zs)
+  guard-zones : (g : Guard) (zs os zs′ : List Zone) → guardZones rs visit w g zs (listed os) ≡ listed zs′
+      → found v zs′ ≡ found v os ++ each (guardAt w v g) (found v zs)
   unfolding guardZones found each
   guard-zones g [] os zs′ q = ap (found v) (sym (listed-same q)) ∙ sym (append-nil (found v os))
   guard-zones g (z ∷ zs) os zs′ q = by (worked rs visit tree (z .ineqs) (listed os)) refl q (λ os₁. guard-zones g zs os₁ zs′)
@@ -212,7 +226,8 @@ module _ (rs : List Range) (visit : ℕ) (v : List ℤ) (inside-ranges : Inside 
       tree = guardTree w (g .left) (g .right) (limitOf (g .bound)) (z .bounds)
 
       by : (o : Listing) → worked rs visit tree (z .ineqs) (listed os) ≡ o → guardZones rs visit w g zs o ≡ listed zs′
-          → ((os₁ : List Zone) → guardZones rs visit w g zs (listed os₁) ≡ listed zs′ → found v zs′ ≡ found v os₁ ++ each (guardAt w v g) (found v zs))
+          → ((os₁ : List Zone) → guardZones rs visit w g zs (listed os₁) ≡ listed zs′
+          → found v zs′ ≡ found v os₁ ++ each (guardAt w v g) (found v zs))
           → found v zs′ ≡ found v os ++ each (guardAt w v g) (cond (holds v z) (at v (z .bounds) ∷ found v zs) (found v zs))
       by (refused n k) e q ih = absurd (not-listed (sym (guards-refused rs visit w g zs n k) ∙ q))
       by (listed os₁) e q ih =
@@ -230,7 +245,8 @@ on-found v f f′ h [] = refl
 on-found v f f′ h (z ∷ zs) = by (holds v z) (on-found v f f′ h zs)
   where
     by : (b : Bool) → found v (onBounds f zs) ≡ each (λ m. kept (f′ m)) (found v zs)
-        → cond b (at v (f (z .bounds)) ∷ found v (onBounds f zs)) (found v (onBounds f zs)) ≡ each (λ m. kept (f′ m)) (cond b (at v (z .bounds) ∷ found v zs) (found v zs))
+        → cond b (at v (f (z .bounds)) ∷ found v (onBounds f zs)) (found v (onBounds f zs))
+        ≡ each (λ m. kept (f′ m)) (cond b (at v (z .bounds) ∷ found v zs) (found v zs))
     by true ih = rw (h (z .bounds), ih) refl
     by false ih = ih
 
@@ -261,7 +277,8 @@ resets-at v w bits zero m = refl
 resets-at v w bits (suc i) m = by (eqb (bits / 2 ^ i % 2) 1) (resets-at v w bits i m)
   where
     by : (b : Bool) → at v (resetsM w bits i m) ≡ resetsM w bits i (at v m)
-        → at v (cond b (resetM w (suc i) (resetsM w bits i m)) (resetsM w bits i m)) ≡ cond b (resetM w (suc i) (resetsM w bits i (at v m))) (resetsM w bits i (at v m))
+        → at v (cond b (resetM w (suc i) (resetsM w bits i m)) (resetsM w bits i m))
+        ≡ cond b (resetM w (suc i) (resetsM w bits i (at v m))) (resetsM w bits i (at v m))
     by true ih = reset-at v w (suc i) (resetsM w bits i m) ∙ ap (resetM w (suc i)) ih
     by false ih = ih
 
@@ -271,11 +288,13 @@ module _ (rs : List Range) (v : List ℤ) (inside-ranges : Inside v rs) (w : ℕ
   unfolding stepZones
   delay-found q = ap (found v) (sym (listed-same q)) ∙ on-found v (delayed w none) (delayed w none) (delay-at v w) zs
 
-  pub guard-found : (visit : ℕ) (g : Guard) → stepZones rs w (guard visit g) zs ≡ listed zs′ → found v zs′ ≡ each (guardAt w v g) (found v zs)
+  pub guard-found : (visit : ℕ) (g : Guard) → stepZones rs w (guard visit g) zs ≡ listed zs′
+      → found v zs′ ≡ each (guardAt w v g) (found v zs)
   unfolding stepZones found
   guard-found visit g q = guard-zones rs visit v inside-ranges w g zs [] zs′ q
 
-  pub resets-found : (bits : ℕ) → stepZones rs w (resets bits) zs ≡ listed zs′ → found v zs′ ≡ each (λ m. kept (resetsM w bits w m)) (found v zs)
+  pub resets-found : (bits : ℕ) → stepZones rs w (resets bits) zs ≡ listed zs′
+      → found v zs′ ≡ each (λ m. kept (resetsM w bits w m)) (found v zs)
   unfolding stepZones
   resets-found bits q = ap (found v) (sym (listed-same q)) ∙ on-found v (resetsM w bits w) (resetsM w bits w) (resets-at v w bits w) zs
 

@@ -1,5 +1,5 @@
--- The cutting against Sweep, over any list of steps: the zones that hold a valuation, with it put in, are what Sweep leaves at it: none where that
--- is void, else one, with the same matrix.
+-- The cutting against Sweep, over any list of steps: the zones that hold a valuation, with it put in, are what Sweep leaves at it: none
+-- where that is void, else one, with the same matrix.
 use mathlib.Core.Path.{_≡_, refl, sym, ap, _∙_}
 use mathlib.Core.List.{List, [], _∷_, _++_, append-assoc}
 use Prim.Native.Nat.{ℕ}
@@ -22,7 +22,8 @@ use Rattle.timed.specs.Steps.{Step, delay, guard, resets, stepsOf}
 each-append : (f : Matrix (Limit ℤ) → Outcome) (xs ys : List (Matrix (Limit ℤ))) → each f (xs ++ ys) ≡ each f xs ++ each f ys
 unfolding each
 each-append f [] ys = refl
-each-append f (x ∷ xs) ys = ap (λ (l : List (Matrix (Limit ℤ))). listOf (f x) ++ l) (each-append f xs ys) ∙ sym (append-assoc (listOf (f x)) (each f xs) (each f ys))
+each-append f (x ∷ xs) ys = ap (λ (l : List (Matrix (Limit ℤ))). listOf (f x) ++ l) (each-append f xs ys)
+    ∙ sym (append-assoc (listOf (f x)) (each f xs) (each f ys))
 
 each-outcome : (g : Matrix (Limit ℤ) → Outcome) (r : Outcome) → each g (listOf r) ≡ listOf (andThen r g)
 unfolding each
@@ -45,7 +46,8 @@ module _ (rs : List Range) (v : List ℤ) (inside-ranges : Inside v rs) (w : ℕ
   step-found (guard visit g) zs zs′ q = guard-found rs v inside-ranges w zs zs′ visit g q
   step-found (resets bits) zs zs′ q = resets-found rs v inside-ranges w zs zs′ bits q
 
-  pub found-walk : (steps : List Step) (zs zs′ : List Zone) → cutSteps rs w steps zs ≡ listed zs′ → found v zs′ ≡ each (walk w v steps) (found v zs)
+  pub found-walk : (steps : List Step) (zs zs′ : List Zone) → cutSteps rs w steps zs ≡ listed zs′
+      → found v zs′ ≡ each (walk w v steps) (found v zs)
   unfolding cutSteps walk
   found-walk [] zs zs′ q = ap (found v) (sym (listed-same q)) ∙ sym (each-kept (found v zs))
   found-walk (s ∷ steps) zs zs′ q =
@@ -55,7 +57,8 @@ module _ (rs : List Range) (v : List ℤ) (inside-ranges : Inside v rs) (w : ℕ
       ∙ each-then (step w v s) (walk w v steps) (found v zs)
 
 -- from one zone, the zones that hold v are what Sweep leaves at v
-pub found-steps : (rs : List Range) (v : List ℤ) → Inside v rs → (w : ℕ) (steps : List Step) (zs : List Zone) → cutSteps rs w steps (startZone ∷ []) ≡ listed zs
+pub found-steps : (rs : List Range) (v : List ℤ) → Inside v rs → (w : ℕ) (steps : List Step) (zs : List Zone)
+    → cutSteps rs w steps (startZone ∷ []) ≡ listed zs
     → found v zs ≡ listOf (walk w v steps start)
 unfolding found each satisfies
 found-steps rs v i w steps zs q =
@@ -64,7 +67,8 @@ found-steps rs v i w steps zs q =
     ∙ append-nil (listOf (walk w v steps start))
 
 -- along a route
-pub found-along : (s : Sheet) (route : List ℕ) (v : List ℤ) → Inside v (rangeList (s .ranges)) → (zs : List Zone) → zonesAlong s route ≡ listed zs
+pub found-along : (s : Sheet) (route : List ℕ) (v : List ℤ) → Inside v (rangeList (s .ranges)) → (zs : List Zone)
+    → zonesAlong s route ≡ listed zs
     → found v zs ≡ listOf (sweepAlong s route v)
 unfolding zonesAlong sweepAlong
 found-along s route v i zs q = found-steps (rangeList (s .ranges)) v i (s .clocks) (stepsOf s route) zs q

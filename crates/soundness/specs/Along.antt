@@ -1,8 +1,9 @@
--- What the zones are worth, along any route: for every valuation in the ranges a zone holds it exactly if a run follows the route under it, and
--- the zone's matrix, with it put in, is Sweep's, its entries the tightest bounds.
+-- What the zones are worth, along any route: for every valuation in the ranges a zone holds it exactly if a run follows the route under
+-- it, and the zone's matrix, with it put in, is Sweep's, its entries the tightest bounds.
 use mathlib.Core.Path.{_≡_, refl, sym, ap, subst, _∙_}
 use mathlib.Core.Logic.{_↔_, _⊎_, inl, inr}
-use mathlib.Core.List.{List, [], _∷_, List·Memᴰ, List·Memᴰ·head, List·Memᴰ·tail, List·Memᴰ·not-nil, List·Memᴰ·cases-cons, List·Memᴰ·eq-of-singleton}
+use mathlib.Core.List.{List, [], _∷_, List·Memᴰ, List·Memᴰ·head, List·Memᴰ·tail, List·Memᴰ·not-nil, List·Memᴰ·cases-cons}
+use mathlib.Core.List.{List·Memᴰ·eq-of-singleton}
 use mathlib.Core.Bool.{Bool, true, false, cond}
 use Prim.Native.Nat.{ℕ, _≤_}
 use native.Mathlib.Omega.{arith}
@@ -28,7 +29,10 @@ found-has v (y ∷ zs) z i h = by (holds v y) refl (List·Memᴰ·cases-cons i) 
         → List·Memᴰ (at v (z .bounds)) (cond b (at v (y .bounds) ∷ found v zs) (found v zs))
     by true e (inl q) ih = List·Memᴰ·head (ap (λ (x : Zone). at v (x .bounds)) q)
     by true e (inr k) ih = List·Memᴰ·tail (ih k)
-    by false e (inl q) ih = let a : holds v y ≡ true = subst (λ (x : Zone). holds v x ≡ true) q h in let o : _≡_ {A = ℕ} 0 1 = cc in absurd (omega arith)
+    by false e (inl q) ih =
+        let a : holds v y ≡ true = subst (λ (x : Zone). holds v x ≡ true) q h in
+        let o : _≡_ {A = ℕ} 0 1 = cc in
+        absurd (omega arith)
     by false e (inr k) ih = ih k
 
 more-held : {v : List ℤ} {z : Zone} {zs : List Zone} → HeldBy v zs → HeldBy v (z ∷ zs)
@@ -39,7 +43,8 @@ unfolding found
 found-held v [] m ms e = let o : _≡_ {A = ℕ} 0 1 = cc in absurd (omega arith)
 found-held v (z ∷ zs) m ms e = by (holds v z) refl e (found-held v zs m ms)
   where
-    by : (b : Bool) → holds v z ≡ b → cond b (at v (z .bounds) ∷ found v zs) (found v zs) ≡ m ∷ ms → (found v zs ≡ m ∷ ms → HeldBy v zs) → HeldBy v (z ∷ zs)
+    by : (b : Bool) → holds v z ≡ b → cond b (at v (z .bounds) ∷ found v zs) (found v zs) ≡ m ∷ ms → (found v zs ≡ m ∷ ms → HeldBy v zs)
+        → HeldBy v (z ∷ zs)
     by true h k ih = record { zone = z; one-of = List·Memᴰ·head refl; held = h }
     by false h k ih = more-held (ih k)
 
@@ -67,11 +72,13 @@ module _ (s : Sheet) (route : List ℕ) (zs : List Zone) (q : zonesAlong s route
   pub along-agree : (h : HeldBy v zs) → sweepAlong s route v ≡ kept (at v (h .zone .bounds))
   along-agree h =
       one-kept (sweepAlong s route v) (at v (h .zone .bounds))
-      (subst (λ (l : List (Matrix (Limit ℤ))). List·Memᴰ (at v (h .zone .bounds)) l) along-found (found-has v zs (h .zone) (h .one-of) (h .held)))
+      (subst (λ (l : List (Matrix (Limit ℤ))). List·Memᴰ (at v (h .zone .bounds)) l) along-found
+      (found-has v zs (h .zone) (h .one-of) (h .held)))
 
   module _ (f : WellFormed s) where
     -- and each of its entries is the tightest bound
-    pub along-tightest : (h : HeldBy v zs) → (i j : ℕ) → i ≤ s .clocks → j ≤ s .clocks → TightestAlong s route v i j (at v (h .zone .bounds) i j)
+    pub along-tightest : (h : HeldBy v zs) → (i j : ℕ) → i ≤ s .clocks → j ≤ s .clocks
+        → TightestAlong s route v i j (at v (h .zone .bounds) i j)
     along-tightest h = along-right s f route v .1 (at v (h .zone .bounds)) (along-agree h)
 
     -- a zone holds v exactly if a run follows the route under v

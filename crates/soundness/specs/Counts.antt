@@ -25,7 +25,9 @@ use Rattle.cutting.specs.Kept.{Counted, nil, has, lacks, keptOf, cutOf}
 -- ---- the statements
 -- kept is the number of valuations of the ranges with a run
 abbrev pub KeptCountsRuns : Type 0
-KeptCountsRuns = (s : Sheet) → WellFormed s → (zs : List Zone) → zonesOf s ≡ listed zs → Counted (Run s) (valuations (rangeList (s .ranges))) (keptOf (rangeList (s .ranges)) zs)
+KeptCountsRuns =
+    (s : Sheet) → WellFormed s → (zs : List Zone) → zonesOf s ≡ listed zs
+    → Counted (Run s) (valuations (rangeList (s .ranges))) (keptOf (rangeList (s .ranges)) zs)
 
 -- cut is the number of those without
 abbrev pub CutCountsTheRest : Type 0
@@ -68,12 +70,14 @@ tally-step v vs (z ∷ zs) = by (holds v z) (tally-step v vs zs)
 module _ (s : Sheet) (f : WellFormed s) (route : List ℕ) (zs : List Zone) (q : zonesAlong s route ≡ listed zs) where
   tally-counted : (vs : List (List ℤ)) → ((v : List ℤ) → List·Memᴰ v vs → InRanges s v) → Counted (RunAlong s route) vs (tally vs zs)
   tally-counted [] h = subst (Counted (RunAlong s route) []) (sym (tally-none zs)) nil
-  tally-counted (v ∷ vs) h = subst (Counted (RunAlong s route) (v ∷ vs)) (sym (tally-step v vs zs)) (by (sweepAlong s route v) refl (tally-counted vs (λ u i. h u (List·Memᴰ·tail i))))
+  tally-counted (v ∷ vs) h = subst (Counted (RunAlong s route) (v ∷ vs)) (sym (tally-step v vs zs))
+      (by (sweepAlong s route v) refl (tally-counted vs (λ u i. h u (List·Memᴰ·tail i))))
     where
       in-ranges : InRanges s v
       in-ranges = h v (List·Memᴰ·head refl)
 
-      by : (o : Outcome) → sweepAlong s route v ≡ o → Counted (RunAlong s route) vs (tally vs zs) → Counted (RunAlong s route) (v ∷ vs) (length (found v zs) + tally vs zs)
+      by : (o : Outcome) → sweepAlong s route v ≡ o → Counted (RunAlong s route) vs (tally vs zs)
+          → Counted (RunAlong s route) (v ∷ vs) (length (found v zs) + tally vs zs)
       by void e c =
           let k : found v zs ≡ [] = along-found s route zs q v in-ranges ∙ ap listOf e in
           let l : length (found v zs) ≡ 0 = ap length k in

@@ -1,6 +1,6 @@
--- What the zones are worth along the sheet's own route, for every sheet that is well formed and not refused, and every valuation in its ranges: a
--- zone holds it exactly if a run follows the route under it, and the zone's matrix, with it put in, is Sweep's, its entries
--- the tightest bounds.
+-- What the zones are worth along the sheet's own route, for every sheet that is well formed and not refused, and every valuation in its
+-- ranges: a zone holds it exactly if a run follows the route under it, and the zone's matrix, with it put in, is Sweep's, its entries the
+-- tightest bounds.
 use mathlib.Core.Path.{_≡_}
 use mathlib.Core.Logic.{_↔_}
 use mathlib.Core.List.{List, [], _∷_}
@@ -32,7 +32,8 @@ FoundSweep = (s : Sheet) (zs : List Zone) → zonesOf s ≡ listed zs → (v : L
 -- a zone that holds v has, with v put in, Sweep's matrix
 abbrev pub MatricesAgree : Type 0
 MatricesAgree =
-    (s : Sheet) (zs : List Zone) → zonesOf s ≡ listed zs → (v : List ℤ) → InRanges s v → (h : HeldBy v zs) → sweepAt s v ≡ kept (at v (h .zone .bounds))
+    (s : Sheet) (zs : List Zone) → zonesOf s ≡ listed zs → (v : List ℤ) → InRanges s v → (h : HeldBy v zs)
+    → sweepAt s v ≡ kept (at v (h .zone .bounds))
 
 -- and each of its entries, for clock 0 and the sheet's clocks, is the tightest bound on clock i - clock j over the end states of all runs
 abbrev pub ZonesTightest : Type 0
@@ -43,7 +44,8 @@ ZonesTightest =
 -- the same over what was found
 abbrev pub EntriesAgree : Type 0
 EntriesAgree =
-    (s : Sheet) → WellFormed s → (zs : List Zone) → zonesOf s ≡ listed zs → (v : List ℤ) → InRanges s v → (m : Matrix (Limit ℤ)) → found v zs ≡ m ∷ []
+    (s : Sheet) → WellFormed s → (zs : List Zone) → zonesOf s ≡ listed zs → (v : List ℤ) → InRanges s v
+    → (m : Matrix (Limit ℤ)) → found v zs ≡ m ∷ []
     → (sweepAt s v ≡ kept m) × ((i j : ℕ) → i ≤ s .clocks → j ≤ s .clocks → Tightest s v i j (m i j))
 
 -- ---- the proofs
@@ -61,7 +63,8 @@ zones-tightest s f zs q v i h = along-tightest s (routeOf s) zs q v i f h
 
 pub entries-agree : EntriesAgree
 unfolding zonesOf sweepAt
-entries-agree s f zs q v i m e = (along-found-one s (routeOf s) zs q v i m e, entries-tightest s f v m (along-found-one s (routeOf s) zs q v i m e))
+entries-agree s f zs q v i m e =
+    (along-found-one s (routeOf s) zs q v i m e, entries-tightest s f v m (along-found-one s (routeOf s) zs q v i m e))
 
 pub held-iff-run : HeldIffRun
 unfolding zonesOf

@@ -1,5 +1,5 @@
--- What an accepted sheet says of the guards that a run meets, and of the steps along a route: each guard is on one clock of the sheet, and has a
--- bound; the sheet's own route has at most 32 transitions, and so 33 delays.
+-- What an accepted sheet says of the guards that a run meets, and of the steps along a route: each guard is on one clock of the sheet,
+-- and has a bound; the sheet's own route has at most 32 transitions, and so 33 delays.
 use mathlib.Core.Path.{_≡_, refl}
 use mathlib.Core.List.{List, [], _∷_, _++_, map}
 use mathlib.Core.Bool.{Bool, true, false}
@@ -49,7 +49,8 @@ taken-all P d (a ∷ l) zero h f = tt
 taken-all P d (a ∷ l) (suc count) h f = (f 0 (omega arith), taken-all P d l count (omega arith) (λ k g. f (suc k) (omega arith)))
 
 -- the counted places of a filled list
-pub filled-all : {A : Type 0} {n count : ℕ} {d blank : A} {P : A → Type 0} {l : List A} → Filled n count d blank P l → AllOf P (take count l)
+pub filled-all : {A : Type 0} {n count : ℕ} {d blank : A} {P : A → Type 0} {l : List A} → Filled n count d blank P l
+    → AllOf P (take count l)
 filled-all {A} {n} {count} {d} {blank} {P} {l} f = taken-all P d l count (rw (f .long) (f .few)) (f .each)
 
 -- every place of a filled list, and every place past its end

@@ -1,5 +1,5 @@
--- Runs (paper 01, "Runs"; document 000, definitions 2.1 and 2.2, over whole numbers), from the sheet as it was read, for any number of clocks.
--- It uses nothing of Sweep or Windows, nor of the steps that they make (Steps).
+-- Runs (paper 01, "Runs"; document 000, definitions 2.1 and 2.2, over whole numbers), from the sheet as it was read, for any number of
+-- clocks. It uses nothing of Sweep or Windows, nor of the steps that they make (Steps).
 use mathlib.Core.Path.{_≡_}
 use mathlib.Core.List.{List, [], _∷_}
 use mathlib.Core.Bool.{Bool, true, false, cond}
@@ -47,8 +47,8 @@ abbrev pub AllHold : ℕ → List ℤ → Clocks → List Guard → Type 0
 AllHold D v x [] = Unit {0}
 AllHold D v x (g ∷ gs) = Holds D v x g × AllHold D v x gs
 
--- Under the valuation v, with D parts to a minute, from location l with clocks x, along the rest of a route, to the end state y:
--- a wait, at whose end the invariants hold; then the next transition's guards hold, its reset clocks become 0, and so on from where it goes.
+-- Under the valuation v, with D parts to a minute, from location l with clocks x, along the rest of a route, to the end state y: a wait,
+-- at whose end the invariants hold; then the next transition's guards hold, its reset clocks become 0, and so on from where it goes.
 -- After the last transition there is one more wait, ended by invariants; that is the end state.
 unfoldable pub Leads : Sheet → List ℤ → ℕ → ℕ → List ℕ → Clocks → Clocks → Type 0
 Leads s v D l [] x y = (d : ℕ) × AllHold D v (waited d x) (invariants s l) × ((i : ℕ) → y i ≡ waited d x i)

@@ -1,4 +1,5 @@
--- A tightest bound is unique: two weights that are both tightest for the same two clocks are equal. So `TightestAlong` names at most one weight.
+-- A tightest bound is unique: two weights that are both tightest for the same two clocks are equal. So `TightestAlong` names at most one
+-- weight.
 use mathlib.Core.Path.{_≡_, refl, ap}
 use mathlib.Core.Logic.{_⊎_, inl, inr}
 use mathlib.Core.List.{List}
@@ -56,7 +57,8 @@ module _ (s : Sheet) (route : List ℕ) (v : List ℤ) (i j : ℕ) where
   none-not-< c a b = let (r, h) = a c in let k = b .0 r in omega zs
 
   -- a number that is reached is no more than one that all runs meet
-  reached-≤ : (c d : ℤ) → TightestAlong s route v i j (limit false c) → TightestAlong s route v i j (limit false d) → (c ≤ℤ d) ⊎ (d <ℤ c) → c ≤ℤ d
+  reached-≤ : (c d : ℤ) → TightestAlong s route v i j (limit false c) → TightestAlong s route v i j (limit false d) → (c ≤ℤ d) ⊎ (d <ℤ c)
+      → c ≤ℤ d
   reached-≤ c d a b (inl h) = h
   reached-≤ c d a b (inr h) =
       let (r, e) = a .1 in
@@ -65,7 +67,8 @@ module _ (s : Sheet) (route : List ℕ) (v : List ℤ) (i j : ℕ) where
       absurd (omega zs)
 
   -- a number that is reached is none that is only approached
-  reached-not-< : (c d : ℤ) → TightestAlong s route v i j (limit false c) → TightestAlong s route v i j (limit true d) → (d ≤ℤ c) ⊎ (c <ℤ d) → ⊥
+  reached-not-< : (c d : ℤ) → TightestAlong s route v i j (limit false c) → TightestAlong s route v i j (limit true d)
+      → (d ≤ℤ c) ⊎ (c <ℤ d) → ⊥
   reached-not-< c d a b (inl h) =
       let (r, e) = a .1 in
       let k = b .0 r in
@@ -76,7 +79,8 @@ module _ (s : Sheet) (route : List ℕ) (v : List ℤ) (i j : ℕ) where
       too-far (r .parts) c d (difference i j r) h (a .0 r) g
 
   -- a number that is approached is no more than another that is
-  near-≤ : (c d : ℤ) → TightestAlong s route v i j (limit true c) → TightestAlong s route v i j (limit true d) → (c ≤ℤ d) ⊎ (d <ℤ c) → c ≤ℤ d
+  near-≤ : (c d : ℤ) → TightestAlong s route v i j (limit true c) → TightestAlong s route v i j (limit true d) → (c ≤ℤ d) ⊎ (d <ℤ c)
+      → c ≤ℤ d
   near-≤ c d a b (inl h) = h
   near-≤ c d a b (inr h) =
       let (r, g) = a .1 1 (omega arith) in
@@ -88,10 +92,13 @@ module _ (s : Sheet) (route : List ℕ) (v : List ℤ) (i j : ℕ) where
   by-weights none (limit false d) h k = absurd (none-not-≤ d h k)
   by-weights (limit true c) none h k = absurd (none-not-< c k h)
   by-weights (limit false c) none h k = absurd (none-not-≤ c k h)
-  by-weights (limit true c) (limit true d) h k = ap (limit true) (≤ℤ-antisym (near-≤ c d h k (≤ℤ-total c d)) (near-≤ d c k h (≤ℤ-total d c)))
+  by-weights (limit true c) (limit true d) h k = ap (limit true)
+      (≤ℤ-antisym (near-≤ c d h k (≤ℤ-total c d)) (near-≤ d c k h (≤ℤ-total d c)))
   by-weights (limit true c) (limit false d) h k = absurd (reached-not-< d c k h (≤ℤ-total c d))
   by-weights (limit false c) (limit true d) h k = absurd (reached-not-< c d h k (≤ℤ-total d c))
-  by-weights (limit false c) (limit false d) h k = ap (limit false) (≤ℤ-antisym (reached-≤ c d h k (≤ℤ-total c d)) (reached-≤ d c k h (≤ℤ-total d c)))
+  by-weights (limit false c) (limit false d) h k = ap (limit false)
+      (≤ℤ-antisym (reached-≤ c d h k (≤ℤ-total c d)) (reached-≤ d c k h (≤ℤ-total d c)))
 
-pub tightest-unique : (s : Sheet) (route : List ℕ) (v : List ℤ) (i j : ℕ) (a b : Limit ℤ) → TightestAlong s route v i j a → TightestAlong s route v i j b → a ≡ b
+pub tightest-unique : (s : Sheet) (route : List ℕ) (v : List ℤ) (i j : ℕ) (a b : Limit ℤ) → TightestAlong s route v i j a
+    → TightestAlong s route v i j b → a ≡ b
 tightest-unique s route v i j a b h k = by-weights s route v i j a b h k

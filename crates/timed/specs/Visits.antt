@@ -1,5 +1,5 @@
--- Visits and counts of the steps along a route: a guard's visit is the number of moves made before it; there are as many moves as the route has
--- transitions, and one delay more.
+-- Visits and counts of the steps along a route: a guard's visit is the number of moves made before it; there are as many moves as the
+-- route has transitions, and one delay more.
 use mathlib.Core.Path.{_≡_, refl, ap, _∙_}
 use mathlib.Core.List.{List, [], _∷_, _++_, map}
 use Prim.Native.Nat.{ℕ, suc}

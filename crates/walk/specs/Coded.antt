@@ -1,5 +1,5 @@
--- The code's table of a matrix of weights: its entries up to index 4, as the code's records. And that of an outcome, void being `voidTable`.
--- The laws that read it. CodedSteps and CodedWalk say with these that Tables is Walk.
+-- The code's table of a matrix of weights: its entries up to index 4, as the code's records. And that of an outcome, void being
+-- `voidTable`. The laws that read it. CodedSteps and CodedWalk say with these that Tables is Walk.
 use mathlib.Core.Path.{_≡_, refl, ap, _∙_}
 use mathlib.Core.List.{List, [], _∷_}
 use mathlib.Core.Bool.{Bool, true, false, cond}

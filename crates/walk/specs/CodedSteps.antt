@@ -1,5 +1,5 @@
--- What the code does to the table of a matrix in a wait, under a guard and in a reset is what Walk does to the matrix, where there are at most four clocks
--- and no number is past 2 ^ 57. A void table stays as it is.
+-- What the code does to the table of a matrix in a wait, under a guard and in a reset is what Walk does to the matrix, where there are at
+-- most four clocks and no number is past 2 ^ 57. A void table stays as it is.
 use mathlib.Core.Path.{_≡_, refl, sym, ap, _∙_}
 use mathlib.Core.Logic.{inl, inr}
 use mathlib.Core.List.{List, [], _∷_}
@@ -11,16 +11,20 @@ use lib.IntN.{ℤ}
 use lib.ListN.{getD, set}
 use borrow.Author.Tests.{ltb-true, ltb-false, leb-true, eqb-true, eqb-false, le-ltb, eq-eqb, ne-eqb}
 use Rattle.dbm.specs.Matrix.{Matrix, delayed, resetAt, resetM, resetsM, limitedM, void, kept, guarded}
-use Rattle.dbm.specs.Entries.{up-to-4, cond-same, resetBit, bits-resets, inside-yes, limited-inside, limited-outside, delayed-none, delayed-zero, delayed-stays, delayed-outside, reset-outside}
+use Rattle.dbm.specs.Entries.{up-to-4, cond-same, resetBit, bits-resets, inside-yes, limited-inside, limited-outside, delayed-none}
+use Rattle.dbm.specs.Entries.{delayed-zero, delayed-stays, delayed-outside, reset-outside}
 use Rattle.dbm.specs.Guard.{way}
 use Rattle.dbm.specs.Size.{AtMost, Small}
 use Rattle.expr.specs.Limit.{Limit, none, sumW, tighterW, zeroW, saturated, atV}
 use Rattle.expr.specs.Three.{weightOf, limitOf}
 use Rattle.expr.specs.declared.weight.Weight.{Weight}
 use Rattle.sheet.specs.declared.Guard.{Guard}
-use Rattle.walk.specs.Tables.{zeroWeight, voidTable, rowOf, entryOf, sumC, tighterC, limitedEntry, limitedRow, limitedLine, limitedTable, guardedTable, delayedRow, delayedTable, resetEntry, resetRow, resetLine, resetTable, resetIf, resetsTable, guardTable, guardsTable}
+use Rattle.walk.specs.Tables.{zeroWeight, voidTable, rowOf, entryOf, sumC, tighterC, limitedEntry, limitedRow, limitedLine}
+use Rattle.walk.specs.Tables.{limitedTable, guardedTable, delayedRow, delayedTable, resetEntry, resetRow, resetLine, resetTable}
+use Rattle.walk.specs.Tables.{resetIf, resetsTable, guardTable, guardsTable}
 use Rattle.concrete.specs.Sizes.{loop-exact, way-exact}
-use Rattle.walk.specs.Coded.{row, table, coded, tighter-of, sum-of, cond-of, row-at, in-row, entry-at, table-not-void, row-of, table-of, row-same}
+use Rattle.walk.specs.Coded.{row, table, coded, tighter-of, sum-of, cond-of, row-at, in-row, entry-at, table-not-void, row-of}
+use Rattle.walk.specs.Coded.{table-of, row-same}
 
 -- ---- a wait
 module _ (w : ℕ) (m : Matrix (Limit ℤ)) where
@@ -54,11 +58,13 @@ module _ {w i j : ℕ} {m : Matrix (Limit ℤ)} {e : Limit ℤ} (four : w ≤ 4)
     (small : Small w (2 ^ 57) m) (few : AtMost 3001000 e) where
   -- the code's sums are exact here
   way-coded : (k l : ℕ) → k ≤ w → l ≤ w → sumC (sumC (weightOf (m k i)) (weightOf e)) (weightOf (m j l)) ≡ weightOf (way i j e m k l)
-  way-coded k l hk hl = ap (λ (a : Weight). sumC a (weightOf (m j l))) (sum-of (m k i) e) ∙ sum-of (sumW (saturated (m k i)) (saturated e)) (m j l)
+  way-coded k l hk hl = ap (λ (a : Weight). sumC a (weightOf (m j l))) (sum-of (m k i) e)
+      ∙ sum-of (sumW (saturated (m k i)) (saturated e)) (m j l)
       ∙ ap weightOf (way-exact small few i j k l hi hj hk hl)
 
   limited-entry : (k l : ℕ) → k ≤ w → l ≤ 4 → (b : Bool) → ltb w l ≡ b
-      → limitedEntry b (getD (row m k) l zeroWeight) (sumC (weightOf (m k i)) (weightOf e)) (getD (row m j) l zeroWeight) ≡ weightOf (limitedM w i j e m k l)
+      → limitedEntry b (getD (row m k) l zeroWeight) (sumC (weightOf (m k i)) (weightOf e)) (getD (row m j) l zeroWeight)
+      ≡ weightOf (limitedM w i j e m k l)
   unfolding limitedEntry
   limited-entry k l hk h4 true h = in-row m k l h4 ∙ ap weightOf (sym (limited-outside w i j e m k l (inr (ltb-true w l h))))
   limited-entry k l hk h4 false h =
@@ -71,10 +77,12 @@ module _ {w i j : ℕ} {m : Matrix (Limit ℤ)} {e : Limit ℤ} (four : w ≤ 4)
   unfolding limitedRow
   limited-row k h4 true h = row-same m (limitedM w i j e m) k (λ l. sym (limited-outside w i j e m k l (inl (ltb-true w k h))))
   limited-row k h4 false h = row-of (limitedM w i j e m) k (entry 0 (omega arith) false (le-ltb w 0 (omega arith)))
-      (entry 1 (omega arith) (ltb w 1) refl) (entry 2 (omega arith) (ltb w 2) refl) (entry 3 (omega arith) (ltb w 3) refl) (entry 4 (omega arith) (ltb w 4) refl)
+      (entry 1 (omega arith) (ltb w 1) refl) (entry 2 (omega arith) (ltb w 2) refl) (entry 3 (omega arith) (ltb w 3) refl)
+      (entry 4 (omega arith) (ltb w 4) refl)
     where
       entry : (l : ℕ) → l ≤ 4 → (b : Bool) → ltb w l ≡ b
-          → limitedEntry b (getD (row m k) l zeroWeight) (sumC (weightOf (m k i)) (weightOf e)) (getD (row m j) l zeroWeight) ≡ weightOf (limitedM w i j e m k l)
+          → limitedEntry b (getD (row m k) l zeroWeight) (sumC (weightOf (m k i)) (weightOf e)) (getD (row m j) l zeroWeight)
+          ≡ weightOf (limitedM w i j e m k l)
       entry l hl = limited-entry k l (ltb-false w k h) hl
 
   limited-line : (k : ℕ) → k ≤ 4 → limitedLine (table m) w k i j (weightOf e) ≡ row (limitedM w i j e m) k
@@ -87,7 +95,8 @@ module _ {w i j : ℕ} {m : Matrix (Limit ℤ)} {e : Limit ℤ} (four : w ≤ 4)
       (limited-line 3 (omega arith)) (limited-line 4 (omega arith))
 
   loop-coded : tighterC (sumC (weightOf e) (entryOf (table m) j i)) zeroWeight ≡ tighterW (sumW e (m j i)) zeroW
-  loop-coded = rw (entry-at m j i (omega arith) (omega arith)) (rw (sum-of e (m j i)) (rw (loop-exact small few i j hi hj) (tighter-of (sumW e (m j i)) zeroW)))
+  loop-coded = rw (entry-at m j i (omega arith) (omega arith))
+      (rw (sum-of e (m j i)) (rw (loop-exact small few i j hi hj) (tighter-of (sumW e (m j i)) zeroW)))
 
   by-tests : (t u : Bool) → cond t voidTable (cond u (limitedTable (table m) w i j (weightOf e)) (table m))
       ≡ coded (cond t void (kept (cond u (limitedM w i j e m) m)))
@@ -99,7 +108,8 @@ module _ {w i j : ℕ} {m : Matrix (Limit ℤ)} {e : Limit ℤ} (four : w ≤ 4)
   pub guarded-coded : m 0 0 ≡ zeroW → guardedTable (table m) w i j (weightOf e) ≡ coded (guarded w i j e m)
   unfolding guardedTable guarded
   guarded-coded z = rw (le-ltb 4 i (omega arith), le-ltb 4 j (omega arith)) (rw (table-not-void m z) (rw loop-coded
-      (rw (entry-at m i j (omega arith) (omega arith)) (rw (tighter-of e (m i j)) (by-tests (tighterW (sumW e (m j i)) zeroW) (tighterW e (m i j)))))))
+      (rw (entry-at m i j (omega arith) (omega arith))
+      (rw (tighter-of e (m i j)) (by-tests (tighterW (sumW e (m j i)) zeroW) (tighterW e (m i j)))))))
 
 pub guarded-void : (w i j : ℕ) (e : Weight) → guardedTable voidTable w i j e ≡ voidTable
 unfolding guardedTable
@@ -164,7 +174,8 @@ module _ {w r : ℕ} (m : Matrix (Limit ℤ)) (four : w ≤ 4) (hr : r ≤ w) wh
   unfolding resetRow
   reset-row k true c h e = row-same m (resetM w r m) k (λ l. sym (reset-outside w r m k l (inl (ltb-true w k h))))
   reset-row k false true h e = row-of (resetM w r m) k (entry 0 (omega arith) false (le-ltb w 0 (omega arith)))
-      (entry 1 (omega arith) (ltb w 1) refl) (entry 2 (omega arith) (ltb w 2) refl) (entry 3 (omega arith) (ltb w 3) refl) (entry 4 (omega arith) (ltb w 4) refl)
+      (entry 1 (omega arith) (ltb w 1) refl) (entry 2 (omega arith) (ltb w 2) refl) (entry 3 (omega arith) (ltb w 3) refl)
+      (entry 4 (omega arith) (ltb w 4) refl)
     where
       entry : (l : ℕ) → l ≤ 4 → (b : Bool) → ltb w l ≡ b
           → resetEntry b (eqb r l) (getD (row m k) l zeroWeight) (getD (row m 0) l zeroWeight) ≡ weightOf (resetM w r m k l)
@@ -188,7 +199,8 @@ reset-if : (w r bit : ℕ) (m : Matrix (Limit ℤ)) → w ≤ 4 → resetIf (tab
 unfolding resetIf
 reset-if w r bit m four = by (eqb bit 1) (leb r w) refl
   where
-    by : (b c : Bool) → leb r w ≡ c → cond b (cond c (resetTable (table m) w r) (table m)) (table m) ≡ table (cond b (cond c (resetM w r m) m) m)
+    by : (b c : Bool) → leb r w ≡ c
+        → cond b (cond c (resetTable (table m) w r) (table m)) (table m) ≡ table (cond b (cond c (resetM w r m) m) m)
     by true true h = reset-coded m four (leb-true r w h)
     by true false h = refl
     by false c h = refl

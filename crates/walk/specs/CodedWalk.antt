@@ -1,4 +1,5 @@
--- What the code does step by step (Tables) is Sweep of Walk, for every accepted sheet and all parameters from -1,000 to 1,000: `sweep-coded`.
+-- What the code does step by step (Tables) is Sweep of Walk, for every accepted sheet and all parameters from -1,000 to 1,000:
+-- `sweep-coded`.
 use mathlib.Core.Path.{_≡_, refl, sym, ap, _∙_}
 use mathlib.Core.List.{List, [], _∷_, _++_, map}
 use Prim.Native.Nat.{ℕ, suc, _+_, _^_, _≤_, _<_}
@@ -15,7 +16,8 @@ use Rattle.timed.specs.Automaton.{invariants, guardsOf, transitionAt, routeOf}
 use Rattle.timed.specs.Indexed.{locationC, transitionC, location-in, transition-in}
 use Rattle.timed.specs.Right.{AllOf, StepRight, filled-all, steps-right, route-delays}
 use Rattle.timed.specs.Steps.{Step, delay, guard, resets, staySteps, moveSteps, stepsFrom, stepsOf, delays}
-use Rattle.walk.specs.Tables.{Table, startTable, voidTable, guardedTable, delayedTable, guardTable, guardsTable, resetsTable, stayTable, moveTable, walkTable, sweepTable}
+use Rattle.walk.specs.Tables.{Table, startTable, voidTable, guardedTable, delayedTable, guardTable, guardsTable, resetsTable}
+use Rattle.walk.specs.Tables.{stayTable, moveTable, walkTable, sweepTable}
 use Rattle.concrete.specs.Walk.{andThen, step, walk, sweepAlong, sweepAt}
 use Rattle.concrete.specs.Sizes.{Thousands, Visited, guard-size, start-visited, after, after-delays, step-visited, visited-within}
 use Rattle.walk.specs.Coded.{row, table, coded}
@@ -81,12 +83,14 @@ guards-are w v visit [] m = refl
 guards-are w v visit (g ∷ gs) m = guards-are w v visit gs (guardTable m w v g)
 
 module _ {s : Sheet} (f : WellFormed s) (v : List ℤ) where
-  stay-is : (visit l : ℕ) → l < s .locations → (m : Table) → stayTable m (s .clocks) v (locationC s l) ≡ stepsTable (s .clocks) v (staySteps s visit l) m
+  stay-is : (visit l : ℕ) → l < s .locations → (m : Table)
+      → stayTable m (s .clocks) v (locationC s l) ≡ stepsTable (s .clocks) v (staySteps s visit l) m
   unfolding stayTable staySteps stepsTable stepTable invariants
   stay-is visit l hl m =
       rw (location-in s l (omega (arith, f .location .few))) (guards-are (s .clocks) v visit (invariants s l) (delayedTable m (s .clocks)))
 
-  move-is : (visit n : ℕ) → n < s .transitions → (m : Table) → moveTable m (s .clocks) v (transitionC s n) ≡ stepsTable (s .clocks) v (moveSteps s visit n) m
+  move-is : (visit n : ℕ) → n < s .transitions → (m : Table)
+      → moveTable m (s .clocks) v (transitionC s n) ≡ stepsTable (s .clocks) v (moveSteps s visit n) m
   unfolding moveTable moveSteps stepsTable stepTable guardsOf
   move-is visit n hn m =
       let bits = transitionAt s n .resets in
@@ -106,7 +110,8 @@ module _ {s : Sheet} (f : WellFormed s) (v : List ℤ) where
       (ap (λ (t : Transition). t .to) (transition-in s n (omega (arith, f .transition .few))))
       ∙ ap (λ (t : Table). walkTable s v to ns (moveTable t w v (transitionC s n))) (stay-is visit l hl m)
       ∙ ap (walkTable s v to ns) (move-is visit n hn (stepsTable w v (staySteps s visit l) m))
-      ∙ walk-is ns r (suc visit) to (f .transition .each n hn .to) (stepsTable w v (moveSteps s visit n) (stepsTable w v (staySteps s visit l) m))
+      ∙ walk-is ns r (suc visit) to (f .transition .each n hn .to)
+      (stepsTable w v (moveSteps s visit n) (stepsTable w v (staySteps s visit l) m))
       ∙ sym (steps-append w v (moveSteps s visit n) rest (stepsTable w v (staySteps s visit l) m))
       ∙ sym (steps-append w v (staySteps s visit l) (moveSteps s visit n ++ rest) m)
 
@@ -120,4 +125,5 @@ unfolding sweepTable sweepAt sweepAlong stepsOf routeOf
 sweep-coded s f v h =
     walk-is f v (routeOf s) (filled-all (f .route)) 0 0 (omega (arith, f .some-location)) startTable
     ∙ ap (stepsTable (s .clocks) v (stepsOf s (routeOf s))) (sym start-table)
-    ∙ steps-coded (s .parameters) (f .clocks) v h (stepsOf s (routeOf s)) (steps-right f (routeOf s)) 0 (omega (arith, route-delays f)) start (start-visited (s .clocks))
+    ∙ steps-coded (s .parameters) (f .clocks) v h (stepsOf s (routeOf s)) (steps-right f (routeOf s)) 0
+    (omega (arith, route-delays f)) start (start-visited (s .clocks))

@@ -6,7 +6,8 @@ use Prim.Native.Nat.{ℕ, zero, suc, _+_, _-_, _/_, _%_, _^_, _≤_, _<_}
 use native.Mathlib.Omega.{arith}
 use lib.Dec.{eqb, ltb, leb}
 use lib.ListN.{length, replicate, length-take}
-use Rattle.cutting.specs.Cutting.{Bounds, startB, startZone, Listing, listed, refused, onBounds, stepZones, andThen, cutSteps, zonesAlong, zonesOf}
+use Rattle.cutting.specs.Cutting.{Bounds, startB, startZone, Listing, listed, refused, onBounds, stepZones, andThen, cutSteps, zonesAlong}
+use Rattle.cutting.specs.Cutting.{zonesOf}
 use Rattle.cutting.specs.Cutting as cutting
 use Rattle.cutting.specs.Listings.{on-length}
 use Rattle.dbm.specs.Entries.{up-to-4, resetBit, bits-resets}
@@ -30,7 +31,8 @@ use Rattle.zones.specs.CodedGuard.{NarrowZone, Sound, guard-sound, guard
 use Rattle.zones.specs.CodedTests.{NarrowB, NarrowM, zero-narrow}
 use Rattle.zones.specs.Guarded.{guardedC}
 use Rattle.zones.specs.Listed.{blankZone}
-use Rattle.zones.specs.Walked.{delayedB, resetPair, resetB, resetIfB, resetsB, onFirst, delayedZone, resetsZone, delayedAll, resetsAll, atVisit, guardsAll, stayAll, moveAll, walkAll, startAll, zonesAll}
+use Rattle.zones.specs.Walked.{delayedB, resetPair, resetB, resetIfB, resetsB, onFirst, delayedZone, resetsZone, delayedAll}
+use Rattle.zones.specs.Walked.{resetsAll, atVisit, guardsAll, stayAll, moveAll, walkAll, startAll, zonesAll}
 use Rattle.zones.specs.declared.zone.Zone.{Zone}
 use Rattle.zones.specs.declared.zone.Zones.{Zones}
 
@@ -74,7 +76,8 @@ reset-if : (w r bit : ℕ) (m : Bounds) → Resets m r w → resetIfB w r bit (b
 unfolding resetIfB
 reset-if w r bit m h = by (eqb bit 1)
   where
-    by : (b : Bool) → cond b (cond (ltb w r) (boundsOf m) (resetB w r (boundsOf m))) (boundsOf m) ≡ boundsOf (cond b (cond (leb r w) (resetM w r m) m) m)
+    by : (b : Bool) → cond b (cond (ltb w r) (boundsOf m) (resetB w r (boundsOf m))) (boundsOf m)
+        ≡ boundsOf (cond b (cond (leb r w) (resetM w r m) m) m)
     by true = h
     by false = refl
 
@@ -85,8 +88,10 @@ resets-coded w bits m four =
     let m₂ = resetBit w 2 (bits / 2 % 2) m₁ in
     let m₃ = resetBit w 3 (bits / 4 % 2) m₂ in
     rw (← bits-resets bits m w four)
-    (ap (λ (l : List Bound). resetIfB w 4 (bits / 8 % 2) (resetIfB w 3 (bits / 4 % 2) (resetIfB w 2 (bits / 2 % 2) l))) (reset-if w 1 (bits % 2) m (reset-1 m w four))
-    ∙ ap (λ (l : List Bound). resetIfB w 4 (bits / 8 % 2) (resetIfB w 3 (bits / 4 % 2) l)) (reset-if w 2 (bits / 2 % 2) m₁ (reset-2 m₁ w four))
+    (ap (λ (l : List Bound). resetIfB w 4 (bits / 8 % 2) (resetIfB w 3 (bits / 4 % 2) (resetIfB w 2 (bits / 2 % 2) l)))
+    (reset-if w 1 (bits % 2) m (reset-1 m w four))
+    ∙ ap (λ (l : List Bound). resetIfB w 4 (bits / 8 % 2) (resetIfB w 3 (bits / 4 % 2) l))
+    (reset-if w 2 (bits / 2 % 2) m₁ (reset-2 m₁ w four))
     ∙ ap (λ (l : List Bound). resetIfB w 4 (bits / 8 % 2) l) (reset-if w 3 (bits / 4 % 2) m₂ (reset-3 m₂ w four))
     ∙ reset-if w 4 (bits / 8 % 2) m₃ (reset-4 m₃ w four))
 
@@ -98,7 +103,10 @@ resetAt-narrow m false false i j n = n .entry i j
 
 reset-narrow : (w r : ℕ) (m : Bounds) → NarrowM m → NarrowM (resetM w r m)
 unfolding resetM
-reset-narrow w r m n = record { entry = λ i j. cond-narrow (inside w i j) (resetAt m (eqb i r) (eqb j r) i j) (m i j) (resetAt-narrow m (eqb i r) (eqb j r) i j n) (n .entry i j) }
+reset-narrow w r m n = record {
+  entry = λ i j. cond-narrow (inside w i j) (resetAt m (eqb i r) (eqb j r) i j) (m i j)
+      (resetAt-narrow m (eqb i r) (eqb j r) i j n) (n .entry i j);
+}
 
 resets-narrow : (w bits k : ℕ) (m : Bounds) → NarrowM m → NarrowM (resetsM w bits k m)
 unfolding resetsM
@@ -111,7 +119,8 @@ resets-narrow w bits (suc k) m n = by (eqb (bits / 2 ^ k % 2) 1) (resets-narrow 
 
 -- ---- a step on every zone's matrix
 module _ (f : Zone → Zone) (h : Bounds → Bounds) where
-  on-first : ((z : cutting.Zone) → f (zoneOf z) ≡ zoneOf (record { ineqs = z .ineqs; bounds = h (z .bounds) })) → (zs : List cutting.Zone) (rest : List Zone)
+  on-first : ((z : cutting.Zone) → f (zoneOf z) ≡ zoneOf (record { ineqs = z .ineqs; bounds = h (z .bounds) }))
+      → (zs : List cutting.Zone) (rest : List Zone)
       → onFirst f (length zs) (map zoneOf zs ++ rest) ≡ map zoneOf (onBounds h zs) ++ rest
   unfolding onFirst onBounds
   on-first e [] rest = refl
@@ -122,12 +131,20 @@ module _ (f : Zone → Zone) (h : Bounds → Bounds) where
   on-narrow e [] a = tt
   on-narrow e (z ∷ zs) a = (record { bounds = e (z .bounds) (a .0 .bounds) }, on-narrow e zs (a .1))
 
-  on-list : ((z : cutting.Zone) → f (zoneOf z) ≡ zoneOf (record { ineqs = z .ineqs; bounds = h (z .bounds) })) → (visit : ℕ) (zs : List cutting.Zone)
-      → record { refusal = 0; visit = visit; count = length zs; list = onFirst f (length zs) (zonesIn zs) } ≡ coded visit (listed (onBounds h zs))
+  on-list : ((z : cutting.Zone) → f (zoneOf z) ≡ zoneOf (record { ineqs = z .ineqs; bounds = h (z .bounds) }))
+      → (visit : ℕ) (zs : List cutting.Zone)
+      → record { refusal = 0; visit = visit; count = length zs; list = onFirst f (length zs) (zonesIn zs) }
+      ≡ coded visit (listed (onBounds h zs))
   unfolding coded zonesIn
   on-list e visit zs =
-      ap (λ (l : List Zone). record { refusal = 0; visit = visit; count = length zs; list = l }) (on-first e zs (replicate (32 - length zs) blankZone))
-      ∙ ap (λ (k : ℕ). record { refusal = 0; visit = visit; count = k; list = map zoneOf (onBounds h zs) ++ replicate (32 - k) blankZone }) (sym (on-length h zs))
+      ap (λ (l : List Zone). record { refusal = 0; visit = visit; count = length zs; list = l })
+      (on-first e zs (replicate (32 - length zs) blankZone))
+      ∙ ap (λ (k : ℕ). record {
+        refusal = 0;
+        visit = visit;
+        count = k;
+        list = map zoneOf (onBounds h zs) ++ replicate (32 - k) blankZone;
+      }) (sym (on-length h zs))
 
 -- the step after a listing
 abbrev steps : (Bounds → Bounds) → Listing → Listing
@@ -245,7 +262,8 @@ module _ (b : Ranges) (w k : ℕ) (rest : List Step) where
   guards-then (g ∷ gs) zs = guards-then gs (guardedC b w g zs)
 
   ends-then : (bits : ℕ) (gs : List Guard) (zs : Zones)
-      → stepsAll b w (suc k) rest (atVisit (suc k) (resetsAll w bits (guardsAll b w gs zs))) ≡ stepsAll b w k ((map (guard k) gs ++ (resets bits ∷ [])) ++ rest) zs
+      → stepsAll b w (suc k) rest (atVisit (suc k) (resetsAll w bits (guardsAll b w gs zs)))
+      ≡ stepsAll b w k ((map (guard k) gs ++ (resets bits ∷ [])) ++ rest) zs
   unfolding guardsAll stepsAll stepAll
   ends-then bits [] zs = refl
   ends-then bits (g ∷ gs) zs = ends-then bits gs (guardedC b w g zs)
@@ -265,18 +283,22 @@ module _ {s : Sheet} (f : WellFormed s) where
   last-is : (k l : ℕ) → l < s .locations → (zs : Zones) → stays l zs ≡ goes k (staySteps s k l) zs
   unfolding stayAll staySteps stepsAll stepAll invariants
   last-is k l hl zs =
-      rw (location-in s l (omega (arith, f .location .few))) (guards-last (s .ranges) (s .clocks) k (invariants s l) (delayedAll (s .clocks) zs))
+      rw (location-in s l (omega (arith, f .location .few)))
+      (guards-last (s .ranges) (s .clocks) k (invariants s l) (delayedAll (s .clocks) zs))
 
-  stay-then : (k l : ℕ) (rest : List Step) → l < s .locations → (zs : Zones) → goes k rest (stays l zs) ≡ goes k (staySteps s k l ++ rest) zs
+  stay-then : (k l : ℕ) (rest : List Step) → l < s .locations → (zs : Zones)
+      → goes k rest (stays l zs) ≡ goes k (staySteps s k l ++ rest) zs
   unfolding stayAll staySteps stepsAll stepAll invariants
   stay-then k l rest hl zs =
-      rw (location-in s l (omega (arith, f .location .few))) (guards-then (s .ranges) (s .clocks) k rest (invariants s l) (delayedAll (s .clocks) zs))
+      rw (location-in s l (omega (arith, f .location .few)))
+      (guards-then (s .ranges) (s .clocks) k rest (invariants s l) (delayedAll (s .clocks) zs))
 
   move-then : (k n : ℕ) (rest : List Step) → n < s .transitions → (zs : Zones)
       → goes (suc k) rest (moveAll (s .ranges) (s .clocks) k (transitionC s n) zs) ≡ goes k (moveSteps s k n ++ rest) zs
   unfolding moveAll moveSteps guardsOf
   move-then k n rest hn zs =
-      rw (transition-in s n (omega (arith, f .transition .few))) (ends-then (s .ranges) (s .clocks) k rest (transitionAt s n .resets) (guardsOf s n) zs)
+      rw (transition-in s n (omega (arith, f .transition .few)))
+      (ends-then (s .ranges) (s .clocks) k rest (transitionAt s n .resets) (guardsOf s n) zs)
 
   walk-is : (ns : List ℕ) → AllOf (λ n. n < s .transitions) ns → (k l : ℕ) → l < s .locations → (zs : Zones)
       → walkAll s k l ns zs ≡ goes k (stepsFrom s k l ns) zs
@@ -314,6 +336,7 @@ zones-coded s f =
     let steps = stepsOf s (routeOf s) in
     walk-is f (routeOf s) (filled-all (f .route)) 0 0 (omega (arith, f .some-location)) startAll
     ∙ ap (stepsAll (s .ranges) (s .clocks) 0 steps) start-coded
-    ∙ all-coded (s .parameters) (s .ranges) (f .clocks) steps 0 (steps-visits s (routeOf s)) (steps-right f (routeOf s)) (listed (startZone ∷ []))
+    ∙ all-coded (s .parameters) (s .ranges) (f .clocks) steps 0 (steps-visits s (routeOf s)) (steps-right f (routeOf s))
+    (listed (startZone ∷ []))
     (record { bounds = start-narrow }, tt)
     ∙ ap (λ (k : ℕ). coded k (zonesOf s)) (ap (λ (k : ℕ). 0 + k) (steps-moves s (routeOf s)) ∙ route-length f)

@@ -60,10 +60,20 @@ abbrev pub resetsZone : ℕ → ℕ → Zone → Zone
 resetsZone w bits z = withBounds z (resetsB w bits (z .bounds))
 
 unfoldable pub delayedAll : ℕ → Zones → Zones
-delayedAll w zs = record { refusal = zs .refusal; visit = zs .visit; count = zs .count; list = onFirst (delayedZone w) (zs .count) (zs .list) }
+delayedAll w zs = record {
+  refusal = zs .refusal;
+  visit = zs .visit;
+  count = zs .count;
+  list = onFirst (delayedZone w) (zs .count) (zs .list);
+}
 
 unfoldable pub resetsAll : ℕ → ℕ → Zones → Zones
-resetsAll w bits zs = record { refusal = zs .refusal; visit = zs .visit; count = zs .count; list = onFirst (resetsZone w bits) (zs .count) (zs .list) }
+resetsAll w bits zs = record {
+  refusal = zs .refusal;
+  visit = zs .visit;
+  count = zs .count;
+  list = onFirst (resetsZone w bits) (zs .count) (zs .list);
+}
 
 -- the visit, unless it was refused before
 unfoldable pub atVisit : ℕ → Zones → Zones
@@ -96,7 +106,8 @@ startAll =
       refusal = 0;
       visit = 0;
       count = 1;
-      list = set (replicate 32 blankZone) 0 (record { used = true; count = 0; ineqs = replicate 24 zeroExpr; bounds = replicate 25 zeroBound });
+      list = set (replicate 32 blankZone) 0
+          (record { used = true; count = 0; ineqs = replicate 24 zeroExpr; bounds = replicate 25 zeroBound });
     }
 
 -- the whole route
