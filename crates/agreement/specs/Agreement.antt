@@ -35,8 +35,8 @@ use Rattle.sweep.specs.declared.reply.Reply.{Reply}
 use Rattle.timed.specs.Runs.{Run, Tightest}
 use Rattle.agreement.specs.Lent.{Lists, pieceAt, Behind, lists-behind, noZone, member, place-of, pieces-are, piece-is}
 use Rattle.windows.specs.declared.reply.Counts.{Counts}
-use Rattle.zones.specs.CodedRead.{holds-coded, entry-coded}
-use Rattle.zones.specs.Rules.{entryC}
+use Rattle.coded.specs.CodedRead.{holds-coded, entry-coded}
+use Rattle.constrain.specs.Rules.{entryC}
 use Rattle.zones.specs.declared.zone.Zone.{Zone}
 
 -- ---- the words of the statement

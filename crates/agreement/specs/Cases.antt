@@ -25,7 +25,7 @@ use Rattle.agreement.specs.Agreement.{sheetOf, IsRun, IsVoid}
 use Rattle.agreement.specs.Bytes.{minus, range, constant, withP, withPQ, atMost, under, standing, moving}
 use Rattle.agreement.specs.Lent.{Lists, table, pieceAt}
 use Rattle.windows.specs.declared.reply.Counts.{Counts}
-use Rattle.zones.specs.Rules.{entryC}
+use Rattle.constrain.specs.Rules.{entryC}
 use Rattle.zones.specs.declared.zone.Zone.{Zone}
 
 -- ---- a row

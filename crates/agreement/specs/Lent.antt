@@ -22,8 +22,8 @@ use Rattle.sheet.specs.File.{readOf}
 use Rattle.windows.specs.Reply.{blankWork, listingWork, sheetWork, readingWork, workOf, itemOf, itemsOf}
 use Rattle.windows.specs.declared.reply.Answer.the-variants as answer
 use Rattle.windows.specs.declared.reply.Counts.{Counts}
-use Rattle.zones.specs.Coded.{zoneOf, zonesIn}
-use Rattle.zones.specs.Listed.{pick, blankZone}
+use Rattle.coded.specs.Coded.{zoneOf, zonesIn}
+use Rattle.zones.specs.Zone.{pick, blankZone}
 use Rattle.zones.specs.declared.zone.Zone.{Zone}
 
 -- Windows lists its zones: with a table of n places it does not refuse the file

@@ -23,9 +23,9 @@ use Rattle.windows.specs.Reply.{blankWork, listingWork, sheetWork, readingWork,
 use Rattle.agreement.specs.Lent.{Lists, table, pieceAt, Behind, lists-behind, noZone, member, items-length, items-at, in-list, blanks, past-list, pieces-are, few-pieces, piece-is, past-pieces}
 use Rattle.windows.specs.declared.reply.Answer.the-variants as answer
 use Rattle.windows.specs.declared.reply.Counts.{Counts}
-use Rattle.zones.specs.Coded.{zoneOf, entry-at}
-use Rattle.zones.specs.Listed.{pick, zeroExpr, zeroBound, blankZone}
-use Rattle.zones.specs.Rules.{entryC}
+use Rattle.coded.specs.Coded.{zoneOf, entry-at}
+use Rattle.zones.specs.Zone.{pick, zeroExpr, zeroBound, blankZone}
+use Rattle.constrain.specs.Rules.{entryC}
 use Rattle.zones.specs.declared.zone.Zone.{Zone}
 
 -- ---- the statements

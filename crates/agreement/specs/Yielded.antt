@@ -39,7 +39,7 @@ use Rattle.agreement.specs.Agreement as agreement
 use Rattle.agreement.specs.Cases.{SheetRow, IntervalRow, countsIn, SheetYields, IntervalYields, at, rowA, rowStrict, rowPQ, rowQP, rowFree, rowNone, rowBack, rowDown, rowUp, rowTouch, rowApart, rowNever, ListedCases}
 use Rattle.windows.specs.Reply.{blankWork, listingWork, sheetWork, readingWork, workOf, itemOf, itemsOf}
 use Rattle.agreement.specs.Lent.{Lists, lists-behind}
-use Rattle.zones.specs.Coded.{rowOf, boundsOf, zoneOf, zonesIn}
+use Rattle.coded.specs.Coded.{rowOf, boundsOf, zoneOf, zonesIn}
 
 -- ---- from Sweep's answer to runs
 some-run : (s : Sheet) (v : List ℤ) (i j : ℕ) (b : Limit ℤ) → Tightest s v i j b → Run s v

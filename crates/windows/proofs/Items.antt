@@ -4,7 +4,7 @@ use mathlib.Core.Path.{_≡_, refl, sym, _∙_, ap, subst}
 use Prim.Native.Nat.{ℕ, zero, suc, _+_, _≤_, _<_}
 use native.Mathlib.Nat.{not-suc-le-zero, le-of-suc-le-suc, le-refl, add-zero, add-suc, le-of-lt}
 use lib.ListN.{length, getD, set, drop, length-append, length-set, drop-of-length-le}
-use Rattle.zones.specs.Listed.{blankZone}
+use Rattle.zones.specs.Zone.{blankZone}
 use Rattle.zones.specs.declared.zone.Zone.{Zone}
 use Rattle.windows.specs.declared.reply.Worked.{Worked}
 use Rattle.windows.specs.Reply.{itemOf, itemsOf}

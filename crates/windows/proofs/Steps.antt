@@ -34,10 +34,10 @@ use Rattle.windows.specs.Work.{listedC}
 use Rattle.windows.specs.declared.reply.Answer.{Answer}
 use Rattle.windows.specs.declared.reply.Answer.the-variants as answer
 use Rattle.windows.specs.declared.reply.Worked.{Worked}
-use Rattle.zones.specs.CodedRead.{keptC}
-use Rattle.zones.specs.Guarded.{guardedC}
-use Rattle.zones.specs.Listed.{pick, zeroBound}
-use Rattle.zones.specs.Walked.{noneIf, resetPair, resetB, resetIfB, onFirst, atVisit, stayAll, moveAll, walkAll, startAll, zonesAll}
+use Rattle.coded.specs.CodedRead.{keptC}
+use Rattle.split.specs.Guarded.{guardedC}
+use Rattle.zones.specs.Zone.{pick, zeroBound}
+use Rattle.coded.specs.Walked.{noneIf, resetPair, resetB, resetIfB, onFirst, atVisit, stayAll, moveAll, walkAll, startAll, zonesAll}
 use Rattle.zones.specs.declared.zone.Zone.{Zone}
 use Rattle.zones.specs.declared.zone.Zones.{Zones}
 

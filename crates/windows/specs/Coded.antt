@@ -28,11 +28,11 @@ use Rattle.windows.specs.Reply.{blankWork, refusedBy, listingWork, sheet
 use Rattle.windows.specs.Work.{listedC}
 use Rattle.windows.specs.declared.reply.Answer.the-variants as answer
 use Rattle.windows.specs.declared.reply.Worked.{Worked}
-use Rattle.zones.specs.Coded.{coded, zonesIn}
-use Rattle.zones.specs.CodedRead.{keptC, kept-in}
-use Rattle.zones.specs.CodedWalk.{zones-coded}
-use Rattle.zones.specs.Listed.{pick}
-use Rattle.zones.specs.Walked.{zonesAll}
+use Rattle.coded.specs.Coded.{coded, zonesIn}
+use Rattle.coded.specs.CodedRead.{keptC, kept-in}
+use Rattle.coded.specs.CodedWalk.{zones-coded}
+use Rattle.zones.specs.Zone.{pick}
+use Rattle.coded.specs.Walked.{zonesAll}
 use Rattle.zones.specs.declared.zone.Zones.{Zones}
 
 -- ---- counts

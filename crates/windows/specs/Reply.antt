@@ -17,8 +17,8 @@ use Rattle.sheet.specs.File.{readOf}
 use Rattle.windows.specs.declared.reply.Answer.{Answer}
 use Rattle.windows.specs.declared.reply.Answer.the-variants as answer
 use Rattle.windows.specs.declared.reply.Worked.{Worked}
-use Rattle.zones.specs.Coded.{zonesIn}
-use Rattle.zones.specs.Listed.{pick, blankZone}
+use Rattle.coded.specs.Coded.{zonesIn}
+use Rattle.zones.specs.Zone.{pick, blankZone}
 use Rattle.zones.specs.declared.zone.Zone.{Zone}
 
 -- the paper's number of an answer: 0 where the zones are listed, else the refusal

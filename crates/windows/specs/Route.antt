@@ -8,8 +8,8 @@ use Rattle.sheet.specs.declared.Guard.{Guard}
 use Rattle.sheet.specs.declared.Location.{Location}
 use Rattle.sheet.specs.declared.Sheet.{Sheet}
 use Rattle.sheet.specs.declared.Transition.{Transition}
-use Rattle.zones.specs.Guarded.{guardedC}
-use Rattle.zones.specs.Walked.{delayedAll, resetsAll, atVisit, guardsAll, stayAll, moveAll}
+use Rattle.split.specs.Guarded.{guardedC}
+use Rattle.coded.specs.Walked.{delayedAll, resetsAll, atVisit, guardsAll, stayAll, moveAll}
 use Rattle.zones.specs.declared.zone.Zones.{Zones}
 
 unfoldable pub guardsFor : Ranges → ℕ → List Guard → Zones → Zones

@@ -9,8 +9,8 @@ use Rattle.expr.specs.declared.ranges.Ranges.{Ranges}
 use Rattle.windows.specs.Reply.{blankWork, refusedBy}
 use Rattle.windows.specs.declared.reply.Answer.the-variants as answer
 use Rattle.windows.specs.declared.reply.Worked.{Worked}
-use Rattle.zones.specs.CodedRead.{keptC}
-use Rattle.zones.specs.Listed.{pick}
+use Rattle.coded.specs.CodedRead.{keptC}
+use Rattle.zones.specs.Zone.{pick}
 use Rattle.zones.specs.declared.zone.Zones.{Zones}
 
 unfoldable pub listedC : Ranges → Zones → Worked

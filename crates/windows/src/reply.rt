@@ -13,7 +13,7 @@ ghost use Rattle.expr.specs.Three.{rangeList};
 ghost use Rattle.sheet.specs.WellFormed.{WellFormed};
 ghost use Rattle.windows.specs.Reply.{answerNumber, answerPlace, refusedBy, blankWork, sheetWork, workOf};
 ghost use Rattle.windows.specs.Work.{listedC};
-ghost use Rattle.zones.specs.CodedRead.{keptC};
+ghost use Rattle.coded.specs.CodedRead.{keptC};
 
 // How many zones (paper: pieces), and of the valuations (paper: settings) kept and cut.
 pub struct Counts {

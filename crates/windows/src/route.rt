@@ -14,7 +14,7 @@ ghost use Prim.Native.Nat.{min, suc, _<_};
 ghost use lib.ListN.{take};
 ghost use Rattle.sweep.specs.Tables.{at, locationC, transitionC};
 ghost use Rattle.windows.specs.Route.{guardsFor, stayFor, moveFor};
-ghost use Rattle.zones.specs.Walked.{delayedZone, resetsZone, delayedAll, resetsAll, atVisit, startAll, zonesAll};
+ghost use Rattle.coded.specs.Walked.{delayedZone, resetsZone, delayedAll, resetsAll, atVisit, startAll, zonesAll};
 
 // n, or most where n is more.
 pub(crate) fn at_most(n: usize, most: usize) -> usize
@@ -107,7 +107,7 @@ fn guards_of(b: Ranges, clocks: usize, zones: Zones, count: usize, guards: [Guar
     let mut i = 0;
     while i < n {
         let g = guards[i];
-        let next = zones::cut_by(b, clocks, g, now);
+        let next = split::cut_by(b, clocks, g, now);
         now = next;
         i += 1;
     }

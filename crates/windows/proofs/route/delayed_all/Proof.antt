@@ -4,7 +4,7 @@ use Rattle.windows.proofs.route.delayed_all.Tie as tie
 use borrow.Author.Needs.{needs}
 use Prim.Native.Nat.{ℕ, _-_}
 use lib.ListN.{length, length-map}
-use Rattle.zones.specs.Walked.{delayedZone, delayedAll}
+use Rattle.coded.specs.Walked.{delayedZone, delayedAll}
 use mathlib.Core.Path.{_≡_}
 use native.Mathlib.Omega.{arith}
 use Rattle.windows.proofs.Steps.{Changed, changed-starts, changed-long, changed-turn, changed-done}

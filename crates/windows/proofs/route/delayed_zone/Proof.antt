@@ -5,7 +5,7 @@ use Rattle.windows.proofs.route.delayed_zone.Tie as tie
 use mathlib.Core.Path.{ap}
 use Rattle.expr.specs.declared.bound.Bound.{Bound}
 use mathlib.Core.List.{List}
-use Rattle.zones.specs.Parts.{withBounds}
+use Rattle.parts.specs.Parts.{withBounds}
 
 delayed-requires : tie.Need-delayed-requires
 delayed-requires c κs = search needs

@@ -8,7 +8,7 @@ use Rattle.zones.specs.declared.zone.Zones.{Zones}
 use lib.ListN.{take}
 use Prim.Native.Nat.{ℕ, suc}
 use native.Mathlib.Numerals.{add-one}
-use Rattle.zones.specs.Walked.{atVisit, resetsAll}
+use Rattle.coded.specs.Walked.{atVisit, resetsAll}
 use Prim.Native.Nat.{_+_}
 
 guards-of-requires : tie.Need-guards-of-requires

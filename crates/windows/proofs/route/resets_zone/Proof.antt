@@ -5,7 +5,7 @@ use Rattle.windows.proofs.route.resets_zone.Tie as tie
 use mathlib.Core.Path.{ap}
 use Rattle.expr.specs.declared.bound.Bound.{Bound}
 use mathlib.Core.List.{List}
-use Rattle.zones.specs.Parts.{withBounds}
+use Rattle.parts.specs.Parts.{withBounds}
 
 resets-requires : tie.Need-resets-requires
 resets-requires c κs = search needs

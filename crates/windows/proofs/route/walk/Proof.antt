@@ -4,7 +4,7 @@ use Rattle.windows.proofs.route.walk.Tie as tie
 use Prim.Native.Nat.{ℕ, _≤_, _-_}
 use lib.ListN.{length, take, drop}
 use Rattle.sweep.specs.Tables.{transitionC}
-use Rattle.zones.specs.Walked.{walkAll, zonesAll}
+use Rattle.coded.specs.Walked.{walkAll, zonesAll}
 use Rattle.zones.specs.declared.zone.Zones.{Zones}
 use mathlib.Core.Path.{_≡_, refl, ap, _∙_}
 use native.Mathlib.Omega.{arith}

@@ -5,7 +5,7 @@ use Rattle.windows.proofs.table.item_at.Tie as tie
 use lib.ListN.{length, length-map, List·getD-eq-default}
 use mathlib.Core.Path.{_≡_, sym}
 use native.Mathlib.Omega.{arith}
-use Rattle.zones.specs.Listed.{blankZone}
+use Rattle.zones.specs.Zone.{blankZone}
 use Rattle.windows.specs.Reply.{itemOf}
 use Rattle.windows.proofs.Items.{any-default}
 

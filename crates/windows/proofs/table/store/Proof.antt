@@ -49,7 +49,7 @@ use denote.Triple.Table.{entered, cited}
 use denote.Triple.Walked.{says, Stays, stay-slice, stay-none, walkOf, AllGo, goes-slice, goes-none, Walks, ends-at, walked, walk-meets}
 use denote.Exit.{yes}
 use Rattle.zones.specs.declared.zone.Zone.{Zone}
-use Rattle.zones.specs.Listed.{blankZone}
+use Rattle.zones.specs.Zone.{blankZone}
 use Rattle.zones.proofs.zone.Zone as Z
 use Rattle.zones.proofs.zone.Zone.Laws as Z′
 use Rattle.windows.specs.Reply.{itemOf, itemsOf}
