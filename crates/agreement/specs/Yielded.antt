@@ -37,7 +37,7 @@ use Rattle.timed.specs.Runs.{invariants, guardsOf, routeOf, Run, Tightest}
 use Rattle.agreement.specs.Agreement.{sheetOf, IsRun, IsVoid, answered-inside}
 use Rattle.agreement.specs.Agreement as agreement
 use Rattle.agreement.specs.Cases.{SheetRow, IntervalRow, countsIn, SheetYields, IntervalYields, at, rowA, rowStrict, rowPQ, rowQP, rowFree, rowNone, rowBack, rowDown, rowUp, rowTouch, rowApart, rowNever, ListedCases}
-use Rattle.windows.specs.Reply.{blankWork, listingWork, sheetWork, readingWork, workOf, itemOf, itemsOf}
+use Rattle.windows.specs.Reply.{blankWork, listingWork, sheetWork, readingWork, workOf, tableOf}
 use Rattle.agreement.specs.Lent.{Lists, lists-behind}
 use Rattle.coded.specs.Coded.{rowOf, boundsOf, zoneOf, zonesIn}
 
@@ -76,7 +76,7 @@ bytes-of-A = refl
 
 -- ---- every row
 pub listed-cases : ListedCases
-unfolding startB summed tested putEntry rowFrom rowsFrom places pushed guardTree never listZone worked guardZones guardsZones onBounds resetBounds stayZones moveZones cutRoute zonesOf keptOf widths start delayed resetM limitedM guarded dot value plusL minusL plus minus lessOne opposite judge atV sumW marked sumB tighterW asked tighterB span width before valuations satisfies firstIn countIn first count p n sized entryField headOf oneOf firstOf twoOf secondOf threeOf thirdOf fourOf contentsOf shifted judged byteTaken wordTaken signedTaken byteField wordField signedField finished turns rangeOf highestRight highestField rangeAt parametersAt blankLocation blankLocations locationStep locationsRead locationsAt belowField resetsRight resetsField transitionAt blankTransition blankTransitions transitionStep transitionsRead transitionsAt routeStep routeRead routeAt blankSheet refusedBy bodiesOf judgedRoute judgedBodies readOf signedOf exprOf boundOf oneZero rightField coefficientField guardAt blankGuard blankGuards guardStep guardsAt endsAt linkStep linksOf row blankReply swept sheetReply readingReply replyOf sweepGuard guardSteps resetSteps stay move walk sweepAt invariants guardsOf routeOf blankWork listingWork sheetWork readingWork workOf itemOf itemsOf rowOf boundsOf zoneOf zonesIn
+unfolding startB summed tested putEntry rowFrom rowsFrom places pushed guardTree never listZone worked guardZones guardsZones onBounds resetBounds stayZones moveZones cutRoute zonesOf keptOf widths start delayed resetM limitedM guarded dot value plusL minusL plus minus lessOne opposite judge atV sumW marked sumB tighterW asked tighterB span width before valuations satisfies firstIn countIn first count p n sized entryField headOf oneOf firstOf twoOf secondOf threeOf thirdOf fourOf contentsOf shifted judged byteTaken wordTaken signedTaken byteField wordField signedField finished turns rangeOf highestRight highestField rangeAt parametersAt blankLocation blankLocations locationStep locationsRead locationsAt belowField resetsRight resetsField transitionAt blankTransition blankTransitions transitionStep transitionsRead transitionsAt routeStep routeRead routeAt blankSheet refusedBy bodiesOf judgedRoute judgedBodies readOf signedOf exprOf boundOf oneZero rightField coefficientField guardAt blankGuard blankGuards guardStep guardsAt endsAt linkStep linksOf row blankReply swept sheetReply readingReply replyOf sweepGuard guardSteps resetSteps stay move walk sweepAt invariants guardsOf routeOf blankWork listingWork sheetWork readingWork workOf tableOf rowOf boundsOf zoneOf zonesIn
 listed-cases = (a, (strict, (pq, (qp, (free, (empty, (back, (down, (up, (touch, (gap, (early, tt))))))))))))
   where
     a : SheetYields rowA

@@ -34,7 +34,6 @@ boundsOf m = rowOf m 0 ++ rowOf m 1 ++ rowOf m 2 ++ rowOf m 3 ++ rowOf m 4
 unfoldable pub zoneOf : cutting.Zone → Zone
 zoneOf z =
     record {
-      used = true;
       count = length (z .ineqs);
       ineqs = map exprOf (z .ineqs) ++ replicate (24 - length (z .ineqs)) zeroExpr;
       bounds = boundsOf (z .bounds);

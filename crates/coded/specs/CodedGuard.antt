@@ -58,8 +58,8 @@ never-coded b is m e =
 plus-coded : (is : List Affine) (m : Bounds) (e : Affine) → length is < 24 → plusC (zoneOf (with-ineqs is m)) (exprOf e) ≡ zoneOf (with-ineqs (is ++ (e ∷ [])) m)
 unfolding plusC zoneOf
 plus-coded is m e h =
-    ap (λ (l : List Expr). record { used = true; count = suc (length is); ineqs = l; bounds = boundsOf m }) (one-more exprOf zeroExpr 24 is e h)
-    ∙ ap (λ (k : ℕ). record { used = true; count = k; ineqs = map exprOf (is ++ (e ∷ [])) ++ replicate (24 - length (is ++ (e ∷ []))) zeroExpr; bounds = boundsOf m })
+    ap (λ (l : List Expr). record { count = suc (length is); ineqs = l; bounds = boundsOf m }) (one-more exprOf zeroExpr 24 is e h)
+    ∙ ap (λ (k : ℕ). record { count = k; ineqs = map exprOf (is ++ (e ∷ [])) ++ replicate (24 - length (is ++ (e ∷ []))) zeroExpr; bounds = boundsOf m })
     (sym (length-more is e))
 
 list-coded : (visit : ℕ) (z : cutting.Zone) (zs : List cutting.Zone) → listC (zoneOf z) (coded visit (listed zs)) ≡ coded visit (listZone visit z zs)

@@ -93,7 +93,7 @@ startAll =
       refusal = 0;
       visit = 0;
       count = 1;
-      list = set (replicate 32 blankZone) 0 (record { used = true; count = 0; ineqs = replicate 24 zeroExpr; bounds = replicate 25 zeroBound });
+      list = set (replicate 32 blankZone) 0 (record { count = 0; ineqs = replicate 24 zeroExpr; bounds = replicate 25 zeroBound });
     }
 
 -- the whole route

@@ -16,7 +16,7 @@ use Rattle.zones.specs.declared.settle.Verdict.{Verdict}
 use Rattle.zones.specs.declared.zone.Zone.{Zone}
 
 abbrev pub withBounds : Zone → List Bound → Zone
-withBounds z m = record { used = z .used; count = z .count; ineqs = z .ineqs; bounds = m }
+withBounds z m = record { count = z .count; ineqs = z .ineqs; bounds = m }
 
 abbrev pub standing : Part → ℕ → ℕ → Part
 standing p phase halt = record { phase = phase; halt = halt; test = p .test; zone = p .zone }

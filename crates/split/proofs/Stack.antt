@@ -24,7 +24,7 @@ use Rattle.zones.specs.declared.zone.Zones.{Zones}
 
 -- what is read past the stack's end
 abbrev pub noPart : Part
-noPart = record { phase = 0; halt = 0; test = zeroExpr; zone = record { used = false; count = 0; ineqs = []; bounds = [] } }
+noPart = record { phase = 0; halt = 0; test = zeroExpr; zone = record { count = 0; ineqs = []; bounds = [] } }
 
 -- the first n parts worked, from the top down
 unfoldable pub drained : Ranges → Rule → List Part → ℕ → Zones → Zones

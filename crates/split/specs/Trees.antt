@@ -63,7 +63,7 @@ workedC b (askT e f) z out =
 -- ---- the code's steps
 -- the zone before the first test
 abbrev pub startC : Zone → Part
-startC z = record { phase = 0; halt = 0; test = zeroExpr; zone = record { used = true; count = z .count; ineqs = z .ineqs; bounds = z .bounds } }
+startC z = record { phase = 0; halt = 0; test = zeroExpr; zone = z }
 
 -- what was listed, after a part that is cut (1), kept (2) or refused (8, 9); a split leaves it
 unfoldable pub endedC : Part → Zones → Zones

@@ -56,13 +56,11 @@ fn ended(out: Zones, p: Part) -> Zones
 fn start(zone: Zone) -> Part
     ensures { λ r. ⌜ r ≡ startC zone ⌝ }
 {
-    let mut own = zone;
-    own.used = true;
     Part {
         phase: 0,
         halt: 0,
         test: Expr::ZERO,
-        zone: own,
+        zone,
     }
 }
 

@@ -1,10 +1,11 @@
 -- What Windows replies, and what its table has then, for every file and every table (paper 01, "The lent table of pieces", "When no piece is
 -- given"): refusal 1, then 2 to 5, the whole file for each, then 7, 8 or 9, the first met in the order of cutting; else the zones in order, kept
 -- and cut. With a refusal the table is all blank.
-use mathlib.Core.List.{List, [], _∷_, _++_}
-use Prim.Native.Nat.{ℕ, zero, suc}
+use mathlib.Core.List.{List, _++_, map}
+use mathlib.Core.Bool.{true, false}
+use Prim.Native.Nat.{ℕ, _-_}
 use lib.Dec.{ltb, eqb}
-use lib.ListN.{length, getD, replicate}
+use lib.ListN.{length, replicate, take}
 use Rattle.cutting.specs.Counts.{keptOf, cutOf}
 use Rattle.cutting.specs.Cutting.{Listing, listed, refused, zonesOf}
 use Rattle.expr.specs.Three.{rangeList}
@@ -17,8 +18,9 @@ use Rattle.sheet.specs.File.{readOf}
 use Rattle.windows.specs.declared.reply.Answer.{Answer}
 use Rattle.windows.specs.declared.reply.Answer.the-variants as answer
 use Rattle.windows.specs.declared.reply.Worked.{Worked}
+use Rattle.windows.specs.declared.table.Piece.{Piece}
 use Rattle.coded.specs.Coded.{zonesIn}
-use Rattle.zones.specs.Zone.{pick, blankZone}
+use Rattle.zones.specs.Zone.{pick, zeroExpr, zeroBound, blankZone}
 use Rattle.zones.specs.declared.zone.Zone.{Zone}
 
 -- the paper's number of an answer: 0 where the zones are listed, else the refusal
@@ -45,13 +47,14 @@ refusedBy n visit = pick (eqb n 7) (answer.Zones visit) (pick (eqb n 8) (answer.
 
 -- an answer without zones
 unfoldable pub blankWork : Answer → Worked
-blankWork a = record { answer = a; zones = replicate 32 blankZone }
+blankWork a = record { answer = a; pieces = 0; zones = replicate 32 blankZone }
 
 -- the zones that the cutting lists, kept and cut; or its refusal
 unfoldable pub listingWork : Sheet → Listing → Worked
 listingWork s (listed zs) =
     record {
       answer = answer.Listed (record { pieces = length zs; kept = keptOf (rangeList (s .ranges)) zs; cut = cutOf (rangeList (s .ranges)) zs });
+      pieces = length zs;
       zones = zonesIn zs;
     }
 listingWork s (refused n visit) = blankWork (refusedBy n visit)
@@ -71,11 +74,14 @@ readingWork (Route at) s = blankWork (answer.Refused (Route at))
 unfoldable pub workOf : List ℕ → ℕ → Worked
 workOf file places = pick (ltb places 32) (blankWork answer.Small) (readingWork (readOf file .refusal) (readOf file .sheet))
 
--- the item at place i of the table: the zone worked out for it, or a blank one
-unfoldable pub itemOf : Worked → ℕ → Zone
-itemOf work i = getD (work .zones) i blankZone
+-- the piece of a zone
+abbrev pub pieceOf : Zone → Piece
+pieceOf z = record { used = true; count = z .count; ineqs = z .ineqs; bounds = z .bounds }
 
--- the items at the first n places
-unfoldable pub itemsOf : Worked → ℕ → List Zone
-itemsOf work zero = []
-itemsOf work (suc n) = itemsOf work n ++ (itemOf work n ∷ [])
+-- a place that is not used: no inequalities, all entries zero, not strict
+abbrev pub blankPiece : Piece
+blankPiece = record { used = false; count = 0; ineqs = replicate 24 zeroExpr; bounds = replicate 25 zeroBound }
+
+-- a table of n places then: the pieces in order, and the rest of it blank
+unfoldable pub tableOf : Worked → ℕ → List Piece
+tableOf work n = map pieceOf (take (work .pieces) (work .zones)) ++ replicate (n - work .pieces) blankPiece

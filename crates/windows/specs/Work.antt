@@ -22,5 +22,6 @@ listedC b zs =
         kept = keptC b (take (zs .count) (zs .list));
         cut = count (rangeList b) [] - keptC b (take (zs .count) (zs .list));
       });
+      pieces = zs .count;
       zones = zs .list;
     })

@@ -1,12 +1,11 @@
 // What Windows answers, and the zones by value.
-use crate::route;
 use expr::Ranges;
 use fields::Refusal;
 use sheet::Sheet;
 use zones::Zone;
 use zones::Zones;
 ghost use mathlib.Core.Path.{_≡_};
-ghost use Prim.Native.Nat.{_≤_, _-_};
+ghost use Prim.Native.Nat.{_≤_, _-_, min};
 ghost use lib.ListN.{take};
 ghost use Rattle.expr.specs.SearchLaws.{widths};
 ghost use Rattle.expr.specs.Three.{rangeList};
@@ -33,9 +32,10 @@ pub enum Answer {
     Numbers(usize),
 }
 
-// What is worked out: the answer, and the zones in order, blank past them.
+// What is worked out: the answer, how many pieces, and their zones in order, blank past them.
 pub(crate) struct Worked {
     pub answer: Answer,
+    pub pieces: usize,
     pub zones: [Zone; 32],
 }
 
@@ -73,6 +73,7 @@ fn blank(answer: Answer) -> Worked
 {
     Worked {
         answer,
+        pieces: 0,
         zones: [Zone::BLANK; 32],
     }
 }
@@ -90,12 +91,22 @@ fn refused(number: usize, visit: usize) -> Answer
     Answer::Numbers(visit)
 }
 
+// n, or most where n is more.
+pub(crate) fn at_most(n: usize, most: usize) -> usize
+    ensures { λ r. ⌜ r ≡ min n most ⌝ }
+{
+    if n < most {
+        return n;
+    }
+    most
+}
+
 // How many valuations the zones hold.
 fn kept(b: Ranges, zones: Zones) -> usize
     requires { ⌜ widths (rangeList b) ≤ 262144 ⌝ }
     ensures { λ n. ⌜ n ≡ keptC b (take (zones .count) (zones .list)) ⌝ }
 {
-    let n = route::at_most(zones.count, 32);
+    let n = at_most(zones.count, 32);
     let mut total = 0;
     let mut i = 0;
     while i < n {
@@ -133,6 +144,7 @@ fn listed(b: Ranges, zones: Zones) -> Worked
             kept,
             cut: less(all, kept),
         }),
+        pieces: zones.count,
         zones: list,
     }
 }

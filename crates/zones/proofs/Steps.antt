@@ -28,7 +28,7 @@ use Rattle.zones.specs.Settled.{exprIn, oppositeC, isNone, neverC, onC}
 use Rattle.zones.specs.declared.zone.Zone.{Zone}
 
 module _ (z : Zone) (e : Expr) where
-  pub more-in : z .count < 24 → record { used = z .used; count = z .count + 1; ineqs = set (z .ineqs) (z .count) e; bounds = z .bounds } ≡ moreC z e
+  pub more-in : z .count < 24 → record { count = z .count + 1; ineqs = set (z .ineqs) (z .count) e; bounds = z .bounds } ≡ moreC z e
   unfolding moreC plusC
   more-in h = rw (lt-ltb (z .count) 24 h, add-one (z .count)) refl
 

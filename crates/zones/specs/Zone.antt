@@ -19,13 +19,13 @@ zeroExpr = record { constant = pos 0; p = pos 0; q = pos 0; r = pos 0 }
 abbrev pub zeroBound : Bound
 zeroBound = record { none = false; strict = false; expr = zeroExpr }
 
--- a place that is not in use: no inequalities, all entries zero, not strict
+-- no inequalities, all entries zero, not strict
 abbrev pub blankZone : Zone
-blankZone = record { used = false; count = 0; ineqs = replicate 24 zeroExpr; bounds = replicate 25 zeroBound }
+blankZone = record { count = 0; ineqs = replicate 24 zeroExpr; bounds = replicate 25 zeroBound }
 
 -- the zone with one more inequality
 unfoldable pub plusC : Zone → Expr → Zone
-plusC z e = record { used = z .used; count = suc (z .count); ineqs = set (z .ineqs) (z .count) e; bounds = z .bounds }
+plusC z e = record { count = suc (z .count); ineqs = set (z .ineqs) (z .count) e; bounds = z .bounds }
 
 -- one with 24 stays as it is
 unfoldable pub moreC : Zone → Expr → Zone

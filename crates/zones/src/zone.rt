@@ -4,10 +4,9 @@ use expr::Expr;
 ghost use mathlib.Core.Path.{_≡_};
 ghost use Rattle.zones.specs.Zone.{moreC};
 
-// A zone: whether its place is in use; its inequalities, the first `count` of the list, each an expression that is at least 0; and its
-// matrix, five rows of five: entry 5i + j bounds clock i - clock j. Places that are not in use are zero.
+// A zone: its inequalities, the first `count` of the list, each an expression that is at least 0, zeros past them; and its matrix, five rows
+// of five: entry 5i + j bounds clock i - clock j.
 pub struct Zone {
-    pub used: bool,
     pub count: usize,
     pub ineqs: [Expr; 24],
     pub bounds: [Bound; 25],
@@ -22,9 +21,8 @@ pub struct Zones {
 }
 
 impl Zone {
-    // A place that is not in use.
+    // No inequalities, all entries zero, not strict.
     pub const BLANK: Zone = Zone {
-        used: false,
         count: 0,
         ineqs: [Expr::ZERO; 24],
         bounds: [Bound::ZERO; 25],

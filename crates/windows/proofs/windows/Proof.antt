@@ -40,15 +40,15 @@ use denote.Triple.Spec.{Meets, tripleOf}
 use denote.Triple.Table.{entered, cited}
 use denote.Triple.Walked.{says, Stays, stay-none-slice, gave-slice, walkOf, AllGo, goes-none-slice, goes-gave-slice, Walks, ends-at, walked, walk-meets}
 use denote.Exit.{yes}
-use Rattle.zones.specs.declared.zone.Zone.{Zone}
-use Rattle.zones.proofs.zone.Zone as Z
-use Rattle.windows.specs.Reply.{workOf, itemsOf}
+use Rattle.windows.specs.declared.table.Piece.{Piece}
+use Rattle.windows.proofs.table.Piece as Z
+use Rattle.windows.specs.Reply.{workOf}
+use Rattle.windows.specs.Table.{itemsOf, items-length, work-table}
 use Rattle.windows.specs.declared.reply.Worked.{Worked}
 use Rattle.windows.proofs.reply.Answer as N
 use Rattle.windows.proofs.reply.Answer.Laws as N′
 use Rattle.windows.proofs.reply.Worked as K
 use Rattle.windows.proofs.reply.Worked.Laws as K′
-use Rattle.windows.proofs.Items.{items-length}
 use Rattle.windows.proofs.reply.work_for as worked
 use Rattle.windows.proofs.reply.work_for.Symbol as work-def
 use Rattle.windows.proofs.reply.work_for.Symbol.{name as #work-for}
@@ -69,7 +69,7 @@ abbrev Bytes : Type 0
 Bytes = RefT (List ℕ)
 
 abbrev Table : Type 0
-Table = RefT (List Zone)
+Table = RefT (List Piece)
 
 abbrev Arg : Type 0
 Arg = Bytes × (Table × Unit {0})
@@ -133,7 +133,7 @@ module _ {M : Type 1} (𝓤 : URA M) (H : Heap 𝓤) (A : Atoms 𝓤) (W : Given
   exits r e is-answer =
       qed W (‵ (flft κ₀ q₀) ∷ ‵ (flft κ₁ q₁) ∷ ‵ File ∷ ‵ (finally R (t .name) (itemsOf r n)) ∷ []) ∵
       suffices ! _ (ends-at 𝓤 H A windows′.ended stayed (windows′.clauses 𝓤 H A at-mem run) W bound (answer-val r) (r .answer) (tt, (itemsOf r n, tt)) (tt, (items-length r n, tt))) $
-      says-both ! (ap (λ (w : Worked). w .answer) e) (ap (λ (w : Worked). itemsOf w n) e) $
+      says-both ! (ap (λ (w : Worked). w .answer) e) (ap (λ (w : Worked). itemsOf w n) e ∙ work-table (f .now) n) $
       nothing ! $ move ! (2 ∷ 0 ∷ []) $ join ! $ move ! (1 ∷ 0 ∷ []) $ join ! $ nothing ! $ move ! (3 ∷ 0 ∷ []) $ fjoin ! $ move ! (2 ∷ 0 ∷ []) $ fjoin ! $ move ! (1 ∷ 0 ∷ []) $ frame ! $ frame ! $
       owned ! N.the-row (Is N.the-row) ((EL.makes N.the-type N′.the-plain) 𝓤 H A) (r .answer) _ is-answer $ done !
 
@@ -182,7 +182,7 @@ module _ {M : Type 1} (𝓤 : URA M) (H : Heap 𝓤) (A : Atoms 𝓤) (W : Given
         ⊛ some (λ (ws : Lasts stored.ended (κ₁, tt) (t, (r, tt))). ‵ (lasts stored.ended (κ₁, tt) (t, (r, tt)) ws) ⊛ raw (fact 𝓤 (ws .0 ≡ itemsOf r n)))))) (id⊢ 𝓤 _) $ await ! tt $ pick ! (λ d.
         split ! $ move ! (1 ∷ []) $ pick ! (λ ws. split ! $ move ! (1 ∷ []) $ heard ! (ws .0 ≡ itemsOf r n) (λ same.
         -- [what is said of the last list; the token and the unit; the file's token; true; the file; _7; …]
-        fsplit ! $ fsplit ! $ rewrite ! 0 (λ (l : List Zone). ‵ (finally R (t .name) l)) same refl $ move ! (3 ∷ []) $ split ! $ split ! $ move ! (2 ∷ []) $ feqL ! (λ is-unit.
+        fsplit ! $ fsplit ! $ rewrite ! 0 (λ (l : List Piece). ‵ (finally R (t .name) l)) same refl $ move ! (3 ∷ []) $ split ! $ split ! $ move ! (2 ∷ []) $ feqL ! (λ is-unit.
         keep ! (5 ∷ 0 ∷ 7 ∷ 2 ∷ 8 ∷ 9 ∷ 10 ∷ 11 ∷ 12 ∷ 13 ∷ 14 ∷ 15 ∷ 16 ∷ 17 ∷ 18 ∷ 19 ∷ 20 ∷ 21 ∷ 22 ∷ 23 ∷ []) $
         -- [the tokens; the file; the last list; _7; …]
         land ! (from ! (stop !)) (init ! 8 refl (subst (λ (y : Val). Holds (hasTy tyUnit y) × WT y) (sym (ap only is-unit)) (tt, tt))) $
