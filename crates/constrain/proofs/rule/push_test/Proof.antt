@@ -5,10 +5,10 @@ use Rattle.constrain.proofs.rule.push_test.Tie as tie
 use Rattle.constrain.proofs.Steps.{push-row, push-column, push-in}
 
 returns : tie.Need-returns
-returns c = push-row (c .before .before .args .r) (c .before .before .args .x) (c .if1 .taken)
+returns c = push-row _ _ (c .if1 .taken)
 
 returns-2 : tie.Need-returns-2
-returns-2 c = push-column (c .before .before .before .before .args .r) (c .before .before .before .before .args .x) (c .before .before .if1 .left) (c .if2 .taken)
+returns-2 c = push-column _ _ (c .before .before .if1 .left) (c .if2 .taken)
 
 via-requires : tie.Need-via-requires
 via-requires c κs = search needs
