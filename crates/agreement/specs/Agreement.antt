@@ -16,20 +16,21 @@ use Rattle.cutting.specs.Cutting as cutting
 use Rattle.cutting.specs.Held.{holds, at}
 use Rattle.cutting.specs.Theorems.{HeldBy, InRanges, zones-apart, matrices-agree, zones-tightest, held-iff-run}
 use Rattle.dbm.specs.Matrix.{Matrix, kept}
-use Rattle.expr.specs.IntervalLaws.{In, and-left, and-right}
+use Rattle.expr.specs.Ranges.{In}
+use Rattle.integer.specs.Bools.{and-left, and-right}
 use Rattle.expr.specs.Limit.{Limit, atV}
 use Rattle.expr.specs.Three.{affine, limitOf}
-use Rattle.expr.specs.Valuations.{satisfies}
-use Rattle.expr.specs.declared.ranges.Range.{Range}
-use Rattle.fields.specs.declared.Refusal.the-variants.{Nothing}
+use Rattle.search.specs.Valuations.{satisfies}
+use Rattle.expr.specs.declared.range.Range.{Range}
+use Rattle.contents.specs.declared.Refusal.the-variants.{Nothing}
 use Rattle.integer.specs.Order.{leZ-true}
 use Rattle.sheet.specs.Accepted.{read-well-formed}
 use Rattle.sheet.specs.File.{readOf}
 use Rattle.sheet.specs.declared.Sheet.{Sheet}
-use Rattle.sweep.specs.Coded.{row, in-row, up-to-4, weighed-of}
+use Rattle.walk.specs.Coded.{row, in-row, up-to-4, weighed-of}
 use Rattle.sweep.specs.Reply.{rowRecord, blankReply, swept, inRange, sheetReply, readingReply, replyOf}
 use Rattle.sweep.specs.Theorems.{Asked, entryAt, sweep-right}
-use Rattle.sweep.specs.Walk.{sweepAt}
+use Rattle.concrete.specs.Walk.{sweepAt}
 use Rattle.sweep.specs.declared.reply.Answer.the-variants as sweepAnswer
 use Rattle.sweep.specs.declared.reply.Reply.{Reply}
 use Rattle.timed.specs.Runs.{Run, Tightest}

@@ -9,15 +9,15 @@ use Prim.Native.Nat.{ℕ}
 use lib.IntN.{ℤ, pos, _+ℤ_, _*ℤ_}
 use lib.ListN.{length, take}
 use lib.Signed.{_≤ℤ_}
-use Rattle.expr.specs.Interval.{interval}
-use Rattle.expr.specs.IntervalLaws.{In}
+use Rattle.search.specs.Interval.{interval}
+use Rattle.expr.specs.Ranges.{In}
 use Rattle.expr.specs.Limit.{none}
 use Rattle.expr.specs.Three.{affine, rangeList, point}
-use Rattle.expr.specs.Valuations.{count}
+use Rattle.search.specs.Valuations.{count}
 use Rattle.expr.specs.declared.bound.Bound.{Bound}
 use Rattle.expr.specs.declared.number.Expr.{Expr}
 use Rattle.expr.specs.declared.number.Valuation.{Valuation}
-use Rattle.expr.specs.declared.ranges.Range.{Range}
+use Rattle.expr.specs.declared.range.Range.{Range}
 use Rattle.sweep.specs.Right.{AllOf}
 use Rattle.sheet.specs.declared.Sheet.{Sheet}
 use Rattle.timed.specs.Runs.{Run}

@@ -14,8 +14,8 @@ use Rattle.dbm.specs.Entries.{Outside}
 use Rattle.expr.specs.Affine.{Affine}
 use Rattle.expr.specs.Limit.{Limit}
 use Rattle.expr.specs.Three.{exprOf, boundOf}
-use Rattle.fields.specs.declared.Refusal.{Refusal}
-use Rattle.fields.specs.declared.Refusal.the-variants.{Nothing, Size, Contents, Body, Route}
+use Rattle.contents.specs.declared.Refusal.{Refusal}
+use Rattle.contents.specs.declared.Refusal.the-variants.{Nothing, Size, Contents, Body, Route}
 use Rattle.sheet.specs.declared.Sheet.{Sheet}
 use Rattle.sheet.specs.File.{readOf}
 use Rattle.windows.specs.Reply.{blankPiece, blankWork, listingWork, sheetWork, readingWork, workOf, tableOf}

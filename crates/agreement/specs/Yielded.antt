@@ -11,28 +11,29 @@ use Rattle.cutting.specs.Counts.{keptOf}
 use Rattle.cutting.specs.Cutting.{startB, summed, tested, putEntry, rowFrom, rowsFrom, places, pushed, guardTree, never, listZone, worked, guardZones, guardsZones, onBounds, resetBounds, stayZones, moveZones, cutRoute, zonesOf}
 use Rattle.dbm.specs.Matrix.{start, delayed, resetM, limitedM, guarded}
 use Rattle.expr.specs.Affine.{dot, value, plusL, minusL, plus, minus, lessOne, opposite, judge}
-use Rattle.expr.specs.Cases.{intervals}
-use Rattle.expr.specs.Interval.{interval}
-use Rattle.expr.specs.IntervalLaws.{In, interval-exact}
+use Rattle.search.specs.Cases.{intervals}
+use Rattle.search.specs.Interval.{interval}
+use Rattle.expr.specs.Ranges.{In}
+use Rattle.search.specs.IntervalLaws.{interval-exact}
 use Rattle.expr.specs.Limit.{Limit, none, limit, atV, sumW, marked, sumB, tighterW, asked, tighterB}
-use Rattle.expr.specs.SearchLaws.{widths}
+use Rattle.search.specs.SearchLaws.{widths}
 use Rattle.expr.specs.Three.{point}
-use Rattle.expr.specs.Valuations.{span, width, before, valuations, satisfies, firstIn, countIn, first, count}
+use Rattle.search.specs.Valuations.{span, width, before, valuations, satisfies, firstIn, countIn, first, count}
 use Rattle.expr.specs.declared.number.Valuation.{Valuation}
-use Rattle.expr.specs.declared.ranges.Range.{Range}
-use Rattle.fields.specs.Contents.{sized, entryField, headOf, oneOf, firstOf, twoOf, secondOf, threeOf, thirdOf, fourOf, contentsOf}
+use Rattle.expr.specs.declared.range.Range.{Range}
+use Rattle.contents.specs.Contents.{sized, entryField, headOf, oneOf, firstOf, twoOf, secondOf, threeOf, thirdOf, fourOf, contentsOf}
 use Rattle.cursor.specs.Cursor.{shifted, judged, byteTaken, wordTaken, signedTaken, byteField, wordField, signedField, finished, turns}
-use Rattle.fields.specs.declared.Refusal.the-variants.{Nothing}
+use Rattle.contents.specs.declared.Refusal.the-variants.{Nothing}
 use Rattle.integer.specs.Parts.{p, n}
 use Rattle.sheet.specs.Bodies.{rangeOf, highestRight, highestField, rangeAt, parametersAt, blankLocation, blankLocations, locationStep, locationsRead, locationsAt, belowField, resetsRight, resetsField, transitionAt, blankTransition, blankTransitions, transitionStep, transitionsRead, transitionsAt, routeStep, routeRead, routeAt}
 use Rattle.sheet.specs.File.{blankSheet, refusedBy, bodiesOf, judgedRoute, judgedBodies, readOf}
 use Rattle.sheet.specs.Guards.{signedOf, exprOf, boundOf, oneZero, rightField, coefficientField, guardAt, blankGuard, blankGuards, guardStep, guardsAt}
 use Rattle.sheet.specs.Route.{endsAt, linkStep, linksOf}
 use Rattle.sheet.specs.declared.Sheet.{Sheet}
-use Rattle.sweep.specs.Coded.{row}
+use Rattle.walk.specs.Coded.{row}
 use Rattle.sweep.specs.Reply.{blankReply, swept, sheetReply, readingReply, replyOf}
 use Rattle.sweep.specs.Theorems.{entryAt, sweep-right}
-use Rattle.sweep.specs.Walk.{guardStep as sweepGuard, guardSteps, resetSteps, stay, move, walk, sweepAt}
+use Rattle.concrete.specs.Walk.{guardStep as sweepGuard, guardSteps, resetSteps, stay, move, walk, sweepAt}
 use Rattle.timed.specs.Runs.{invariants, guardsOf, routeOf, Run, Tightest}
 use Rattle.agreement.specs.Agreement.{sheetOf, IsRun, IsVoid, answered-inside}
 use Rattle.agreement.specs.Agreement as agreement

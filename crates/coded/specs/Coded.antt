@@ -16,7 +16,7 @@ use Rattle.expr.specs.Affine.{Affine}
 use Rattle.expr.specs.Limit.{Limit}
 use Rattle.expr.specs.Three.{exprOf, boundOf}
 use Rattle.expr.specs.declared.bound.Bound.{Bound}
-use Rattle.sweep.specs.Coded.{up-to-4}
+use Rattle.walk.specs.Coded.{up-to-4}
 use Rattle.zones.specs.Zone.{zeroBound, zeroExpr, blankZone}
 use Rattle.constrain.specs.Rules.{entryC}
 use Rattle.zones.specs.declared.zone.Zone.{Zone}

@@ -13,9 +13,9 @@ use Rattle.cutting.specs.Cutting as cutting
 use Rattle.cutting.specs.Agree.{worked-refused}
 use Rattle.expr.specs.Affine.{Affine, opposite}
 use Rattle.expr.specs.Three.{affine, exprOf, limitOf, rangeList}
-use Rattle.expr.specs.Valuations.{first}
+use Rattle.search.specs.Valuations.{first}
 use Rattle.expr.specs.declared.number.Expr.{Expr}
-use Rattle.expr.specs.declared.ranges.Ranges.{Ranges}
+use Rattle.expr.specs.declared.range.Ranges.{Ranges}
 use Rattle.sheet.specs.declared.Guard.{Guard}
 use Rattle.sweep.specs.Right.{AllOf}
 use Rattle.coded.specs.Coded.{boundsOf, zoneOf, zonesIn, coded, one-more, length-more, taken}

@@ -11,10 +11,10 @@ use Rattle.cutting.specs.Cutting as cutting
 use Rattle.cutting.specs.Held.{holds, at}
 use Rattle.expr.specs.Limit.{atV}
 use Rattle.expr.specs.Three.{affine, exprOf, limitOf, rangeList}
-use Rattle.expr.specs.Valuations.{satisfies, count}
+use Rattle.search.specs.Valuations.{satisfies, count}
 use Rattle.expr.specs.declared.bound.Bound.{Bound}
 use Rattle.expr.specs.declared.number.Expr.{Expr}
-use Rattle.expr.specs.declared.ranges.Ranges.{Ranges}
+use Rattle.expr.specs.declared.range.Ranges.{Ranges}
 use Rattle.sheet.specs.declared.Sheet.{Sheet}
 use Rattle.sheet.specs.WellFormed.{WellFormed}
 use Rattle.coded.specs.Coded.{zoneOf, zonesIn, taken, entry-at}

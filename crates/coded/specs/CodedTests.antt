@@ -13,14 +13,15 @@ use lib.Signed.{leZ, _≤ℤ_}
 use Rattle.cutting.specs.Cutting.{Bounds, zeroB, never}
 use Rattle.expr.specs.Affine.{Affine, dot, value, plusL, minusL, plus, minus, lessOne, opposite, within, allWithin, Judged, fine, wide, judge, pickJ, LIMIT}
 use Rattle.expr.specs.Limit.{Limit, none, limit, atV, marked, sumB, Question, yes′, no′, ask, wide′, asked, slackE, tighterB}
-use Rattle.expr.specs.IntervalLaws.{Inside, and-left, and-right, and-both}
-use Rattle.expr.specs.SearchLaws.{valuations-inside}
+use Rattle.expr.specs.Ranges.{Inside}
+use Rattle.integer.specs.Bools.{and-left, and-right, and-both}
+use Rattle.search.specs.SearchLaws.{valuations-inside}
 use Rattle.expr.specs.Three.{affine, exprOf, limitOf, boundOf, boundSum, test, OPPOSITE, rangeList, pickL}
-use Rattle.expr.specs.Valuations.{valuations, satisfies, firstIn, countIn, first, count}
+use Rattle.search.specs.Valuations.{valuations, satisfies, firstIn, countIn, first, count}
 use Rattle.expr.specs.declared.bound.Bound.{Bound}
 use Rattle.expr.specs.declared.number.Expr.{Expr}
-use Rattle.expr.specs.declared.ranges.Range.{Range}
-use Rattle.expr.specs.declared.ranges.Ranges.{Ranges}
+use Rattle.expr.specs.declared.range.Range.{Range}
+use Rattle.expr.specs.declared.range.Ranges.{Ranges}
 use Rattle.integer.specs.Order.{leZ-true}
 use Rattle.integer.specs.Split.{split, split-all}
 use Rattle.zones.specs.Settled.{oppositeC, isNone}

@@ -17,10 +17,10 @@ use Rattle.expr.specs.declared.bound.Bound.{Bound}
 use Rattle.sheet.specs.declared.Guard.{Guard}
 use Rattle.sheet.specs.declared.Sheet.{Sheet}
 use Rattle.sheet.specs.WellFormed.{WellFormed}
-use Rattle.sweep.specs.Coded.{up-to-4}
-use Rattle.sweep.specs.CodedWalk.{location-in, transition-in}
+use Rattle.walk.specs.Coded.{up-to-4}
+use Rattle.walk.specs.CodedWalk.{location-in, transition-in}
 use Rattle.sweep.specs.Right.{AllOf, GuardsAll, filled-all, invariants-right, guards-right}
-use Rattle.sweep.specs.Tables.{locationC, transitionC}
+use Rattle.walk.specs.Tables.{locationC, transitionC}
 use Rattle.timed.specs.Runs.{invariants, guardsOf, routeOf, transitionAt}
 use Rattle.coded.specs.Coded.{rowOf, boundsOf, zoneOf, zonesIn, coded}
 use Rattle.coded.specs.CodedGuard.{NarrowZone, Sound, guard-sound, guard-coded}

@@ -11,7 +11,7 @@ use Rattle.sheet.specs.declared.Guard.{Guard}
 use Rattle.sheet.specs.declared.Location.{Location}
 use Rattle.sheet.specs.declared.Sheet.{Sheet}
 use Rattle.sheet.specs.declared.Transition.{Transition}
-use Rattle.sweep.specs.Tables.{locationC, transitionC}
+use Rattle.walk.specs.Tables.{locationC, transitionC}
 use Rattle.split.specs.Guarded.{guardedC}
 use Rattle.zones.specs.Zone.{pick, zeroBound, zeroExpr, blankZone}
 use Rattle.parts.specs.Parts.{withBounds}

@@ -8,7 +8,7 @@ use lib.ListN.{length}
 use lib.Seq.{set-out}
 use Rattle.expr.specs.declared.bound.Bound.{Bound}
 use Rattle.expr.specs.declared.bound.Test.{Test}
-use Rattle.expr.specs.declared.ranges.Ranges.{Ranges}
+use Rattle.expr.specs.declared.range.Ranges.{Ranges}
 use Rattle.zones.specs.Zone.{pick}
 use Rattle.parts.specs.Parts.{pushedC, answeredC, haltedC, forwardC, standing, putC, withBounds}
 use Rattle.constrain.specs.Rules.{viaBound, viaC, askC}

@@ -8,7 +8,7 @@ use Rattle.constrain.specs.Rules.{viaC, viaBound, askC}
 use Rattle.constrain.specs.declared.rule.Rule.{Rule}
 use Rattle.expr.specs.declared.bound.Bound.{Bound}
 use Rattle.expr.specs.declared.number.Expr.{Expr}
-use Rattle.expr.specs.declared.ranges.Ranges.{Ranges}
+use Rattle.expr.specs.declared.range.Ranges.{Ranges}
 use Rattle.parts.specs.declared.part.Part.{Part}
 use Rattle.zones.specs.Settled.{oppositeC, settledC}
 use Rattle.zones.specs.Zone.{pick, moreC}

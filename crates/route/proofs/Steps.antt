@@ -9,14 +9,14 @@ use borrow.Author.Tests.{lt-ltb, le-ltb, eq-eqb, ne-eqb, ltb-true}
 use lib.Dec.{ltb}
 use lib.ListN.{length, getD, take, drop, length-take, drop-of-length-le}
 use lib.Seq.{drop-cons, getD-take}
-use Rattle.expr.specs.Valuations.{count}
-use Rattle.expr.specs.declared.ranges.Ranges.{Ranges}
+use Rattle.search.specs.Valuations.{count}
+use Rattle.expr.specs.declared.range.Ranges.{Ranges}
 use Rattle.sheet.specs.declared.Guard.{Guard}
 use Rattle.sheet.specs.declared.Location.{Location}
 use Rattle.sheet.specs.declared.Sheet.{Sheet}
 use Rattle.sheet.specs.declared.Transition.{Transition}
-use Rattle.sweep.specs.Tables.{at, locationC, transitionC}
-use Rattle.sweep.specs.Tables.{pick as sweepPick}
+use Rattle.walk.specs.Tables.{at, locationC, transitionC}
+use Rattle.walk.specs.Tables.{pick as sweepPick}
 use Rattle.route.specs.Route.{guardsFor, stayFor, moveFor, stay-for, move-for}
 use Rattle.split.specs.Guarded.{guardedC}
 use Rattle.coded.specs.Walked.{atVisit, stayAll, moveAll, walkAll}

@@ -11,7 +11,7 @@ use zones::Zones;
 ghost use mathlib.Core.Path.{_≡_};
 ghost use Prim.Native.Nat.{min, suc, _<_};
 ghost use lib.ListN.{take};
-ghost use Rattle.sweep.specs.Tables.{at, locationC, transitionC};
+ghost use Rattle.walk.specs.Tables.{at, locationC, transitionC};
 ghost use Rattle.route.specs.Route.{guardsFor, stayFor, moveFor};
 ghost use Rattle.coded.specs.Walked.{atVisit, startAll, zonesAll};
 

@@ -9,7 +9,7 @@ use lib.Dec.{ltb, eqb}
 use lib.ListN.{length, getD, set, replicate, length-set}
 use native.Mathlib.Numerals.{add-one}
 use lib.Seq.{getD-set-same, getD-set-other}
-use Rattle.expr.specs.declared.ranges.Ranges.{Ranges}
+use Rattle.expr.specs.declared.range.Ranges.{Ranges}
 use Rattle.split.proofs.Runs.{yes-live, yes-later, yes-count, no-live, no-later, no-count, ran-ended, ran-split, split-leaves}
 use Rattle.split.specs.Guarded.{cutC}
 use Rattle.split.specs.Listed.{refusedC, listC}

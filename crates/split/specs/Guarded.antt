@@ -3,7 +3,7 @@ use mathlib.Core.List.{List, [], _∷_}
 use Prim.Native.Nat.{ℕ}
 use lib.Dec.{ltb}
 use lib.ListN.{take}
-use Rattle.expr.specs.declared.ranges.Ranges.{Ranges}
+use Rattle.expr.specs.declared.range.Ranges.{Ranges}
 use Rattle.sheet.specs.declared.Guard.{Guard}
 use Rattle.split.specs.Listed.{noneAt}
 use Rattle.zones.specs.Zone.{pick}

@@ -11,7 +11,7 @@ use Rattle.expr.specs.declared.bound.Bound.{Bound}
 use Rattle.expr.specs.declared.bound.Test.{Test}
 use Rattle.expr.specs.declared.bound.Test.the-variants.{Yes, No, Ask, Wide as TestWide}
 use Rattle.expr.specs.declared.number.Expr.{Expr}
-use Rattle.expr.specs.declared.ranges.Ranges.{Ranges}
+use Rattle.expr.specs.declared.range.Ranges.{Ranges}
 use Rattle.parts.specs.Parts.{withBounds, yesC, noC}
 use Rattle.parts.specs.declared.part.Part.{Part}
 use Rattle.split.specs.Listed.{refusedC, listC}

@@ -7,12 +7,12 @@ use native.Mathlib.Omega.{arith}
 use borrow.Author.Tests.{lt-ltb, le-ltb, eq-eqb, ne-eqb}
 use lib.ListN.{length, getD, take, drop, length-take, drop-of-length-le}
 use lib.Seq.{drop-cons, getD-take}
-use Rattle.expr.specs.SearchLaws.{widths}
+use Rattle.search.specs.SearchLaws.{widths}
 use Rattle.expr.specs.Three.{affine, rangeList}
-use Rattle.expr.specs.Valuations.{count}
-use Rattle.expr.specs.declared.ranges.Ranges.{Ranges}
-use Rattle.fields.specs.declared.Refusal.{Refusal}
-use Rattle.fields.specs.declared.Refusal.the-variants.{Nothing, Size, Contents, Body, Route}
+use Rattle.search.specs.Valuations.{count}
+use Rattle.expr.specs.declared.range.Ranges.{Ranges}
+use Rattle.contents.specs.declared.Refusal.{Refusal}
+use Rattle.contents.specs.declared.Refusal.the-variants.{Nothing, Size, Contents, Body, Route}
 use Rattle.sheet.specs.declared.Reading.{Reading}
 use Rattle.sheet.specs.declared.Sheet.{Sheet}
 use Rattle.sheet.specs.Accepted.{reading-well-formed}

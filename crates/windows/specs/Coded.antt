@@ -14,12 +14,12 @@ use lib.Signed.{_≤ℤ_}
 use Rattle.cutting.specs.Counts.{keptOf, cutOf}
 use Rattle.cutting.specs.Cutting.{Listing, listed, refused, zonesOf}
 use Rattle.cutting.specs.Numbered.{SevenToNine, zones-numbered}
-use Rattle.expr.specs.SearchLaws.{widths, valuations-length}
+use Rattle.search.specs.SearchLaws.{widths, valuations-length}
 use Rattle.expr.specs.Affine.{Affine}
 use Rattle.expr.specs.Three.{rangeList}
-use Rattle.expr.specs.Valuations.{width, valuations, satisfies, pickN, countIn, count}
-use Rattle.expr.specs.declared.ranges.Range.{Range}
-use Rattle.expr.specs.declared.ranges.Ranges.{Ranges}
+use Rattle.search.specs.Valuations.{width, valuations, satisfies, pickN, countIn, count}
+use Rattle.expr.specs.declared.range.Range.{Range}
+use Rattle.expr.specs.declared.range.Ranges.{Ranges}
 use Rattle.integer.specs.Parts.{p, n, ≤-in}
 use Rattle.integer.specs.Split.{split, split-all}
 use Rattle.sheet.specs.declared.Sheet.{Sheet}

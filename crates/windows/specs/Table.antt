@@ -12,8 +12,8 @@ use Rattle.coded.specs.Coded.{zoneOf, zonesIn}
 use Rattle.cutting.specs.Cutting.{Listing, listed, refused, zonesOf}
 use Rattle.cutting.specs.Cutting as cutting
 use Rattle.cutting.specs.Shape.{zones-shaped}
-use Rattle.fields.specs.declared.Refusal.{Refusal}
-use Rattle.fields.specs.declared.Refusal.the-variants.{Nothing, Size, Contents, Body, Route}
+use Rattle.contents.specs.declared.Refusal.{Refusal}
+use Rattle.contents.specs.declared.Refusal.the-variants.{Nothing, Size, Contents, Body, Route}
 use Rattle.sheet.specs.declared.Sheet.{Sheet}
 use Rattle.sheet.specs.File.{readOf}
 use Rattle.windows.specs.Reply.{pieceOf, blankPiece, blankWork, listingWork, sheetWork, readingWork, workOf, tableOf}

@@ -4,8 +4,8 @@ use Prim.Native.Nat.{_-_}
 use lib.Dec.{ltb}
 use lib.ListN.{take}
 use Rattle.expr.specs.Three.{rangeList}
-use Rattle.expr.specs.Valuations.{count}
-use Rattle.expr.specs.declared.ranges.Ranges.{Ranges}
+use Rattle.search.specs.Valuations.{count}
+use Rattle.expr.specs.declared.range.Ranges.{Ranges}
 use Rattle.windows.specs.Reply.{blankWork, refusedBy}
 use Rattle.windows.specs.declared.reply.Answer.the-variants as answer
 use Rattle.windows.specs.declared.reply.Worked.{Worked}

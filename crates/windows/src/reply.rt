@@ -1,13 +1,13 @@
 // What Windows answers, and the zones by value.
 use expr::Ranges;
-use fields::Refusal;
+use contents::Refusal;
 use sheet::Sheet;
 use zones::Zone;
 use zones::Zones;
 ghost use mathlib.Core.Path.{_≡_};
 ghost use Prim.Native.Nat.{_≤_, _-_, min};
 ghost use lib.ListN.{take};
-ghost use Rattle.expr.specs.SearchLaws.{widths};
+ghost use Rattle.search.specs.SearchLaws.{widths};
 ghost use Rattle.expr.specs.Three.{rangeList};
 ghost use Rattle.sheet.specs.WellFormed.{WellFormed};
 ghost use Rattle.windows.specs.Reply.{answerNumber, answerPlace, refusedBy, blankWork, sheetWork, workOf};
@@ -46,7 +46,7 @@ pub fn number(answer: Answer) -> usize
     match answer {
         Answer::Listed(_) => 0,
         Answer::Small => 1,
-        Answer::Refused(refusal) => fields::number(refusal),
+        Answer::Refused(refusal) => contents::number(refusal),
         Answer::Zones(_) => 7,
         Answer::Inequalities(_) => 8,
         Answer::Numbers(_) => 9,
@@ -60,7 +60,7 @@ pub fn place(answer: Answer) -> usize
     match answer {
         Answer::Listed(_) => 0,
         Answer::Small => 0,
-        Answer::Refused(refusal) => fields::place(refusal),
+        Answer::Refused(refusal) => contents::place(refusal),
         Answer::Zones(visit) => visit,
         Answer::Inequalities(visit) => visit,
         Answer::Numbers(visit) => visit,
@@ -168,7 +168,7 @@ pub(crate) fn work_for(file: &[u8], places: usize) -> Worked
     let reading = sheet::read(file);
     let refusal = reading.refusal;
     let s = reading.sheet;
-    if fields::number(refusal) == 0 {
+    if contents::number(refusal) == 0 {
         return cut_sheet(s);
     }
     blank(Answer::Refused(refusal))

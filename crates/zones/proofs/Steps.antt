@@ -14,14 +14,15 @@ use lib.Signed.{leZ}
 use lib.ListN.{length, getD, set, take, replicate}
 use lib.Seq.{take-all, take-suc, take-suc-set}
 use Rattle.expr.specs.Affine.{Affine, value, dot, opposite, judge}
-use Rattle.expr.specs.Three.{affine, inequality, rangeList, OPPOSITE, firstOf, exprs}
-use Rattle.expr.specs.Valuations.{first, satisfies, countIn, count, valuations}
+use Rattle.expr.specs.Three.{affine, inequality, rangeList, OPPOSITE}
+use Rattle.search.specs.System.{firstOf, exprs}
+use Rattle.search.specs.Valuations.{first, satisfies, countIn, count, valuations}
 use Rattle.expr.specs.declared.number.Expr.{Expr}
 use Rattle.expr.specs.declared.number.Inequality.{Inequality}
-use Rattle.expr.specs.declared.ranges.Ranges.{Ranges}
-use Rattle.expr.specs.declared.search.Solution.{Solution}
-use Rattle.expr.specs.declared.search.Solution.the-variants.{Found, Nothing}
-use Rattle.expr.specs.declared.search.System.{System}
+use Rattle.expr.specs.declared.range.Ranges.{Ranges}
+use Rattle.search.specs.declared.search.Solution.{Solution}
+use Rattle.search.specs.declared.search.Solution.the-variants.{Found, Nothing}
+use Rattle.search.specs.declared.search.System.{System}
 use lib.IntN.{zero-*ℤ}
 use Rattle.zones.specs.Zone.{zeroExpr, plusC, moreC}
 use Rattle.zones.specs.Settled.{exprIn, oppositeC, isNone, neverC, onC}

@@ -8,13 +8,13 @@ use lib.IntN.{ℤ}
 use lib.ListN.{take}
 use Rattle.expr.specs.Affine.{opposite, judge}
 use Rattle.expr.specs.Three.{affine, inequality, rangeList, OPPOSITE}
-use Rattle.expr.specs.Valuations.{first}
+use Rattle.search.specs.Valuations.{first}
 use Rattle.expr.specs.declared.bound.Test.{Test}
 use Rattle.expr.specs.declared.bound.Test.the-variants.{Yes, No, Ask, Wide as TestWide}
 use Rattle.expr.specs.declared.number.Expr.{Expr}
 use Rattle.expr.specs.declared.number.Inequality.{Inequality}
 use Rattle.expr.specs.declared.number.Inequality.the-variants.{Is, Wide}
-use Rattle.expr.specs.declared.ranges.Ranges.{Ranges}
+use Rattle.expr.specs.declared.range.Ranges.{Ranges}
 use Rattle.zones.specs.Zone.{pick, zeroExpr}
 use Rattle.zones.specs.declared.settle.Verdict.{Verdict}
 use Rattle.zones.specs.declared.zone.Zone.{Zone}

@@ -4,15 +4,16 @@ use crate::zone::Zone;
 use expr::Expr;
 use expr::Inequality;
 use expr::Ranges;
-use expr::Solution;
-use expr::System;
+use search::Solution;
+use search::System;
 use expr::Test;
 ghost use mathlib.Core.Path.{_≡_};
 ghost use mathlib.Core.List.{[], _∷_, _++_, map};
 ghost use lib.ListN.{take};
 ghost use Prim.Native.Nat.{min};
-ghost use Rattle.expr.specs.Three.{exprs, affine, rangeList};
-ghost use Rattle.expr.specs.Valuations.{count};
+ghost use Rattle.search.specs.System.{exprs};
+ghost use Rattle.expr.specs.Three.{affine, rangeList};
+ghost use Rattle.search.specs.Valuations.{count};
 ghost use Rattle.zones.specs.Zone.{moreC};
 ghost use Rattle.zones.specs.Settled.{oppositeC, neverC, onC, settledC};
 
@@ -63,14 +64,14 @@ fn system(zone: Zone, e: Expr) -> System
 pub fn held(b: Ranges, zone: Zone) -> usize
     ensures { λ n. ⌜ n ≡ count (rangeList b) (map affine (take (zone .count) (zone .ineqs))) ⌝ }
 {
-    expr::count(b, system(zone, Expr::ZERO))
+    search::count(b, system(zone, Expr::ZERO))
 }
 
 // Whether no valuation of the zone satisfies e.
 fn never(b: Ranges, zone: Zone, e: Expr) -> bool
     ensures { λ r. ⌜ r ≡ neverC b zone e ⌝ }
 {
-    let found = expr::first(b, system(zone, e));
+    let found = search::first(b, system(zone, e));
     match found {
         Solution::Found(_) => false,
         Solution::Nothing => true,
