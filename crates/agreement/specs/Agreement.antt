@@ -28,8 +28,7 @@ use Rattle.integer.specs.Order.{leZ-true}
 use Rattle.sheet.specs.Accepted.{read-well-formed}
 use Rattle.sheet.specs.File.{readOf}
 use Rattle.sheet.specs.declared.Sheet.{Sheet}
-use Rattle.dbm.specs.Entries.{up-to-4}
-use Rattle.walk.specs.Coded.{row, in-row, weighed-of}
+use Rattle.walk.specs.Coded.{row, in-row, up-to-4, weighed-of}
 use Rattle.sweep.specs.Reply.{rowRecord, blankReply, swept, inRange, sheetReply, readingReply, replyOf}
 use Rattle.sweep.specs.Theorems.{Asked, entryAt, sweep-right}
 use Rattle.concrete.specs.Walk.{sweepAt}
@@ -38,9 +37,9 @@ use Rattle.sweep.specs.declared.reply.Reply.{Reply}
 use Rattle.timed.specs.Runs.{Run, Tightest}
 use Rattle.agreement.specs.Lent.{Lists, pieceAt, Behind, lists-behind, noZone, member, place-of, pieces-are, piece-is}
 use Rattle.windows.specs.declared.reply.Counts.{Counts}
-use Rattle.zones.specs.CodedRead.{holds-coded, entry-coded}
-use Rattle.zones.specs.Rules.{entryC}
-use Rattle.zones.specs.declared.zone.Zone.{Zone}
+use Rattle.coded.specs.CodedRead.{holds-coded, entry-coded}
+use Rattle.constrain.specs.Rules.{entryC}
+use Rattle.windows.specs.declared.table.Piece.{Piece}
 
 -- ---- the words of the statement
 -- the sheet of a file
@@ -59,11 +58,11 @@ abbrev pub IsRun : List ℕ → ℤ → ℤ → ℤ → Type 0
 IsRun file p q r = replyOf file p q r .answer ≡ sweepAnswer.Run
 
 -- a piece holds (p, q, r), which is in the ranges: it meets all the piece's inequalities
-abbrev pub PieceHolds : Zone → ℤ → ℤ → ℤ → Type 0
+abbrev pub PieceHolds : Piece → ℤ → ℤ → ℤ → Type 0
 PieceHolds z p q r = satisfies (map affine (take (z .count) (z .ineqs))) (p ∷ q ∷ r ∷ []) ≡ true
 
 -- entry (k, l) of a piece's matrix with (p, q, r) put in
-abbrev pub entryWith : Zone → ℤ → ℤ → ℤ → ℕ → ℕ → Limit ℤ
+abbrev pub entryWith : Piece → ℤ → ℤ → ℤ → ℕ → ℕ → Limit ℤ
 entryWith z p q r k l = atV (p ∷ q ∷ r ∷ []) (limitOf (entryC (z .bounds) k l))
 
 -- ---- the statement
@@ -153,10 +152,10 @@ module _ {file : List ℕ} {n : ℕ} {c : Counts} (b : Behind file n c) (p q r :
   piece-there i h = let e = pieces-are b in omega arith
 
   zone-holds : (i : ℕ) → i < c .pieces → PieceHolds (pieceAt file n i) p q r → holds valuation (zoneAt i) ≡ true
-  zone-holds i h k = sym (holds-coded (zoneAt i) p q r) ∙ subst (λ (z : Zone). PieceHolds z p q r) (piece-is b i h) k
+  zone-holds i h k = sym (holds-coded (zoneAt i) p q r) ∙ subst (λ (z : Piece). PieceHolds z p q r) (piece-is b i h) k
 
   piece-holds : (i : ℕ) → i < c .pieces → holds valuation (zoneAt i) ≡ true → PieceHolds (pieceAt file n i) p q r
-  piece-holds i h k = subst (λ (z : Zone). PieceHolds z p q r) (sym (piece-is b i h)) (holds-coded (zoneAt i) p q r ∙ k)
+  piece-holds i h k = subst (λ (z : Piece). PieceHolds z p q r) (sym (piece-is b i h)) (holds-coded (zoneAt i) p q r ∙ k)
 
   held-by : (i : ℕ) → i < c .pieces → PieceHolds (pieceAt file n i) p q r → HeldBy valuation (b .zones)
   held-by i h k = record { zone = zoneAt i; one-of = member (b .zones) i (zone-there i h); held = zone-holds i h k }
@@ -168,7 +167,7 @@ module _ {file : List ℕ} {n : ℕ} {c : Counts} (b : Behind file n c) (p q r :
       (i, g, piece-holds i g (subst (λ (z : cutting.Zone). holds valuation z ≡ true) (sym e) (h .held)))
 
   entry-is : (i : ℕ) → i < c .pieces → (k l : ℕ) → k ≤ 4 → l ≤ 4 → entryWith (pieceAt file n i) p q r k l ≡ at valuation (zoneAt i .bounds) k l
-  entry-is i h k l hk hl = ap (λ (z : Zone). entryWith z p q r k l) (piece-is b i h) ∙ entry-coded (zoneAt i) p q r k l hk hl
+  entry-is i h k l hk hl = ap (λ (z : Piece). entryWith z p q r k l) (piece-is b i h) ∙ entry-coded (zoneAt i) p q r k l hk hl
 
 -- ---- both
 pub agreement : Agreement

@@ -18,19 +18,19 @@ use Rattle.expr.specs.declared.bound.Bound.{Bound}
 use Rattle.expr.specs.declared.number.Expr.{Expr}
 use Rattle.expr.specs.declared.number.Valuation.{Valuation}
 use Rattle.expr.specs.declared.range.Range.{Range}
-use Rattle.timed.specs.Right.{AllOf}
+use Rattle.sweep.specs.Right.{AllOf}
 use Rattle.sheet.specs.declared.Sheet.{Sheet}
 use Rattle.timed.specs.Runs.{Run}
 use Rattle.agreement.specs.Agreement.{sheetOf, IsRun, IsVoid}
 use Rattle.agreement.specs.Bytes.{minus, range, constant, withP, withPQ, atMost, under, standing, moving}
 use Rattle.agreement.specs.Lent.{Lists, table, pieceAt}
 use Rattle.windows.specs.declared.reply.Counts.{Counts}
-use Rattle.zones.specs.Rules.{entryC}
-use Rattle.zones.specs.declared.zone.Zone.{Zone}
+use Rattle.constrain.specs.Rules.{entryC}
+use Rattle.windows.specs.declared.table.Piece.{Piece}
 
 -- ---- a row
 -- a piece: its inequalities, each an expression that is at least 0, and how many valuations (paper: settings) it holds
-pub record Piece : Type 0 where
+pub record PieceRow : Type 0 where
   pub holds : ℕ
   pub ineqs : List Expr
 
@@ -44,7 +44,7 @@ pub record Entry : Type 0 where
 -- a sheet's file; the pieces in order, kept and cut; some entries; valuations with a run, and without
 pub record SheetRow : Type 0 where
   pub file : List ℕ
-  pub pieces : List Piece
+  pub pieces : List PieceRow
   pub kept : ℕ
   pub cut : ℕ
   pub entries : List Entry
@@ -64,7 +64,7 @@ pub data Row : Type 0 where
 
 -- ---- what it is to yield a row
 -- a piece of the table, as a row has it
-abbrev pub pieceIn : Sheet → Zone → Piece
+abbrev pub pieceIn : Sheet → Piece → PieceRow
 pieceIn s z = record { holds = count (rangeList (s .ranges)) (map affine (take (z .count) (z .ineqs))); ineqs = take (z .count) (z .ineqs) }
 
 abbrev pub countsIn : SheetRow → Counts
@@ -90,7 +90,7 @@ Yields (inequality r) = IntervalYields r
 abbrev pub at : ℤ → Valuation
 at p = record { p = p; q = pos 0; r = pos 0 }
 
-abbrev piece : ℕ → List Expr → Piece
+abbrev piece : ℕ → List Expr → PieceRow
 piece n ineqs = record { holds = n; ineqs = ineqs }
 
 abbrev entry : ℕ → ℕ → ℕ → Bound → Entry

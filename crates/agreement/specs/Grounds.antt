@@ -18,7 +18,7 @@ use Rattle.windows.specs.Reply.{refusedBy, blankWork, listingWork, sheetWork, r
 use Rattle.agreement.specs.Lent.{countsOf}
 use Rattle.windows.specs.declared.reply.Answer.{Answer}
 use Rattle.windows.specs.declared.reply.Answer.the-variants as answer
-use Rattle.zones.specs.Listed.{pick}
+use Rattle.zones.specs.Zone.{pick}
 
 -- what the cutting of the file's sheet comes to is the listing, the table having room (not 1) and the file being read (not 2 to 5)
 abbrev pub CutTo : List ℕ → ℕ → Listing → Type 0

@@ -7,7 +7,7 @@ mod zone;
 use libc::STDIN_FILENO;
 use windows::Answer;
 use windows::Counts;
-use zones::Zone;
+use windows::Piece;
 
 // The line of the counts. It answers whether all was written, as each function below does.
 fn print_counts(counts: Counts) -> bool {
@@ -21,7 +21,7 @@ fn print_counts(counts: Counts) -> bool {
 }
 
 // The lines of the first zones of a table, that many.
-fn print_zones(table: [Zone; 40], pieces: usize, clocks: usize) -> bool {
+fn print_zones(table: [Piece; 40], pieces: usize, clocks: usize) -> bool {
     let n = zone::at_most(pieces, 32);
     let mut k = 0;
     while k < n {
@@ -52,7 +52,7 @@ fn clocks_of(file: &[u8]) -> usize {
 
 // What Windows found in a file.
 fn print_listing(file: &[u8]) -> bool {
-    let reply = lent::cut(file, [Zone::BLANK; 40], 32);
+    let reply = tabled::windows(file, [Piece::BLANK; 40], 32);
     let answer = reply.answer;
     let table = reply.table;
     if let Answer::Listed(counts) = answer {

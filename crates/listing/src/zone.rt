@@ -3,7 +3,7 @@
 use crate::text;
 use expr::Bound;
 use expr::Expr;
-use zones::Zone;
+use windows::Piece;
 ghost use Prim.Native.Nat.{_<_, _≤_};
 
 // n, or most where n is more.
@@ -27,7 +27,7 @@ fn print_inequality(e: Expr) -> bool {
 }
 
 // The lines of a zone's inequalities.
-fn print_inequalities(z: Zone) -> bool {
+fn print_inequalities(z: Piece) -> bool {
     let n = at_most(z.count, 24);
     let mut i = 0;
     while i < n {
@@ -62,7 +62,7 @@ fn print_bound(i: usize, j: usize, b: Bound) -> bool {
 }
 
 // The lines of row i, up to the last clock.
-fn print_row(z: Zone, i: usize, last: usize) -> bool
+fn print_row(z: Piece, i: usize, last: usize) -> bool
     requires { ⌜ (i ≤ 4) × (last ≤ 4) ⌝ }
 {
     let mut j = 0;
@@ -77,7 +77,7 @@ fn print_row(z: Zone, i: usize, last: usize) -> bool
 }
 
 // The lines of all rows, up to the last clock.
-fn print_rows(z: Zone, last: usize) -> bool
+fn print_rows(z: Piece, last: usize) -> bool
     requires { ⌜ last ≤ 4 ⌝ }
 {
     let mut i = 0;
@@ -91,7 +91,7 @@ fn print_rows(z: Zone, last: usize) -> bool
 }
 
 // The lines of zone k of a sheet with so many clocks.
-pub(crate) fn print_zone(k: usize, z: Zone, clocks: usize) -> bool {
+pub(crate) fn print_zone(k: usize, z: Piece, clocks: usize) -> bool {
     let last = at_most(clocks, 4);
     text::word(b"piece")
         && text::number(k)

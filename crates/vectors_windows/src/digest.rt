@@ -6,7 +6,7 @@
 // stands as two: 1 if it is negative and 0 otherwise, and then the number x, or -1 - x if it is negative.
 use expr::Bound;
 use expr::Expr;
-use zones::Zone;
+use windows::Piece;
 ghost use Prim.Native.Nat.{_≤_};
 
 // The digest with a number.
@@ -39,7 +39,7 @@ fn with_bound(h: u64, b: Bound) -> u64 {
 }
 
 // The digest with the places for inequalities.
-fn with_inequalities(h: u64, z: Zone) -> u64 {
+fn with_inequalities(h: u64, z: Piece) -> u64 {
     let mut mix = h;
     for i in 0..24 {
         let e = z.ineqs[i];
@@ -49,7 +49,7 @@ fn with_inequalities(h: u64, z: Zone) -> u64 {
 }
 
 // The digest with the bounds.
-fn with_bounds(h: u64, z: Zone) -> u64 {
+fn with_bounds(h: u64, z: Piece) -> u64 {
     let mut mix = h;
     for i in 0..25 {
         let b = z.bounds[i];
@@ -59,13 +59,13 @@ fn with_bounds(h: u64, z: Zone) -> u64 {
 }
 
 // The digest with a place of the table.
-fn with_zone(h: u64, z: Zone) -> u64 {
+fn with_zone(h: u64, z: Piece) -> u64 {
     let head = mixed(with_mark(h, z.used), z.count as u64);
     with_bounds(with_inequalities(head, z), z)
 }
 
 // The digest of the first n places of a table.
-pub(crate) fn digest(table: [Zone; 40], n: usize) -> u64
+pub(crate) fn digest(table: [Piece; 40], n: usize) -> u64
     requires { ⌜ n ≤ 40 ⌝ }
 {
     let mut mix = 0;

@@ -9,11 +9,11 @@ use expr::Expr;
 use libc::STDOUT_FILENO;
 use windows::Answer;
 use windows::Counts;
-use zones::Zone;
+use windows::Piece;
 ghost use Prim.Native.Nat.{_<_, _≤_};
 
 // A table with no blank place.
-fn filled() -> [Zone; 40] {
+fn filled() -> [Piece; 40] {
     let e = Expr {
         constant: -7,
         p: 5,
@@ -25,7 +25,7 @@ fn filled() -> [Zone; 40] {
         strict: true,
         expr: e,
     };
-    let z = Zone {
+    let z = Piece {
         used: true,
         count: 24,
         ineqs: [e; 24],
@@ -78,7 +78,7 @@ fn print_answer(answer: Answer) {
 fn print_line(file: &[u8], n: usize)
     requires { ⌜ n ≤ 40 ⌝ }
 {
-    let reply = lent::cut(file, filled(), n);
+    let reply = tabled::windows(file, filled(), n);
     let answer = reply.answer;
     let table = reply.table;
     print_number(file.len());

@@ -1,19 +1,34 @@
 -- The items of a table, as a list that is filled from its front.
 use mathlib.Core.List.{List, [], _∷_, _++_}
 use mathlib.Core.Path.{_≡_, refl, sym, _∙_, ap, subst}
-use Prim.Native.Nat.{ℕ, zero, suc, _+_, _≤_, _<_}
+use Prim.Native.Nat.{ℕ, zero, suc, _+_, _≤_, _<_, min}
 use native.Mathlib.Nat.{not-suc-le-zero, le-of-suc-le-suc, le-refl, add-zero, add-suc, le-of-lt}
+use native.Mathlib.Omega.{arith}
+use borrow.Author.Tests.{lt-ltb, le-ltb}
 use lib.ListN.{length, getD, set, drop, length-append, length-set, drop-of-length-le}
-use Rattle.zones.specs.Listed.{blankZone}
-use Rattle.zones.specs.declared.zone.Zone.{Zone}
 use Rattle.windows.specs.declared.reply.Worked.{Worked}
-use Rattle.windows.specs.Reply.{itemOf, itemsOf}
+use Rattle.zones.specs.Zone.{blankZone}
+use Rattle.zones.specs.declared.zone.Zone.{Zone}
+use Rattle.windows.specs.declared.table.Piece.{Piece}
+use Rattle.windows.specs.Reply.{pieceIn, blankPiece}
+use Rattle.windows.specs.Table.{itemOf, itemsOf, items-length}
 
 -- an element that the list has does not depend on the default
-pub any-default : {A : Type 0} (l : List A) (i : ℕ) (d e : A) → i < length l → getD l i d ≡ getD l i e
+any-default : {A : Type 0} (l : List A) (i : ℕ) (d e : A) → i < length l → getD l i d ≡ getD l i e
 any-default [] i d e h = absurd (not-suc-le-zero h)
 any-default (x ∷ l) zero d e h = refl
 any-default (x ∷ l) (suc i) d e h = any-default l i d e (le-of-suc-le-suc h)
+
+-- the two cases of an item
+module _ (work : Worked) (n i : ℕ) where
+  pub item-in : (d : Zone) (p : Piece) → n ≡ min (work .pieces) 32 → length (work .zones) ≡ 32 → i < n → p ≡ pieceIn (getD (work .zones) i d) → p ≡ itemOf work i
+  unfolding itemOf
+  item-in d p e l h k =
+      rw (lt-ltb i (min (work .pieces) 32) (omega arith)) (k ∙ ap (λ (z : Zone). pieceIn z) (any-default (work .zones) i d blankZone (omega arith)))
+
+  pub item-past : n ≡ min (work .pieces) 32 → n ≤ i → blankPiece ≡ itemOf work i
+  unfolding itemOf
+  item-past e h = rw (le-ltb i (min (work .pieces) 32) (omega arith)) refl
 
 -- the list from i on begins with its element i
 drop-next : {A : Type 0} (l : List A) (i : ℕ) (d : A) → i < length l → drop i l ≡ getD l i d ∷ drop (suc i) l
@@ -32,34 +47,29 @@ set-after (z ∷ l) t x y = ap (λ k. z ∷ k) (set-after l t x y)
 one-more : (i : ℕ) → i + 1 ≡ suc i
 one-more i = add-suc i zero ∙ ap suc (add-zero i)
 
-pub items-length : (work : Worked) (n : ℕ) → length (itemsOf work n) ≡ n
-unfolding itemsOf
-items-length work zero = refl
-items-length work (suc n) = length-append (itemsOf work n) _ ∙ one-more (length (itemsOf work n)) ∙ ap suc (items-length work n)
-
 -- the table when i items are stored: those, and behind them what was there
-unfoldable pub filled : Worked → List Zone → ℕ → List Zone
+unfoldable pub filled : Worked → List Piece → ℕ → List Piece
 filled work ys i = itemsOf work i ++ drop i ys
 
-pub filled-none : (work : Worked) (ys : List Zone) → filled work ys 0 ≡ ys
+pub filled-none : (work : Worked) (ys : List Piece) → filled work ys 0 ≡ ys
 unfolding filled itemsOf
 filled-none work ys = refl
 
-pub filled-all : (work : Worked) (ys : List Zone) (i : ℕ) → i ≡ length ys → filled work ys i ≡ itemsOf work (length ys)
+pub filled-all : (work : Worked) (ys : List Piece) (i : ℕ) → i ≡ length ys → filled work ys i ≡ itemsOf work (length ys)
 unfolding filled
 filled-all work ys i e =
-    ap (λ (k : List Zone). itemsOf work i ++ k) (drop-of-length-le ys (subst (λ (k : ℕ). length ys ≤ k) (sym e) (le-refl (length ys))))
+    ap (λ (k : List Piece). itemsOf work i ++ k) (drop-of-length-le ys (subst (λ (k : ℕ). length ys ≤ k) (sym e) (le-refl (length ys))))
     ∙ ++-nil (itemsOf work i) ∙ ap (itemsOf work) e
 
-pub filled-next : (work : Worked) (ys : List Zone) (i : ℕ) → i < length ys → set (filled work ys i) i (itemOf work i) ≡ filled work ys (i + 1)
+pub filled-next : (work : Worked) (ys : List Piece) (i : ℕ) → i < length ys → set (filled work ys i) i (itemOf work i) ≡ filled work ys (i + 1)
 unfolding filled itemsOf
 filled-next work ys i h =
-    ap (λ (k : List Zone). set (itemsOf work i ++ k) i (itemOf work i)) (drop-next ys i blankZone h)
-    ∙ ap (λ (k : ℕ). set (itemsOf work i ++ (getD ys i blankZone ∷ drop (suc i) ys)) k (itemOf work i)) (sym (items-length work i))
-    ∙ set-after (itemsOf work i) (drop (suc i) ys) (getD ys i blankZone) (itemOf work i)
+    ap (λ (k : List Piece). set (itemsOf work i ++ k) i (itemOf work i)) (drop-next ys i blankPiece h)
+    ∙ ap (λ (k : ℕ). set (itemsOf work i ++ (getD ys i blankPiece ∷ drop (suc i) ys)) k (itemOf work i)) (sym (items-length work i))
+    ∙ set-after (itemsOf work i) (drop (suc i) ys) (getD ys i blankPiece) (itemOf work i)
     ∙ ap (λ (k : ℕ). itemsOf work k ++ drop k ys) (sym (one-more i))
 
-pub filled-length : (work : Worked) (ys : List Zone) (i : ℕ) → i ≤ length ys → length (filled work ys i) ≡ length ys
+pub filled-length : (work : Worked) (ys : List Piece) (i : ℕ) → i ≤ length ys → length (filled work ys i) ≡ length ys
 filled-length work ys zero h = ap length (filled-none work ys)
 filled-length work ys (suc i) h =
     ap (λ (k : ℕ). length (filled work ys k)) (sym (one-more i)) ∙ ap length (sym (filled-next work ys i h))

@@ -24,15 +24,13 @@ use Rattle.integer.specs.Parts.{p, n, ≤-in}
 use Rattle.integer.specs.Split.{split, split-all}
 use Rattle.sheet.specs.declared.Sheet.{Sheet}
 use Rattle.sheet.specs.WellFormed.{WellFormed, RangeRight}
-use Rattle.windows.specs.Reply.{blankWork, refusedBy, listingWork, sheetWork}
-use Rattle.windows.specs.Work.{listedC}
-use Rattle.windows.specs.declared.reply.Answer.the-variants as answer
-use Rattle.windows.specs.declared.reply.Worked.{Worked}
-use Rattle.zones.specs.Coded.{coded, zonesIn}
-use Rattle.zones.specs.CodedRead.{keptC, kept-in}
-use Rattle.zones.specs.CodedWalk.{zones-coded}
-use Rattle.zones.specs.Listed.{pick}
-use Rattle.zones.specs.Walked.{zonesAll}
+use Rattle.answers.specs.Numbers.{numbered, windowsAs, countsOf, noCounts}
+use Rattle.windows.specs.Reply.{listingReply, sheetReply}
+use Rattle.windows.specs.Work.{Shown, shownOf, refusedBy, listedC}
+use Rattle.coded.specs.Coded.{coded, zonesIn}
+use Rattle.coded.specs.CodedRead.{keptC, kept-in}
+use Rattle.coded.specs.CodedWalk.{zones-coded}
+use Rattle.coded.specs.Walked.{zonesAll}
 use Rattle.zones.specs.declared.zone.Zones.{Zones}
 
 -- ---- counts
@@ -89,12 +87,25 @@ some-number n (inl e) = omega arith
 some-number n (inr (inl e)) = omega arith
 some-number n (inr (inr e)) = omega arith
 
-listing-coded : (s : Sheet) (o : Listing) → ((n k : ℕ) → o ≡ refused n k → 0 < n) → listedC (s .ranges) (coded (s .moves) o) ≡ listingWork s o
-unfolding listedC coded listingWork
-listing-coded s (listed zs) h = rw (kept-in (s .ranges) zs, count-all (rangeList (s .ranges))) refl
-listing-coded s (refused n k) h = rw (lt-ltb 0 n (h n k refl)) refl
+refused-coded : (n k : ℕ) → SevenToNine n → windowsAs (refusedBy n k) ≡ numbered n k
+refused-coded n k (inl e) = rw e refl
+refused-coded n k (inr (inl e)) = rw e refl
+refused-coded n k (inr (inr e)) = rw e refl
 
-pub work-coded : (s : Sheet) → WellFormed s → (zs : Zones) → zs ≡ zonesAll s → listedC (s .ranges) zs ≡ sheetWork s
-unfolding sheetWork
+none-counted : (n k : ℕ) → SevenToNine n → countsOf (refusedBy n k) ≡ noCounts
+none-counted n k (inl e) = rw e refl
+none-counted n k (inr (inl e)) = rw e refl
+none-counted n k (inr (inr e)) = rw e refl
+
+listing-coded : (s : Sheet) (o : Listing) → ((n k : ℕ) → o ≡ refused n k → SevenToNine n)
+    → listedC (s .ranges) (coded (s .moves) o) ≡ shownOf (listingReply s o)
+unfolding listedC coded listingReply zonesIn
+listing-coded s (listed zs) h = rw (kept-in (s .ranges) zs, count-all (rangeList (s .ranges))) refl
+listing-coded s (refused n k) h =
+    let g = h n k refl in
+    rw (lt-ltb 0 n (some-number n g), refused-coded n k g, none-counted n k g) refl
+
+pub work-coded : (s : Sheet) → WellFormed s → (zs : Zones) → zs ≡ zonesAll s → listedC (s .ranges) zs ≡ shownOf (sheetReply s)
+unfolding sheetReply
 work-coded s f zs e =
-    ap (listedC (s .ranges)) (e ∙ zones-coded s f) ∙ listing-coded s (zonesOf s) (λ n k q. some-number n (zones-numbered s n k q))
+    ap (listedC (s .ranges)) (e ∙ zones-coded s f) ∙ listing-coded s (zonesOf s) (λ n k q. zones-numbered s n k q)

@@ -1,81 +1,79 @@
 -- What Windows replies, and what its table has then, for every file and every table (paper 01, "The lent table of pieces", "When no piece is
--- given"): refusal 1, then 2 to 5, the whole file for each, then 7, 8 or 9, the first met in the order of cutting; else the zones in order, kept
--- and cut. With a refusal the table is all blank.
-use mathlib.Core.List.{List, [], _∷_, _++_}
-use Prim.Native.Nat.{ℕ, zero, suc}
+-- given"), in the paper's numbers: refusal 1, then 2 to 5, the whole file for each, then 7, 8 or 9, the first met in the order of cutting; else
+-- the zones in order, kept and cut. With a refusal the table is all blank.
+use mathlib.Core.List.{List, [], _++_, map}
+use mathlib.Core.Bool.{true, false, cond}
+use Prim.Native.Nat.{ℕ, _-_}
 use lib.Dec.{ltb, eqb}
-use lib.ListN.{length, getD, replicate}
+use lib.ListN.{length, replicate}
+use Rattle.answers.specs.Numbers.{Numbered, numbered, windowsAs, countsOf, noCounts}
+use Rattle.answers.specs.declared.windows.Answer.{Answer}
+use Rattle.answers.specs.declared.windows.Counts.{Counts}
+use Rattle.coded.specs.Coded.{zoneOf}
+use Rattle.cutting.specs.Cutting.{Zone, Listing, listed, refused, zonesOf}
 use Rattle.cutting.specs.Kept.{keptOf, cutOf}
-use Rattle.cutting.specs.Cutting.{Listing, listed, refused, zonesOf}
 use Rattle.expr.specs.Three.{rangeList}
-use Rattle.contents.specs.declared.Refusal.{Refusal}
-use Rattle.contents.specs.declared.Refusal.the-variants.{Nothing, Size, Contents, Body, Route}
-use Rattle.contents.specs.Refusals.{numberOf, placeOf}
-use Rattle.sheet.specs.declared.Reading.{Reading}
+use Rattle.sheet.specs.File.{Read, readOf}
 use Rattle.sheet.specs.declared.Sheet.{Sheet}
-use Rattle.sheet.specs.File.{readOf}
-use Rattle.windows.specs.declared.reply.Answer.{Answer}
-use Rattle.windows.specs.declared.reply.Answer.the-variants as answer
-use Rattle.windows.specs.declared.reply.Worked.{Worked}
-use Rattle.zones.specs.Coded.{zonesIn}
-use Rattle.zones.specs.Listed.{pick, blankZone}
-use Rattle.zones.specs.declared.zone.Zone.{Zone}
+use Rattle.windows.specs.declared.table.Piece.{Piece}
+use Rattle.zones.specs.Zone.{zeroBound, zeroExpr}
+use Rattle.zones.specs.declared.zone.Zone.{Zone as CodeZone}
 
--- the paper's number of an answer: 0 where the zones are listed, else the refusal
-abbrev pub answerNumber : Answer → ℕ
-answerNumber (answer.Listed c) = 0
-answerNumber answer.Small = 1
-answerNumber (answer.Refused r) = numberOf r
-answerNumber (answer.Zones visit) = 7
-answerNumber (answer.Inequalities visit) = 8
-answerNumber (answer.Numbers visit) = 9
+-- a reply: the answer's number and place; how many pieces, kept and cut; the zones (paper: pieces) in order
+pub record WindowsReply : Type 0 where
+  pub answer : Numbered
+  pub counts : Counts
+  pub zones : List Zone
 
--- its place: the refusal's; for 7 to 9 the visit (moves made)
-abbrev pub answerPlace : Answer → ℕ
-answerPlace (answer.Listed c) = 0
-answerPlace answer.Small = 0
-answerPlace (answer.Refused r) = placeOf r
-answerPlace (answer.Zones visit) = visit
-answerPlace (answer.Inequalities visit) = visit
-answerPlace (answer.Numbers visit) = visit
+-- what the call itself returns of it: the answer's number and place, and the counts
+pub record Answered : Type 0 where
+  pub answer : Numbered
+  pub counts : Counts
 
--- refusal 7, 8 or 9 of the cutting
-abbrev pub refusedBy : ℕ → ℕ → Answer
-refusedBy n visit = pick (eqb n 7) (answer.Zones visit) (pick (eqb n 8) (answer.Inequalities visit) (answer.Numbers visit))
+abbrev pub answeredOf : WindowsReply → Answered
+answeredOf r = record { answer = r .answer; counts = r .counts }
 
--- an answer without zones
-unfoldable pub blankWork : Answer → Worked
-blankWork a = record { answer = a; zones = replicate 32 blankZone }
+-- the code's enum for it
+abbrev pub answeredAs : Answer → Answered
+answeredAs a = record { answer = windowsAs a; counts = countsOf a }
+
+-- with a refusal there are no zones, and nothing is counted
+abbrev pub refusedReply : Numbered → WindowsReply
+refusedReply a = record { answer = a; counts = noCounts; zones = [] }
 
 -- the zones that the cutting lists, kept and cut; or its refusal
-unfoldable pub listingWork : Sheet → Listing → Worked
-listingWork s (listed zs) =
+unfoldable pub listingReply : Sheet → Listing → WindowsReply
+listingReply s (listed zs) =
     record {
-      answer = answer.Listed (record { pieces = length zs; kept = keptOf (rangeList (s .ranges)) zs; cut = cutOf (rangeList (s .ranges)) zs });
-      zones = zonesIn zs;
+      answer = numbered 0 0;
+      counts = record { pieces = length zs; kept = keptOf (rangeList (s .ranges)) zs; cut = cutOf (rangeList (s .ranges)) zs };
+      zones = zs;
     }
-listingWork s (refused n visit) = blankWork (refusedBy n visit)
+listingReply s (refused n visit) = refusedReply (numbered n visit)
 
-unfoldable pub sheetWork : Sheet → Worked
-sheetWork s = listingWork s (zonesOf s)
+unfoldable pub sheetReply : Sheet → WindowsReply
+sheetReply s = listingReply s (zonesOf s)
 
 -- refusals 2 to 5, else what follows them
-unfoldable pub readingWork : Refusal → Sheet → Worked
-readingWork Nothing s = sheetWork s
-readingWork Size s = blankWork (answer.Refused Size)
-readingWork (Contents at) s = blankWork (answer.Refused (Contents at))
-readingWork (Body at) s = blankWork (answer.Refused (Body at))
-readingWork (Route at) s = blankWork (answer.Refused (Route at))
+unfoldable pub readReply : Read → WindowsReply
+readReply r = cond (eqb (r .answer .number) 0) (sheetReply (r .sheet)) (refusedReply (r .answer))
 
 -- the whole reply, for a table of so many places
-unfoldable pub workOf : List ℕ → ℕ → Worked
-workOf file places = pick (ltb places 32) (blankWork answer.Small) (readingWork (readOf file .refusal) (readOf file .sheet))
+unfoldable pub replyOf : List ℕ → ℕ → WindowsReply
+replyOf file places = cond (ltb places 32) (refusedReply (numbered 1 0)) (readReply (readOf file))
 
--- the item at place i of the table: the zone worked out for it, or a blank one
-unfoldable pub itemOf : Worked → ℕ → Zone
-itemOf work i = getD (work .zones) i blankZone
+-- ---- the table
+-- the place of a zone: in use, with its inequalities and its matrix as the code's records
+abbrev pub pieceIn : CodeZone → Piece
+pieceIn z = record { used = true; count = z .count; ineqs = z .ineqs; bounds = z .bounds }
 
--- the items at the first n places
-unfoldable pub itemsOf : Worked → ℕ → List Zone
-itemsOf work zero = []
-itemsOf work (suc n) = itemsOf work n ++ (itemOf work n ∷ [])
+abbrev pub pieceOf : Zone → Piece
+pieceOf z = pieceIn (zoneOf z)
+
+-- a place that is not used: no inequalities, all entries zero, not strict
+abbrev pub blankPiece : Piece
+blankPiece = record { used = false; count = 0; ineqs = replicate 24 zeroExpr; bounds = replicate 25 zeroBound }
+
+-- a table of n places then: the pieces in order, and the rest of it blank
+unfoldable pub tableOf : WindowsReply → ℕ → List Piece
+tableOf reply n = map pieceOf (reply .zones) ++ replicate (n - length (reply .zones)) blankPiece

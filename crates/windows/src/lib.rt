@@ -1,24 +1,19 @@
 // Windows: the ranges of a sheet's parameters (paper: allowances) cut into zones (paper: pieces), listed in a table that the caller lends.
 //
-// The contract of `windows` is an equation with `workOf` of specs/Reply, for every file and every table.
-mod matrix;
+// The contract of `windows` is an equation with `replyOf` and `tableOf` of specs/Reply, for every file and every table.
 mod reply;
-mod route;
 mod table;
 
-pub use reply::Answer;
-pub use reply::Counts;
-pub use reply::number;
-pub use reply::place;
-use zones::Zone;
+use answers::windows::Answer;
+pub use table::Piece;
 ghost use mathlib.Core.Path.{_≡_};
 ghost use lib.ListN.{length};
-ghost use Rattle.windows.specs.Reply.{workOf, itemsOf};
+ghost use Rattle.windows.specs.Reply.{answeredAs, answeredOf, replyOf, tableOf};
 
-// What Windows answers to a sheet file; the table has the zones in order, blank past them, and with a refusal it is all blank.
-pub fn windows(file: &[u8], table: &mut [Zone]) -> Answer
-    ensures { λ r. ⌜ r ≡ workOf (now (file .entry)) (length (now (table .entry))) .answer ⌝ }
-    ensures { λ _. ⌜ now (table .exit) ≡ itemsOf (workOf (now (file .entry)) (length (now (table .entry)))) (length (now (table .entry))) ⌝ }
+// What Windows answers to a sheet file; the table has the pieces in order, the rest of it blank, and with a refusal it is all blank.
+pub fn windows(file: &[u8], table: &mut [Piece]) -> Answer
+    ensures { λ r. ⌜ answeredAs r ≡ answeredOf (replyOf (now (file .entry)) (length (now (table .entry)))) ⌝ }
+    ensures { λ _. ⌜ now (table .exit) ≡ tableOf (replyOf (now (file .entry)) (length (now (table .entry)))) (length (now (table .entry))) ⌝ }
 {
     let work = reply::work_for(file, table.len());
     table::store(table, work);

@@ -14,7 +14,7 @@ use Rattle.contents.specs.declared.Refusal.the-variants.{Nothing, Size, Content
 use Rattle.contents.specs.Refusals.{numberOf}
 use Rattle.sheet.specs.declared.Sheet.{Sheet}
 use Rattle.sheet.specs.File.{readOf}
-use Rattle.zones.specs.Listed.{pick}
+use Rattle.zones.specs.Zone.{pick}
 use Rattle.windows.specs.Reply.{answerNumber, blankWork, listingWork, sheetWork, readingWork, workOf}
 use Rattle.windows.specs.declared.reply.Answer.{Answer}
 use Rattle.windows.specs.declared.reply.Answer.the-variants as answer

@@ -1,6 +1,6 @@
 // How many pieces Windows lists, for the benchmark, which calls it from outside.
 use windows::Answer;
-use zones::Zone;
+use windows::Piece;
 ghost use mathlib.Core.Path.{_≡_};
 ghost use lib.IntN.{pos, negℤ};
 ghost use Prim.Native.Nat.{_≤_};
@@ -54,7 +54,7 @@ fn count(answer: Answer) -> i64
 pub extern "C" fn windows_count(file: &[u8]) -> i64
     ensures { λ r. ⌜ r ≡ countOf (workOf (now (file .entry)) 32 .answer) ⌝ }
 {
-    let reply = lent::cut(file, [Zone::BLANK; 40], 32);
+    let reply = tabled::windows(file, [Piece::BLANK; 40], 32);
     let answer = reply.answer;
     count(answer)
 }

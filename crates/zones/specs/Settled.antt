@@ -15,7 +15,7 @@ use Rattle.expr.specs.declared.number.Expr.{Expr}
 use Rattle.expr.specs.declared.number.Inequality.{Inequality}
 use Rattle.expr.specs.declared.number.Inequality.the-variants.{Is, Wide}
 use Rattle.expr.specs.declared.range.Ranges.{Ranges}
-use Rattle.zones.specs.Listed.{pick, zeroExpr}
+use Rattle.zones.specs.Zone.{pick, zeroExpr}
 use Rattle.zones.specs.declared.settle.Verdict.{Verdict}
 use Rattle.zones.specs.declared.zone.Zone.{Zone}
 

@@ -1,11 +1,11 @@
-// Zones (paper: pieces) by value, and one guard (paper: limit) over a list of them: the cutting's rules for one limit.
-mod cut;
-mod part;
-mod rule;
+// Zones (paper: pieces) by value, and a test on one: settled, or what is left of the zone on each side of it.
 mod settle;
 mod zone;
 
-pub use cut::cut_by;
+pub use settle::Verdict;
 pub use settle::held;
+pub use settle::settled;
+pub use settle::with_opposite;
 pub use zone::Zone;
 pub use zone::Zones;
+pub use zone::with_inequality;

@@ -1,11 +1,12 @@
 // A test on a zone: settled if all or none of its valuations (paper: settings) satisfy it; otherwise it splits the zone.
+use crate::zone;
 use crate::zone::Zone;
 use expr::Expr;
 use expr::Inequality;
 use expr::Ranges;
-use expr::Test;
 use search::Solution;
 use search::System;
+use expr::Test;
 ghost use mathlib.Core.Path.{_≡_};
 ghost use mathlib.Core.List.{[], _∷_, _++_, map};
 ghost use lib.ListN.{take};
@@ -13,6 +14,7 @@ ghost use Prim.Native.Nat.{min};
 ghost use Rattle.search.specs.System.{exprs};
 ghost use Rattle.expr.specs.Three.{affine, rangeList};
 ghost use Rattle.search.specs.Valuations.{count};
+ghost use Rattle.zones.specs.Zone.{moreC};
 ghost use Rattle.zones.specs.Settled.{oppositeC, neverC, onC, settledC};
 
 // The verdict on a test: no (0), yes (1), a split by the test (3), a 25th inequality (8), a wide number (9).
@@ -22,7 +24,7 @@ pub struct Verdict {
 }
 
 // The opposite of e ≥ 0.
-pub(crate) fn opposite(e: Expr) -> Expr
+fn opposite(e: Expr) -> Expr
     ensures { λ r. ⌜ r ≡ oppositeC e ⌝ }
 {
     let judged = e.opposite();
@@ -33,7 +35,7 @@ pub(crate) fn opposite(e: Expr) -> Expr
 }
 
 // n, or most where n is more.
-pub(crate) fn at_most(n: usize, most: usize) -> usize
+fn at_most(n: usize, most: usize) -> usize
     ensures { λ r. ⌜ r ≡ min n most ⌝ }
 {
     if n < most {
@@ -93,7 +95,7 @@ fn on(b: Ranges, zone: Zone, e: Expr) -> Verdict
 }
 
 // The verdict on a test.
-pub(crate) fn settled(b: Ranges, zone: Zone, test: Test) -> Verdict
+pub fn settled(b: Ranges, zone: Zone, test: Test) -> Verdict
     ensures { λ r. ⌜ r ≡ settledC b zone test ⌝ }
 {
     match test {
@@ -111,4 +113,11 @@ pub(crate) fn settled(b: Ranges, zone: Zone, test: Test) -> Verdict
             test: Expr::ZERO,
         },
     }
+}
+
+// The zone with the opposite of e ≥ 0 as one more inequality; one with 24 stays as it is.
+pub fn with_opposite(zone: Zone, e: Expr) -> Zone
+    ensures { λ r. ⌜ r ≡ moreC zone (oppositeC e) ⌝ }
+{
+    zone::with_inequality(zone, opposite(e))
 }

@@ -2,13 +2,11 @@
 use expr::Bound;
 use expr::Expr;
 ghost use mathlib.Core.Path.{_≡_};
-ghost use Rattle.zones.specs.Listed.{noneAt, refusedC, listC, plusC};
-ghost use Prim.Native.Nat.{_<_};
+ghost use Rattle.zones.specs.Zone.{moreC};
 
-// A zone: whether its place is in use; its inequalities, the first `count` of the list, each an expression that is at least 0; and its
-// matrix, five rows of five: entry 5i + j bounds clock i - clock j. Places that are not in use are zero.
+// A zone: its inequalities, the first `count` of the list, each an expression that is at least 0, zeros past them; and its matrix, five rows
+// of five: entry 5i + j bounds clock i - clock j.
 pub struct Zone {
-    pub used: bool,
     pub count: usize,
     pub ineqs: [Expr; 24],
     pub bounds: [Bound; 25],
@@ -23,67 +21,24 @@ pub struct Zones {
 }
 
 impl Zone {
-    // A place that is not in use.
+    // No inequalities, all entries zero, not strict.
     pub const BLANK: Zone = Zone {
-        used: false,
         count: 0,
         ineqs: [Expr::ZERO; 24],
         bounds: [Bound::ZERO; 25],
     };
 }
 
-// No zones yet, at a visit.
-pub(crate) fn none_at(visit: usize) -> Zones
-    ensures { λ r. ⌜ r ≡ noneAt visit ⌝ }
+// The zone with one more inequality; one with 24 stays as it is.
+pub fn with_inequality(zone: Zone, e: Expr) -> Zone
+    ensures { λ r. ⌜ r ≡ moreC zone e ⌝ }
 {
-    Zones {
-        refusal: 0,
-        visit,
-        count: 0,
-        list: [Zone::BLANK; 32],
-    }
-}
-
-// Refused by a number, unless it was refused before.
-pub(crate) fn refused(out: Zones, number: usize) -> Zones
-    ensures { λ r. ⌜ r ≡ refusedC number out ⌝ }
-{
-    if out.refusal == 0 {
-        return Zones {
-            refusal: number,
-            visit: out.visit,
-            count: 0,
-            list: [Zone::BLANK; 32],
-        };
-    }
-    out
-}
-
-// One more zone, unless it would be the 33rd (refusal 7).
-pub(crate) fn listed(out: Zones, zone: Zone) -> Zones
-    ensures { λ r. ⌜ r ≡ listC zone out ⌝ }
-{
-    if 0 < out.refusal {
-        return out;
-    }
-    let n = out.count;
-    if n < 32 {
-        let mut more = out;
-        more.list[n] = zone;
+    let n = zone.count;
+    if n < 24 {
+        let mut more = zone;
+        more.ineqs[n] = e;
         more.count = n + 1;
         return more;
     }
-    refused(out, 7)
-}
-
-// The zone with one more inequality.
-pub(crate) fn with_inequality(zone: Zone, e: Expr) -> Zone
-    requires { ⌜ zone .count < 24 ⌝ }
-    ensures { λ r. ⌜ r ≡ plusC zone e ⌝ }
-{
-    let n = zone.count;
-    let mut more = zone;
-    more.ineqs[n] = e;
-    more.count = n + 1;
-    more
+    zone
 }

@@ -1,5 +1,5 @@
 -- `windows::windows` meets its contract: a walk of its MIR, by hand. The work is made by `work_for`, the table is given to `store` for good (so at exit only its last list is known), and the answer is read out of the work.
--- All that is known of the two callees is that each meets its contract: `workOf` and `itemsOf` stay shut.
+-- All that is known of the two callees is that each meets its contract: `replyOf` and `itemsOf` stay shut.
 -- Assumes nothing.
 use mathlib.Core.Path.{_≡_, refl, sym, _∙_, ap, subst}
 use mathlib.Core.List.{[], _∷_, List}
@@ -40,15 +40,16 @@ use denote.Triple.Spec.{Meets, tripleOf}
 use denote.Triple.Table.{entered, cited}
 use denote.Triple.Walked.{says, Stays, stay-none-slice, gave-slice, walkOf, AllGo, goes-none-slice, goes-gave-slice, Walks, ends-at, walked, walk-meets}
 use denote.Exit.{yes}
-use Rattle.zones.specs.declared.zone.Zone.{Zone}
-use Rattle.zones.proofs.zone.Zone as Z
-use Rattle.windows.specs.Reply.{workOf, itemsOf}
+use Rattle.windows.specs.declared.table.Piece.{Piece}
+use Rattle.windows.proofs.table.Piece as Z
+use Rattle.windows.specs.Reply.{replyOf}
+use Rattle.windows.specs.Work.{shown, shownOf}
+use Rattle.windows.specs.Table.{itemsOf, items-length, work-table, work-answer}
 use Rattle.windows.specs.declared.reply.Worked.{Worked}
-use Rattle.windows.proofs.reply.Answer as N
-use Rattle.windows.proofs.reply.Answer.Laws as N′
+use Rattle.answers.proofs.windows.Answer as N
+use Rattle.answers.proofs.windows.Answer.Laws as N′
 use Rattle.windows.proofs.reply.Worked as K
 use Rattle.windows.proofs.reply.Worked.Laws as K′
-use Rattle.windows.proofs.Items.{items-length}
 use Rattle.windows.proofs.reply.work_for as worked
 use Rattle.windows.proofs.reply.work_for.Symbol as work-def
 use Rattle.windows.proofs.reply.work_for.Symbol.{name as #work-for}
@@ -69,7 +70,7 @@ abbrev Bytes : Type 0
 Bytes = RefT (List ℕ)
 
 abbrev Table : Type 0
-Table = RefT (List Zone)
+Table = RefT (List Piece)
 
 abbrev Arg : Type 0
 Arg = Bytes × (Table × Unit {0})
@@ -91,8 +92,8 @@ module _ {M : Type 1} (𝓤 : URA M) (H : Heap 𝓤) (A : Atoms 𝓤) (at-mem : 
   Store = tripleOf 𝓤 H A stored.signature (stored.spec 𝓤 H A at-mem run)
 
   -- of `work_for`'s `ensured`, the clause alone
-  work-of : (κ : Lft) (f : Bytes) (n : ℕ) (r : Worked) → ent 𝓤 (ensured 𝓤 H A worked.ended (worked.clauses 𝓤 H A at-mem run) (κ, tt) (f, (n, tt)) tt r) (fact 𝓤 (r ≡ workOf (f .now) n))
-  work-of κ f n r = exE 𝓤 _ (λ ws. snd∗ 𝓤 (sem 𝓤 H A (lasts worked.ended (κ, tt) (f, (n, tt)) ws)) (fact 𝓤 (r ≡ workOf (f .now) n)))
+  work-of : (κ : Lft) (f : Bytes) (n : ℕ) (r : Worked) → ent 𝓤 (ensured 𝓤 H A worked.ended (worked.clauses 𝓤 H A at-mem run) (κ, tt) (f, (n, tt)) tt r) (fact 𝓤 (shown r ≡ shownOf (replyOf (f .now) n)))
+  work-of κ f n r = exE 𝓤 _ (λ ws. snd∗ 𝓤 (sem 𝓤 H A (lasts worked.ended (κ, tt) (f, (n, tt)) ws)) (fact 𝓤 (shown r ≡ shownOf (replyOf (f .now) n))))
 
 module _ {M : Type 1} (𝓤 : URA M) (H : Heap 𝓤) (A : Atoms 𝓤) (W : Given 𝓤 H A) (at-mem : Memory → SProp 𝓤) (run : Routine → Fun 𝓤)
     (κ₀ κ₁ : Lft) (q₀ q₁ : Share) (f : Bytes) (t : Table) (f-room : Room u8 (length (f .now))) (t-room : Room R (length (t .now))) where
@@ -128,12 +129,12 @@ module _ {M : Type 1} (𝓤 : URA M) (H : Heap 𝓤) (A : Atoms 𝓤) (W : Given
   abbrev answer-val : Worked → Val
   answer-val r = EL.val N.the-type N′.the-laws (r .answer)
 
-  exits : (r : Worked) → r ≡ workOf (f .now) n → Is N.the-row (r .answer) (answer-val r ∷ [])
+  exits : (r : Worked) → shown r ≡ shownOf (replyOf (f .now) n) → Is N.the-row (r .answer) (answer-val r ∷ [])
       → ent 𝓤 (⋆ 𝓤 H A (‵ (flft κ₀ q₀) ∷ ‵ (flft κ₁ q₁) ∷ ‵ File ∷ ‵ (finally R (t .name) (itemsOf r n)) ∷ [])) (Post (answer-val r))
   exits r e is-answer =
       qed W (‵ (flft κ₀ q₀) ∷ ‵ (flft κ₁ q₁) ∷ ‵ File ∷ ‵ (finally R (t .name) (itemsOf r n)) ∷ []) ∵
       suffices ! _ (ends-at 𝓤 H A windows′.ended stayed (windows′.clauses 𝓤 H A at-mem run) W bound (answer-val r) (r .answer) (tt, (itemsOf r n, tt)) (tt, (items-length r n, tt))) $
-      says-both ! (ap (λ (w : Worked). w .answer) e) (ap (λ (w : Worked). itemsOf w n) e) $
+      says-both ! (work-answer (replyOf (f .now) n) r e) (work-table (f .now) n r e) $
       nothing ! $ move ! (2 ∷ 0 ∷ []) $ join ! $ move ! (1 ∷ 0 ∷ []) $ join ! $ nothing ! $ move ! (3 ∷ 0 ∷ []) $ fjoin ! $ move ! (2 ∷ 0 ∷ []) $ fjoin ! $ move ! (1 ∷ 0 ∷ []) $ frame ! $ frame ! $
       owned ! N.the-row (Is N.the-row) ((EL.makes N.the-type N′.the-plain) 𝓤 H A) (r .answer) _ is-answer $ done !
 
@@ -169,7 +170,7 @@ module _ {M : Type 1} (𝓤 : URA M) (H : Heap 𝓤) (A : Atoms 𝓤) (W : Given
         use1 W (‵ File ⊛ ‵ File) (shr-slice-copy 𝓤 H A W (named 0) κ₀ u8 .twice f (fv ∷ [])) $ split ! $ move ! (2 ∷ 0 ∷ []) $ use2 W (raw (WorkFor 𝓤 H A at-mem run .pre to-work)) goes-work $
         calls-at ! fm (WorkFor 𝓤 H A at-mem run) known-work to-work (and-then ! (load ! (from ! (stop !)) (look ! 16 refl)) (and-then ! (load ! (from ! (stop !)) (look ! 10 refl)) (no-more !))) (λ v.
         use1 W (later (some (λ (r : Worked). ((‵ (flft κ₀ q₀) ⊛ ‵ ftrue) ⊛ ‵ (K.the-row .own r (v ∷ []))) ⊛ raw (ensured 𝓤 H A worked.ended (worked.clauses 𝓤 H A at-mem run) (κ₀, tt) (f, (n, tt)) tt r)))) (id⊢ 𝓤 _) $
-        await ! tt $ pick ! (λ r. split ! $ move ! (1 ∷ []) $ use1 W (raw (fact 𝓤 (r ≡ workOf (f .now) n))) (work-of 𝓤 H A at-mem run κ₀ f n r) $ heard ! (r ≡ workOf (f .now) n) (λ e. split ! $ split ! $ move ! (2 ∷ []) $
+        await ! tt $ pick ! (λ r. split ! $ move ! (1 ∷ []) $ use1 W (raw (fact 𝓤 (shown r ≡ shownOf (replyOf (f .now) n)))) (work-of 𝓤 H A at-mem run κ₀ f n r) $ heard ! (shown r ≡ shownOf (replyOf (f .now) n)) (λ e. split ! $ split ! $ move ! (2 ∷ []) $
         peeks ! K.the-row (Is K.the-row) (shows 𝓤 H A K.the-row) r (v ∷ []) (λ is-work.
         -- [what the work owns; the file's token; true; the file; the table; its token; _7; …]
         land ! (from ! (stop !)) (init ! 14 refl (LL.lawful K.the-type K′.the-laws 𝓤 H A W .typed r _ is-work .0)) $
@@ -182,7 +183,7 @@ module _ {M : Type 1} (𝓤 : URA M) (H : Heap 𝓤) (A : Atoms 𝓤) (W : Given
         ⊛ some (λ (ws : Lasts stored.ended (κ₁, tt) (t, (r, tt))). ‵ (lasts stored.ended (κ₁, tt) (t, (r, tt)) ws) ⊛ raw (fact 𝓤 (ws .0 ≡ itemsOf r n)))))) (id⊢ 𝓤 _) $ await ! tt $ pick ! (λ d.
         split ! $ move ! (1 ∷ []) $ pick ! (λ ws. split ! $ move ! (1 ∷ []) $ heard ! (ws .0 ≡ itemsOf r n) (λ same.
         -- [what is said of the last list; the token and the unit; the file's token; true; the file; _7; …]
-        fsplit ! $ fsplit ! $ rewrite ! 0 (λ (l : List Zone). ‵ (finally R (t .name) l)) same refl $ move ! (3 ∷ []) $ split ! $ split ! $ move ! (2 ∷ []) $ feqL ! (λ is-unit.
+        fsplit ! $ fsplit ! $ rewrite ! 0 (λ (l : List Piece). ‵ (finally R (t .name) l)) same refl $ move ! (3 ∷ []) $ split ! $ split ! $ move ! (2 ∷ []) $ feqL ! (λ is-unit.
         keep ! (5 ∷ 0 ∷ 7 ∷ 2 ∷ 8 ∷ 9 ∷ 10 ∷ 11 ∷ 12 ∷ 13 ∷ 14 ∷ 15 ∷ 16 ∷ 17 ∷ 18 ∷ 19 ∷ 20 ∷ 21 ∷ 22 ∷ 23 ∷ []) $
         -- [the tokens; the file; the last list; _7; …]
         land ! (from ! (stop !)) (init ! 8 refl (subst (λ (y : Val). Holds (hasTy tyUnit y) × WT y) (sym (ap only is-unit)) (tt, tt))) $

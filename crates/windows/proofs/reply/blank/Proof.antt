@@ -2,10 +2,9 @@
 use Rattle.windows.proofs.reply.blank.Statement.{statement}
 use Rattle.windows.proofs.reply.blank.Tie as tie
 use mathlib.Core.Path.{refl}
-use Rattle.windows.specs.Reply.{blankWork}
 
 returns : tie.Need-returns
-unfolding blankWork
+
 returns c = refl
 
 pub blank-spec : {M : Type 1} → statement M

@@ -4,7 +4,7 @@ use Rattle.windows.proofs.reply.kept.Tie as tie
 use borrow.Author.Needs.{needs}
 use Prim.Native.Nat.{ℕ, _≤_, _-_, _+_, _*_}
 use lib.ListN.{length, take, drop, length-map}
-use Rattle.zones.specs.CodedRead.{keptC}
+use Rattle.coded.specs.CodedRead.{keptC}
 use Rattle.search.specs.SearchLaws.{widths}
 use Rattle.expr.specs.Three.{rangeList}
 use mathlib.Core.Path.{_≡_, refl}

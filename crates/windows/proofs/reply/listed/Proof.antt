@@ -4,7 +4,6 @@ use Rattle.windows.proofs.reply.listed.Statement.{statement}
 use Rattle.windows.proofs.reply.listed.Tie as tie
 use mathlib.Core.Path.{_∙_, ap}
 use Rattle.windows.proofs.Steps.{listed-refused, listed-zones}
-use Rattle.windows.specs.Reply.{blankWork}
 
 refused-requires : tie.Need-refused-requires
 refused-requires c κs = search needs

@@ -1,35 +1,34 @@
--- The zones are 32, so the two branches are the two cases of `getD`.
+-- The zones are 32, and the two branches are the cases of `itemOf`.
 use borrow.Author.Needs.{needs}
 use Rattle.windows.proofs.table.item_at.Statement.{statement}
 use Rattle.windows.proofs.table.item_at.Tie as tie
-use lib.ListN.{length, length-map, List·getD-eq-default}
-use mathlib.Core.Path.{_≡_, sym}
+use lib.ListN.{length, length-map}
+use mathlib.Core.Path.{_≡_}
 use native.Mathlib.Omega.{arith}
-use Rattle.zones.specs.Listed.{blankZone}
-use Rattle.windows.specs.Reply.{itemOf}
-use Rattle.windows.proofs.Items.{any-default}
+use Rattle.windows.proofs.Items.{item-in, item-past}
 
-mul-result : tie.Need-mul-result
-mul-result c = search needs
+at-most-requires : tie.Need-at-most-requires
+at-most-requires c κs = search needs
 
-element-copy-out-result : tie.Need-element-copy-out-result
-element-copy-out-result c = search needs
+mul-zone : tie.Need-mul-zone
+mul-zone c = omega (arith, c .if1 .taken, c .before .at-most .ensures)
+
+element-copy-out-zone : tie.Need-element-copy-out-zone
+element-copy-out-zone c = omega (arith, c .if1 .taken, c .before .at-most .ensures)
+
+piece-of-requires : tie.Need-piece-of-requires
+piece-of-requires c κs = search needs
 
 returns : tie.Need-returns
-unfolding itemOf
 returns c =
-    let a = c .before .before .args in
-    let l : length (a .t1 .zones) ≡ 32 = simp length-map at (c .before .before .good .0 .1 .1 .1 .0 .1 .0 .1) in
-    let h = c .before .if1 .taken in
-    any-default (a .t1 .zones) (a .i) _ _ (omega arith)
+    let a = c .before .before .before .before .args in
+    let l : length (a .t1 .zones) ≡ 32 = simp length-map at (c .before .before .before .before .good .0 .1 .1 .1 .1 .0 .1 .0 .1) in
+    item-in (a .t1) _ (a .i) _ _ (c .before .before .before .at-most .ensures) l (c .before .before .if1 .taken) (c .piece-of .ensures)
 
 returns-2 : tie.Need-returns-2
-unfolding itemOf
-returns-2 c =
-    let a = c .before .args in
-    let l : length (a .t1 .zones) ≡ 32 = simp length-map at (c .before .good .0 .1 .1 .1 .0 .1 .0 .1) in
-    let h = c .if1 .left in
-    sym (List·getD-eq-default (a .t1 .zones) blankZone (omega arith))
+returns-2 c = item-past (c .before .before .args .t1) _ (c .before .before .args .i) (c .before .at-most .ensures) (c .if1 .left)
 
 pub item-at-spec : {M : Type 1} → statement M
-item-at-spec = tie.close (tie.spec mul-result element-copy-out-result returns returns-2)
+item-at-spec =
+    tie.close
+    (tie.spec at-most-requires mul-zone element-copy-out-zone piece-of-requires returns returns-2)

@@ -48,15 +48,15 @@ use denote.Triple.Spec.{Meets, tripleOf}
 use denote.Triple.Table.{entered, cited}
 use denote.Triple.Walked.{says, Stays, stay-slice, stay-none, walkOf, AllGo, goes-slice, goes-none, Walks, ends-at, walked, walk-meets}
 use denote.Exit.{yes}
-use Rattle.zones.specs.declared.zone.Zone.{Zone}
-use Rattle.zones.specs.Listed.{blankZone}
-use Rattle.zones.proofs.zone.Zone as Z
-use Rattle.zones.proofs.zone.Zone.Laws as Z′
-use Rattle.windows.specs.Reply.{itemOf, itemsOf}
+use Rattle.windows.specs.declared.table.Piece.{Piece}
+use Rattle.windows.specs.Reply.{blankPiece}
+use Rattle.windows.proofs.table.Piece as Z
+use Rattle.windows.proofs.table.Piece.Laws as Z′
+use Rattle.windows.specs.Table.{itemOf, itemsOf, items-length}
 use Rattle.windows.specs.declared.reply.Worked.{Worked}
 use Rattle.windows.proofs.reply.Worked as K
 use Rattle.windows.proofs.reply.Worked.Laws as K′
-use Rattle.windows.proofs.Items.{filled, filled-none, filled-next, filled-all, filled-length, items-length}
+use Rattle.windows.proofs.Items.{filled, filled-none, filled-next, filled-all, filled-length}
 use Rattle.windows.proofs.table.item_at as item
 use Rattle.windows.proofs.table.item_at.Symbol as item-def
 use Rattle.windows.proofs.table.item_at.Symbol.{name as #item-at}
@@ -77,7 +77,7 @@ abbrev slice : Ty
 slice = sliceTy (tyRef (named 0) mut (pointee (R .written)))
 
 abbrev Arg : Type 0
-Arg = RefT (List Zone) × (Worked × Unit {0})
+Arg = RefT (List Piece) × (Worked × Unit {0})
 
 abbrev stayed : Stays (store′.ended .signature .params) (store′.ended .kept)
 stayed = (stay-slice (0 ∷ []) tt (plain (λ _. R)), (stay-none (λ _. K.the-row) yes, tt))
@@ -91,18 +91,18 @@ module _ {M : Type 1} (𝓤 : URA M) (H : Heap 𝓤) (A : Atoms 𝓤) (at-mem : 
   abbrev ItemAt : Contract 𝓤
   ItemAt = tripleOf 𝓤 H A item.signature (item.spec 𝓤 H A at-mem run)
 
-  item-of : (work : Worked) (i : ℕ) (r : Zone) → ent 𝓤 (ensured 𝓤 H A item.ended (item.clauses 𝓤 H A at-mem run) tt (work, (i, tt)) tt r) (fact 𝓤 (r ≡ itemOf work i))
+  item-of : (work : Worked) (i : ℕ) (r : Piece) → ent 𝓤 (ensured 𝓤 H A item.ended (item.clauses 𝓤 H A at-mem run) tt (work, (i, tt)) tt r) (fact 𝓤 (r ≡ itemOf work i))
   item-of work i r = exE 𝓤 _ (λ ws. snd∗ 𝓤 (sem 𝓤 H A (lasts item.ended tt (work, (i, tt)) ws)) (fact 𝓤 (r ≡ itemOf work i)))
 
 module _ {M : Type 1} (𝓤 : URA M) (H : Heap 𝓤) (A : Atoms 𝓤) (W : Given 𝓤 H A) (at-mem : Memory → SProp 𝓤) (run : Routine → Fun 𝓤)
-    (κ : Lft) (q : Share) (b o : ℕ) (γ : GName) (ys : List Zone) (work : Worked) (v : Val) (room : Room R (length ys)) (is-work : Is K.the-row work (v ∷ [])) where
+    (κ : Lft) (q : Share) (b o : ℕ) (γ : GName) (ys : List Piece) (work : Worked) (v : Val) (room : Room R (length ys)) (is-work : Is K.the-row work (v ∷ [])) where
   abbrev n : ℕ
   n = length ys
 
-  abbrev zs : List Zone
+  abbrev zs : List Piece
   zs = itemsOf work n
 
-  abbrev ref : List Zone → RefT (List Zone)
+  abbrev ref : List Piece → RefT (List Piece)
   ref l = record { ptr = (b, o); name = γ; now = l }
 
   abbrev x : Arg
@@ -187,7 +187,7 @@ module _ {M : Type 1} (𝓤 : URA M) (H : Heap 𝓤) (A : Atoms 𝓤) (W : Given
         rewrite ! 8 (λ (t : Bool). ‵ (fat fullShare tyBool l₅ 0 (vbool t))) e refl $
         leaves-loop ! (load ! (from ! (stop !)) (look ! 8 refl)) $ exec ! C Λ En pieces.t-3 (atRet En Post) $
         assigns ! (of-opd ! (unit-lit !)) (from ! (stop !)) (init ! 18 refl (tt, tt)) $
-        rewrite ! 0 (λ (l : List Zone). ‵ (row R fullShare l b o)) (filled-all work ys (i .0) all) refl $
+        rewrite ! 0 (λ (l : List Piece). ‵ (row R fullShare l b o)) (filled-all work ys (i .0) all) refl $
         closes-slice ! tt R ys zs (items-length work n) b o $
         -- [obs; the borrow; the token; _7; …]
         returns ! (look ! 17 refl) $ forget ! 7 refl $ forget ! 9 refl $ forget ! 11 refl $ forget ! 13 refl $ forget ! 15 refl $ forget ! 17 refl $
@@ -207,20 +207,20 @@ module _ {M : Type 1} (𝓤 : URA M) (H : Heap 𝓤) (A : Atoms 𝓤) (W : Given
         stays ! (load ! (from ! (stop !)) (look ! 8 refl)) $
         use0 W (raw (ItemAt 𝓤 H A at-mem run .pre (to-item (i .0)))) (goes-item (i .0) (fits i)) $
         calls-at ! (fmOf 𝓤 H (W .laws) 𝓣) (ItemAt 𝓤 H A at-mem run) known (to-item (i .0)) (and-then ! (load ! (from ! (stop !)) (look ! 15 refl)) (and-then ! (load ! (from ! (stop !)) (look ! 13 refl)) (no-more !))) (λ u.
-        use1 W (later (some (λ (r : Zone). (‵ ftrue ⊛ ‵ (R .own r (u ∷ []))) ⊛ raw (ensured 𝓤 H A item.ended (item.clauses 𝓤 H A at-mem run) tt (work, (i .0, tt)) tt r)))) (id⊢ 𝓤 _) $ await ! tt $ pick ! (λ r.
+        use1 W (later (some (λ (r : Piece). (‵ ftrue ⊛ ‵ (R .own r (u ∷ []))) ⊛ raw (ensured 𝓤 H A item.ended (item.clauses 𝓤 H A at-mem run) tt (work, (i .0, tt)) tt r)))) (id⊢ 𝓤 _) $ await ! tt $ pick ! (λ r.
         split ! $ move ! (1 ∷ []) $ use1 W (raw (fact 𝓤 (r ≡ itemOf work (i .0)))) (item-of 𝓤 H A at-mem run work (i .0) r) $ heard ! (r ≡ itemOf work (i .0)) (λ is-item. split ! $ drop ! $
-        peeks ! R (Is R) (shows 𝓤 H A R) r (u ∷ []) (λ is-zone.
-        -- [what the zone owns; the row; the open borrow; obs; auth; _7; …]
-        land ! (from ! (stop !)) (init ! 7 refl (LL.lawful Z.the-type Z′.the-laws 𝓤 H A W .typed r _ is-zone .0)) $
+        peeks ! R (Is R) (shows 𝓤 H A R) r (u ∷ []) (λ is-piece.
+        -- [what the piece owns; the row; the open borrow; obs; auth; _7; …]
+        land ! (from ! (stop !)) (init ! 7 refl (LL.lawful Z.the-type Z′.the-laws 𝓤 H A W .typed r _ is-piece .0)) $
         assigns ! (bin ! (load ! (from ! (stop !)) (look ! 13 refl)) (lit ! tt) (record { fits = place-fits (i .0) less })) (from ! (stop !)) (store ! 11 refl (tt, record { fits = place-fits (i .0) less })) $
         assigns ! (bin ! (load ! (from ! (fld ! refl (stop !))) (look-in ! 17 (sub ! 0 refl (whole !)))) (load ! (from ! (stop !)) (look ! 11 refl)) tt) (from ! (stop !)) (init ! 5 refl (tt, tt)) $
         rewrite ! 5 (λ (p : ℕ). ‵ (fat fullShare tyPtr l₇ 0 (vptr b p))) (sym (place-is 904 o (i .0))) refl $
-        move ! (1 ∷ []) $ elem-out ! R (Is R) (shows 𝓤 H A R) (LL.vals Z.the-type Z′.the-laws) (LL.tells Z.the-type Z′.the-laws) fullShare (filled work ys (i .0)) (i .0) blankZone b o within (λ _.
-        -- [the element; what it owns; the others; what the zone owns; the open borrow; obs; auth; _7; …]
-        assigns ! (of-opd ! (load ! (from ! (stop !)) (look ! 9 refl))) (from ! (hop ! (look ! 7 refl) (stop !))) (store-raw ! 0 refl (LL.lawful Z.the-type Z′.the-laws 𝓤 H A W .typed r _ is-zone .0)) $
-        move ! (1 ∷ []) $ drop ! $ rewrite ! 2 (λ (z : Zone). ‵ (R .own z (u ∷ []))) is-item refl $ move ! (0 ∷ 2 ∷ 1 ∷ []) $
+        move ! (1 ∷ []) $ elem-out ! R (Is R) (shows 𝓤 H A R) (LL.vals Z.the-type Z′.the-laws) (LL.tells Z.the-type Z′.the-laws) fullShare (filled work ys (i .0)) (i .0) blankPiece b o within (λ _.
+        -- [the element; what it owns; the others; what the piece owns; the open borrow; obs; auth; _7; …]
+        assigns ! (of-opd ! (load ! (from ! (stop !)) (look ! 9 refl))) (from ! (hop ! (look ! 7 refl) (stop !))) (store-raw ! 0 refl (LL.lawful Z.the-type Z′.the-laws 𝓤 H A W .typed r _ is-piece .0)) $
+        move ! (1 ∷ []) $ drop ! $ rewrite ! 2 (λ (z : Piece). ‵ (R .own z (u ∷ []))) is-item refl $ move ! (0 ∷ 2 ∷ 1 ∷ []) $
         elem-put ! R fullShare (filled work ys (i .0)) (i .0) (itemOf work (i .0)) (u ∷ []) b o within $
-        rewrite ! 0 (λ (l : List Zone). ‵ (row R fullShare l b o)) (filled-next work ys (i .0) less) refl $
+        rewrite ! 0 (λ (l : List Piece). ‵ (row R fullShare l b o)) (filled-next work ys (i .0) less) refl $
         assigns-last ! (bin ! (load ! (from ! (stop !)) (look ! 12 refl)) (lit ! tt) (record { fits = fits next })) (from ! (stop !)) (store ! 12 refl (tt, record { fits = fits next })) $
         forget ! 4 refl $ forget ! 6 refl $ forget ! 8 refl $ forget ! 10 refl $ again ! Nearer At i next (add-one-dec n (i .0) less))))))
       where
@@ -248,7 +248,7 @@ module _ {M : Type 1} (𝓤 : URA M) (H : Heap 𝓤) (A : Atoms 𝓤) (W : Given
       assigns ! (of-opd ! (lit ! tt)) (from ! (stop !)) (init ! 8 refl (tt, record { fits = lit< tt })) $
       -- [_7; …; _0; …; the token; what the parameters own]
       move ! (17 ∷ []) $ fsplit ! $ fsplit ! $ move ! (1 ∷ []) $ fsplit ! $ move ! (20 ∷ []) $ split ! $ move ! (2 ∷ 3 ∷ 0 ∷ []) $
-      opens-slice ! tt R ys b o $ rewrite ! 0 (λ (l : List Zone). ‵ (row R fullShare l b o)) (sym (filled-none work ys)) refl $
+      opens-slice ! tt R ys b o $ rewrite ! 0 (λ (l : List Piece). ‵ (row R fullShare l b o)) (sym (filled-none work ys)) refl $
       -- [the row; the open borrow; obs; auth; true; the slice's fact; what the work owns; _7; …]
       keep ! (0 ∷ 1 ∷ 2 ∷ 3 ∷ 7 ∷ 8 ∷ 9 ∷ 10 ∷ 11 ∷ 12 ∷ 13 ∷ 14 ∷ 15 ∷ 16 ∷ 17 ∷ 18 ∷ 19 ∷ 20 ∷ 21 ∷ 22 ∷ []) $
       fills 𝓣 known l₀ l₁ l₂ l₃ l₄ l₅ l₆ l₇))))))))

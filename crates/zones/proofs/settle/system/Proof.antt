@@ -20,7 +20,7 @@ at-most-requires c κs = search needs
 
 loop-holds : tie.Need-loop-holds Inv-loop μ-loop
 loop-holds c =
-    let l : length (c .before .args .t1 .ineqs) ≡ 24 = simp length-map at (c .before .good .0 .1 .1 .1 .1 .0 .1 .0 .1) in
+    let l : length (c .before .args .t1 .ineqs) ≡ 24 = simp length-map at (c .before .good .0 .1 .1 .1 .0 .1 .0 .1) in
     (omega (arith, c .at-most .ensures), omega arith, refl, l, refl)
 
 mul-x : tie.Need-mul-x Inv-loop μ-loop

@@ -1,0 +1,68 @@
+-- The code's records of zones read back: which valuations a zone holds, its entries with a valuation put in, and how many valuations all zones
+-- hold, are those of the cutting.
+use mathlib.Core.Path.{_≡_, refl, ap, _∙_}
+use mathlib.Core.List.{List, [], _∷_, map}
+use Prim.Native.Nat.{ℕ, _+_, _-_, _≤_}
+use lib.IntN.{ℤ}
+use lib.ListN.{length, take}
+use Rattle.cutting.specs.Kept.{keptOf}
+use Rattle.cutting.specs.Cutting.{listed, zonesOf}
+use Rattle.cutting.specs.Cutting as cutting
+use Rattle.cutting.specs.Held.{holds, at}
+use Rattle.expr.specs.Limit.{atV}
+use Rattle.expr.specs.Three.{affine, exprOf, limitOf, rangeList}
+use Rattle.search.specs.Valuations.{satisfies, count}
+use Rattle.expr.specs.declared.bound.Bound.{Bound}
+use Rattle.expr.specs.declared.number.Expr.{Expr}
+use Rattle.expr.specs.declared.range.Ranges.{Ranges}
+use Rattle.sheet.specs.declared.Sheet.{Sheet}
+use Rattle.sheet.specs.WellFormed.{WellFormed}
+use Rattle.coded.specs.Coded.{zoneOf, zonesIn, taken, entry-at}
+use Rattle.coded.specs.CodedTests.{pad-at, pad-satisfies, pad-count}
+use Rattle.zones.specs.Zone.{zeroExpr, blankZone}
+use Rattle.constrain.specs.Rules.{entryC}
+use Rattle.zones.specs.declared.zone.Zone.{Zone}
+
+-- the zones' valuations, zone by zone, as the code counts them
+unfoldable pub keptC : Ranges → List Zone → ℕ
+keptC b [] = 0
+keptC b (z ∷ zs) = count (rangeList b) (map affine (take (z .count) (z .ineqs))) + keptC b zs
+
+-- ---- one zone
+-- its inequalities
+pub ineqs-coded : (z : cutting.Zone) → take (zoneOf z .count) (zoneOf z .ineqs) ≡ map exprOf (z .ineqs)
+unfolding zoneOf
+ineqs-coded z = taken exprOf zeroExpr (24 - length (z .ineqs)) (z .ineqs)
+
+-- it holds the same valuations
+pub holds-coded : (z : cutting.Zone) (p q r : ℤ) → satisfies (map affine (take (zoneOf z .count) (zoneOf z .ineqs))) (p ∷ q ∷ r ∷ []) ≡ holds (p ∷ q ∷ r ∷ []) z
+holds-coded z p q r = ap (λ (l : List Expr). satisfies (map affine l) (p ∷ q ∷ r ∷ [])) (ineqs-coded z) ∙ pad-satisfies (z .ineqs) p q r
+
+-- its entries are the same at each
+pub entry-coded : (z : cutting.Zone) (p q r : ℤ) (i j : ℕ) → i ≤ 4 → j ≤ 4
+    → atV (p ∷ q ∷ r ∷ []) (limitOf (entryC (zoneOf z .bounds) i j)) ≡ at (p ∷ q ∷ r ∷ []) (z .bounds) i j
+unfolding zoneOf at
+entry-coded z p q r i j hi hj = ap (λ (b : Bound). atV (p ∷ q ∷ r ∷ []) (limitOf b)) (entry-at (z .bounds) i j hi hj) ∙ pad-at (z .bounds i j) p q r
+
+-- it holds as many of the ranges
+pub count-coded : (b : Ranges) (z : cutting.Zone) → count (rangeList b) (map affine (take (zoneOf z .count) (zoneOf z .ineqs))) ≡ count (rangeList b) (z .ineqs)
+count-coded b z = ap (λ (l : List Expr). count (rangeList b) (map affine l)) (ineqs-coded z) ∙ pad-count b (z .ineqs)
+
+-- ---- all zones
+pub list-coded : (zs : List cutting.Zone) → take (length zs) (zonesIn zs) ≡ map zoneOf zs
+unfolding zonesIn
+list-coded zs = taken zoneOf blankZone (32 - length zs) zs
+
+kept-map : (b : Ranges) (zs : List cutting.Zone) → keptC b (map zoneOf zs) ≡ keptOf (rangeList b) zs
+unfolding keptC keptOf
+kept-map b [] = refl
+kept-map b (z ∷ zs) = rw (count-coded b z, kept-map b zs) refl
+
+-- whatever the zones are
+pub kept-in : (b : Ranges) (zs : List cutting.Zone) → keptC b (take (length zs) (zonesIn zs)) ≡ keptOf (rangeList b) zs
+kept-in b zs = ap (keptC b) (list-coded zs) ∙ kept-map b zs
+
+-- and so for those of a sheet
+pub kept-coded : (s : Sheet) → WellFormed s → (zs : List cutting.Zone) → zonesOf s ≡ listed zs
+    → keptC (s .ranges) (take (length zs) (zonesIn zs)) ≡ keptOf (rangeList (s .ranges)) zs
+kept-coded s f zs q = kept-in (s .ranges) zs

@@ -1,0 +1,338 @@
+-- The code's records of expressions lose nothing: an expression has at most three coefficients, and one that is missing is zero. So values, sums,
+-- tests and opposites are those of the cutting, and so is what no valuation of a zone satisfies.
+use mathlib.Core.Path.{_≡_, refl, ap, _∙_}
+use mathlib.Core.List.{List, [], _∷_, _++_, map, List·Memᴰ, List·Memᴰ·head, List·Memᴰ·tail}
+use mathlib.Core.Bool.{Bool, true, false, _&&_, _||_}
+use mathlib.Core.Option.{Option}
+use mathlib.Core.Option as option
+use Prim.Native.Nat.{ℕ, zero, suc, _≤_}
+use native.Mathlib.Omega.{arith}
+use lib.IntN.{ℤ, pos, negsuc, negℤ, _+ℤ_, _-ℤ_, _*ℤ_, zero-*ℤ, +ℤ-idl}
+use lib.ListN.{length, getD, length-map}
+use lib.Signed.{leZ, _≤ℤ_}
+use Rattle.cutting.specs.Cutting.{Bounds, zeroB, never}
+use Rattle.expr.specs.Affine.{Affine, dot, value, plusL, minusL, plus, minus, lessOne, opposite, within, allWithin, Judged, fine, wide, judge, pickJ, LIMIT}
+use Rattle.expr.specs.Limit.{Limit, none, limit, atV, marked, sumB, Question, yes′, no′, ask, wide′, asked, slackE, tighterB}
+use Rattle.expr.specs.Ranges.{Inside}
+use Rattle.integer.specs.Bools.{and-left, and-right, and-both}
+use Rattle.search.specs.SearchLaws.{valuations-inside}
+use Rattle.expr.specs.Three.{affine, exprOf, limitOf, boundOf, boundSum, test, OPPOSITE, rangeList, pickL}
+use Rattle.search.specs.Valuations.{valuations, satisfies, firstIn, countIn, first, count}
+use Rattle.expr.specs.declared.bound.Bound.{Bound}
+use Rattle.expr.specs.declared.number.Expr.{Expr}
+use Rattle.expr.specs.declared.range.Range.{Range}
+use Rattle.expr.specs.declared.range.Ranges.{Ranges}
+use Rattle.integer.specs.Order.{leZ-true}
+use Rattle.integer.specs.Split.{split, split-all}
+use Rattle.zones.specs.Settled.{oppositeC, isNone}
+
+-- the expression that the code's record stands for
+abbrev pub pad : Affine → Affine
+pad e = affine (exprOf e)
+
+abbrev pub padB : Limit Affine → Limit Affine
+padB b = limitOf (boundOf b)
+
+-- ---- values
+zero-step : (q x : ℤ) → x ≡ pos 0 → (pos 0 *ℤ q) +ℤ x ≡ pos 0
+zero-step q x e = ap (λ (y : ℤ). y +ℤ x) (zero-*ℤ q) ∙ +ℤ-idl x ∙ e
+
+third : (cs : List ℤ) (r : ℤ) → (getD cs 0 (pos 0) *ℤ r) +ℤ pos 0 ≡ dot cs (r ∷ [])
+unfolding dot
+third [] r = zero-step r (pos 0) refl
+third (c ∷ []) r = refl
+third (c ∷ d ∷ cs) r = refl
+
+second : (cs : List ℤ) (q r : ℤ) → (getD cs 0 (pos 0) *ℤ q) +ℤ ((getD cs 1 (pos 0) *ℤ r) +ℤ pos 0) ≡ dot cs (q ∷ r ∷ [])
+unfolding dot
+second [] q r = zero-step q ((pos 0 *ℤ r) +ℤ pos 0) (third [] r)
+second (c ∷ cs) q r = ap (λ (x : ℤ). (c *ℤ q) +ℤ x) (third cs r)
+
+three : (cs : List ℤ) (p q r : ℤ)
+    → (getD cs 0 (pos 0) *ℤ p) +ℤ ((getD cs 1 (pos 0) *ℤ q) +ℤ ((getD cs 2 (pos 0) *ℤ r) +ℤ pos 0)) ≡ dot cs (p ∷ q ∷ r ∷ [])
+unfolding dot
+three [] p q r = zero-step p ((pos 0 *ℤ q) +ℤ ((pos 0 *ℤ r) +ℤ pos 0)) (second [] q r)
+three (c ∷ cs) p q r = ap (λ (x : ℤ). (c *ℤ p) +ℤ x) (second cs q r)
+
+pub pad-value : (e : Affine) (p q r : ℤ) → value (pad e) (p ∷ q ∷ r ∷ []) ≡ value e (p ∷ q ∷ r ∷ [])
+unfolding value dot
+pad-value e p q r = ap (λ (x : ℤ). e .constant +ℤ x) (three (e .coefs) p q r)
+
+pub pad-at : (b : Limit Affine) (p q r : ℤ) → atV (p ∷ q ∷ r ∷ []) (padB b) ≡ atV (p ∷ q ∷ r ∷ []) b
+unfolding atV
+pad-at none p q r = refl
+pad-at (limit s e) p q r = ap (limit s) (pad-value e p q r)
+
+pub pad-satisfies : (es : List Affine) (p q r : ℤ) → satisfies (map affine (map exprOf es)) (p ∷ q ∷ r ∷ []) ≡ satisfies es (p ∷ q ∷ r ∷ [])
+unfolding satisfies
+pad-satisfies [] p q r = refl
+pad-satisfies (e ∷ es) p q r = rw (pad-value e p q r, pad-satisfies es p q r) refl
+
+-- ---- the valuations of three ranges
+first-same : (t u : List ℤ → Bool) (vs : List (List ℤ)) → ((v : List ℤ) → List·Memᴰ v vs → t v ≡ u v) → firstIn t vs ≡ firstIn u vs
+unfolding firstIn
+first-same t u [] h = refl
+first-same t u (v ∷ vs) h = rw (h v (List·Memᴰ·head refl), first-same t u vs (λ x i. h x (List·Memᴰ·tail i))) refl
+
+count-same : (t u : List ℤ → Bool) (vs : List (List ℤ)) → ((v : List ℤ) → List·Memᴰ v vs → t v ≡ u v) → countIn t vs ≡ countIn u vs
+unfolding countIn
+count-same t u [] h = refl
+count-same t u (v ∷ vs) h = rw (h v (List·Memᴰ·head refl), count-same t u vs (λ x i. h x (List·Memᴰ·tail i))) refl
+
+inside-three : (es : List Affine) (a b c : Range) (v : List ℤ) → Inside v (a ∷ b ∷ c ∷ []) → satisfies (map affine (map exprOf es)) v ≡ satisfies es v
+inside-three es a b c [] i = absurd i
+inside-three es a b c (x ∷ []) i = absurd (i .1)
+inside-three es a b c (x ∷ y ∷ []) i = absurd (i .1 .1)
+inside-three es a b c (x ∷ y ∷ z ∷ []) i = pad-satisfies es x y z
+inside-three es a b c (x ∷ y ∷ z ∷ u ∷ v) i = absurd (i .1 .1 .1)
+
+module _ (b : Ranges) (es : List Affine) where
+  at-valuations : (v : List ℤ) → List·Memᴰ v (valuations (rangeList b)) → satisfies (map affine (map exprOf es)) v ≡ satisfies es v
+  at-valuations v i = inside-three es (b .p) (b .q) (b .r) v (valuations-inside (rangeList b) v i)
+
+  pub pad-first : first (rangeList b) (map affine (map exprOf es)) ≡ first (rangeList b) es
+  unfolding first
+  pad-first = first-same (satisfies (map affine (map exprOf es))) (satisfies es) (valuations (rangeList b)) at-valuations
+
+  pub pad-count : count (rangeList b) (map affine (map exprOf es)) ≡ count (rangeList b) es
+  unfolding count
+  pad-count = count-same (satisfies (map affine (map exprOf es))) (satisfies es) (valuations (rangeList b)) at-valuations
+
+-- ---- sums and differences of expressions
+plus-at : (cs ds : List ℤ) (k : ℕ) → getD (plusL cs ds) k (pos 0) ≡ getD cs k (pos 0) +ℤ getD ds k (pos 0)
+unfolding plusL
+plus-at [] ds k = zero-plus (getD ds k (pos 0))
+  where
+    zero-plus : (x : ℤ) → x ≡ pos 0 +ℤ x
+    zero-plus x = rw (split x) (simp split-all (omega arith))
+plus-at (c ∷ cs) [] k = plus-zero (getD (c ∷ cs) k (pos 0))
+  where
+    plus-zero : (x : ℤ) → x ≡ x +ℤ pos 0
+    plus-zero x = rw (split x) (simp split-all (omega arith))
+plus-at (c ∷ cs) (d ∷ ds) zero = refl
+plus-at (c ∷ cs) (d ∷ ds) (suc k) = plus-at cs ds k
+
+neg-at : (ds : List ℤ) (k : ℕ) → getD (map negℤ ds) k (pos 0) ≡ negℤ (getD ds k (pos 0))
+neg-at [] k = refl
+neg-at (d ∷ ds) zero = refl
+neg-at (d ∷ ds) (suc k) = neg-at ds k
+
+minus-at : (cs ds : List ℤ) (k : ℕ) → getD (minusL cs ds) k (pos 0) ≡ getD cs k (pos 0) -ℤ getD ds k (pos 0)
+unfolding minusL
+minus-at [] ds k = neg-at ds k ∙ zero-minus (getD ds k (pos 0))
+  where
+    zero-minus : (x : ℤ) → negℤ x ≡ pos 0 -ℤ x
+    zero-minus x = rw (split x) (simp split-all (omega arith))
+minus-at (c ∷ cs) [] k = minus-zero (getD (c ∷ cs) k (pos 0))
+  where
+    minus-zero : (x : ℤ) → x ≡ x -ℤ pos 0
+    minus-zero x = rw (split x) (simp split-all (omega arith))
+minus-at (c ∷ cs) (d ∷ ds) zero = refl
+minus-at (c ∷ cs) (d ∷ ds) (suc k) = minus-at cs ds k
+
+pad-plus : (a b : Affine) → plus (pad a) (pad b) ≡ pad (plus a b)
+unfolding plus plusL
+pad-plus a b = rw (plus-at (a .coefs) (b .coefs) 0, plus-at (a .coefs) (b .coefs) 1, plus-at (a .coefs) (b .coefs) 2) refl
+
+pad-minus : (a b : Affine) → minus (pad a) (pad b) ≡ pad (minus a b)
+unfolding minus minusL
+pad-minus a b = rw (minus-at (a .coefs) (b .coefs) 0, minus-at (a .coefs) (b .coefs) 1, minus-at (a .coefs) (b .coefs) 2) refl
+
+pad-less : (e : Affine) → lessOne (pad e) ≡ pad (lessOne e)
+unfolding lessOne
+pad-less e = refl
+
+pad-slack : (s t : Bool) (a b : Affine) → slackE s t (pad a) (pad b) ≡ pad (slackE s t a b)
+pad-slack true true a b = ap lessOne (pad-minus b a) ∙ pad-less (minus b a)
+pad-slack true false a b = pad-minus b a
+pad-slack false t a b = ap lessOne (pad-minus b a) ∙ pad-less (minus b a)
+
+-- ---- at most three coefficients
+pub record Narrow (e : Affine) : Type 0 where
+  pub three : length (e .coefs) ≤ 3
+
+abbrev pub NarrowB : Limit Affine → Type 0
+NarrowB none = Unit {0}
+NarrowB (limit s e) = Narrow e
+
+abbrev pub NarrowJ : Judged (Limit Affine) → Type 0
+NarrowJ (fine b) = NarrowB b
+NarrowJ wide = Unit {0}
+
+-- every entry
+pub record NarrowM (m : Bounds) : Type 0 where
+  pub entry : (i j : ℕ) → NarrowB (m i j)
+
+plus-length : (cs ds : List ℤ) (n : ℕ) → length cs ≤ n → length ds ≤ n → length (plusL cs ds) ≤ n
+unfolding plusL
+plus-length [] ds n h k = k
+plus-length (c ∷ cs) [] n h k = h
+plus-length (c ∷ cs) (d ∷ ds) zero h k = absurd (omega arith)
+plus-length (c ∷ cs) (d ∷ ds) (suc n) h k = let a = plus-length cs ds n (omega arith) (omega arith) in omega arith
+
+minus-length : (cs ds : List ℤ) (n : ℕ) → length cs ≤ n → length ds ≤ n → length (minusL cs ds) ≤ n
+unfolding minusL
+minus-length [] ds n h k = let a = length-map ds negℤ in omega arith
+minus-length (c ∷ cs) [] n h k = h
+minus-length (c ∷ cs) (d ∷ ds) zero h k = absurd (omega arith)
+minus-length (c ∷ cs) (d ∷ ds) (suc n) h k = let a = minus-length cs ds n (omega arith) (omega arith) in omega arith
+
+plus-narrow : (a b : Affine) → Narrow a → Narrow b → Narrow (plus a b)
+unfolding plus
+plus-narrow a b h k = record { three = plus-length (a .coefs) (b .coefs) 3 (h .three) (k .three) }
+
+minus-narrow : (a b : Affine) → Narrow a → Narrow b → Narrow (minus a b)
+unfolding minus
+minus-narrow a b h k = record { three = minus-length (a .coefs) (b .coefs) 3 (h .three) (k .three) }
+
+less-narrow : (e : Affine) → Narrow e → Narrow (lessOne e)
+unfolding lessOne
+less-narrow e h = record { three = h .three }
+
+slack-narrow : (s t : Bool) (a b : Affine) → Narrow a → Narrow b → Narrow (slackE s t a b)
+slack-narrow true true a b h k = less-narrow (minus b a) (minus-narrow b a k h)
+slack-narrow true false a b h k = minus-narrow b a k h
+slack-narrow false t a b h k = less-narrow (minus b a) (minus-narrow b a k h)
+
+pub pad-narrow : (x : Expr) → Narrow (affine x)
+pad-narrow x = record { three = omega arith }
+
+-- a bound of the code has three
+pub limit-narrow : (x : Bound) → NarrowB (limitOf x)
+limit-narrow x = by (x .none)
+  where
+    by : (b : Bool) → NarrowB (pickL b none (limit (x .strict) (affine (x .expr))))
+    by true = tt
+    by false = pad-narrow (x .expr)
+
+pub zero-narrow : NarrowB zeroB
+zero-narrow = record { three = omega arith }
+
+pub sum-narrow : (a b : Limit Affine) → NarrowB a → NarrowB b → NarrowJ (sumB a b)
+unfolding sumB marked judge
+sum-narrow none b h k = tt
+sum-narrow (limit s a) none h k = tt
+sum-narrow (limit s a) (limit t b) h k = by (allWithin LIMIT (plus a b .constant ∷ plus a b .coefs))
+  where
+    by : (x : Bool) → NarrowJ (marked (s || t) (pickJ x (fine (plus a b)) wide))
+    by true = plus-narrow a b h k
+    by false = tt
+
+-- ---- judging sees the same
+within-pad : (cs : List ℤ) → length cs ≤ 3 → allWithin LIMIT (getD cs 0 (pos 0) ∷ getD cs 1 (pos 0) ∷ getD cs 2 (pos 0) ∷ []) ≡ allWithin LIMIT cs
+within-pad [] h = refl
+within-pad (c ∷ []) h = refl
+within-pad (c ∷ d ∷ []) h = refl
+within-pad (c ∷ d ∷ e ∷ []) h = refl
+within-pad (c ∷ d ∷ e ∷ f ∷ cs) h = absurd (omega arith)
+
+pad-within : (e : Affine) → Narrow e → allWithin LIMIT (pad e .constant ∷ pad e .coefs) ≡ allWithin LIMIT (e .constant ∷ e .coefs)
+pad-within e h = ap (λ (b : Bool). within LIMIT (e .constant) && b) (within-pad (e .coefs) (h .three))
+
+pad-marked : (s : Bool) (e : Affine) → Narrow e → boundSum (marked s (judge LIMIT (pad e))) ≡ boundSum (marked s (judge LIMIT e))
+unfolding marked judge
+pad-marked s e h = rw (pad-within e h) (by (allWithin LIMIT (e .constant ∷ e .coefs)))
+  where
+    by : (x : Bool) → boundSum (marked s (pickJ x (fine (pad e)) wide)) ≡ boundSum (marked s (pickJ x (fine e) wide))
+    by true = refl
+    by false = refl
+
+pad-asked : (e : Affine) → Narrow e → test (asked (judge LIMIT (pad e))) ≡ test (asked (judge LIMIT e))
+unfolding asked judge
+pad-asked e h = rw (pad-within e h) (by (allWithin LIMIT (e .constant ∷ e .coefs)))
+  where
+    by : (x : Bool) → test (asked (pickJ x (fine (pad e)) wide)) ≡ test (asked (pickJ x (fine e) wide))
+    by true = refl
+    by false = refl
+
+-- ---- sums and tests of bounds
+pub pad-sum : (a b : Limit Affine) → NarrowB a → NarrowB b → boundSum (sumB (padB a) (padB b)) ≡ boundSum (sumB a b)
+unfolding sumB
+pad-sum none b h k = refl
+pad-sum (limit s a) none h k = refl
+pad-sum (limit s a) (limit t b) h k = rw (pad-plus a b) (pad-marked (s || t) (plus a b) (plus-narrow a b h k))
+
+pub pad-test : (a b : Limit Affine) → NarrowB a → NarrowB b → test (tighterB (padB a) (padB b)) ≡ test (tighterB a b)
+unfolding tighterB
+pad-test none b h k = refl
+pad-test (limit s a) none h k = refl
+pad-test (limit s a) (limit t b) h k = rw (pad-slack s t a b) (pad-asked (slackE s t a b) (slack-narrow s t a b h k))
+
+-- a bound of the code stands for itself
+pub limit-pad : (x : Bound) → padB (limitOf x) ≡ limitOf x
+limit-pad x = by (x .none)
+  where
+    by : (b : Bool) → padB (pickL b none (limit (x .strict) (affine (x .expr)))) ≡ pickL b none (limit (x .strict) (affine (x .expr)))
+    by true = refl
+    by false = refl
+
+-- ---- opposites
+-- all numbers of an expression lie from -1,000,000 to 1,000,000
+pub record InLimit (e : Affine) : Type 0 where
+  pub all : allWithin LIMIT (e .constant ∷ e .coefs) ≡ true
+
+abbrev pub Asked : Question → Type 0
+Asked yes′ = Unit {0}
+Asked no′ = Unit {0}
+Asked (ask e) = InLimit e
+Asked wide′ = Unit {0}
+
+-- what a test asks was judged
+pub tighter-asked : (a b : Limit Affine) → Asked (tighterB a b)
+unfolding tighterB asked judge
+tighter-asked none b = tt
+tighter-asked (limit s a) none = tt
+tighter-asked (limit s a) (limit t b) = by (slackE s t a b) (allWithin LIMIT (slackE s t a b .constant ∷ slackE s t a b .coefs)) refl
+  where
+    by : (e : Affine) (x : Bool) → allWithin LIMIT (e .constant ∷ e .coefs) ≡ x → Asked (asked (pickJ x (fine e) wide))
+    by e true h = record { all = h }
+    by e false h = tt
+
+within-at : (cs : List ℤ) (k : ℕ) → allWithin LIMIT cs ≡ true → within LIMIT (getD cs k (pos 0)) ≡ true
+within-at [] k h = refl
+within-at (c ∷ cs) zero h = and-left (within LIMIT c) (allWithin LIMIT cs) h
+within-at (c ∷ cs) (suc k) h = within-at cs k (and-right (within LIMIT c) (allWithin LIMIT cs) h)
+
+turn-low : (x : ℤ) → leZ x LIMIT ≡ true → leZ (negℤ OPPOSITE) (negsuc 0 -ℤ x) ≡ true
+turn-low x = rw (split x) (simp split-all (omega arith))
+
+turn-high : (x : ℤ) → negℤ LIMIT ≤ℤ x → leZ (negsuc 0 -ℤ x) OPPOSITE ≡ true
+turn-high x = rw (split x) (simp split-all (omega arith))
+
+neg-low : (x : ℤ) → leZ x LIMIT ≡ true → leZ (negℤ OPPOSITE) (negℤ x) ≡ true
+neg-low x = rw (split x) (simp split-all (omega arith))
+
+neg-high : (x : ℤ) → negℤ LIMIT ≤ℤ x → leZ (negℤ x) OPPOSITE ≡ true
+neg-high x = rw (split x) (simp split-all (omega arith))
+
+turn-within : (x : ℤ) → within LIMIT x ≡ true → within OPPOSITE (negsuc 0 -ℤ x) ≡ true
+turn-within x h = and-both (leZ (negℤ OPPOSITE) (negsuc 0 -ℤ x)) (leZ (negsuc 0 -ℤ x) OPPOSITE)
+    (turn-low x (and-right (leZ (negℤ LIMIT) x) (leZ x LIMIT) h)) (turn-high x (leZ-true (and-left (leZ (negℤ LIMIT) x) (leZ x LIMIT) h)))
+
+neg-within : (x : ℤ) → within LIMIT x ≡ true → within OPPOSITE (negℤ x) ≡ true
+neg-within x h = and-both (leZ (negℤ OPPOSITE) (negℤ x)) (leZ (negℤ x) OPPOSITE)
+    (neg-low x (and-right (leZ (negℤ LIMIT) x) (leZ x LIMIT) h)) (neg-high x (leZ-true (and-left (leZ (negℤ LIMIT) x) (leZ x LIMIT) h)))
+
+-- the code's opposite of what was asked
+pub opposite-coded : (e : Affine) → InLimit e → oppositeC (exprOf e) ≡ exprOf (opposite e)
+unfolding oppositeC judge opposite
+opposite-coded e h =
+    let w = and-right (within LIMIT (e .constant)) (allWithin LIMIT (e .coefs)) (h .all) in
+    rw (
+      turn-within (e .constant) (and-left (within LIMIT (e .constant)) (allWithin LIMIT (e .coefs)) (h .all)),
+      neg-within (getD (e .coefs) 0 (pos 0)) (within-at (e .coefs) 0 w),
+      neg-within (getD (e .coefs) 1 (pos 0)) (within-at (e .coefs) 1 w),
+      neg-within (getD (e .coefs) 2 (pos 0)) (within-at (e .coefs) 2 w),
+      neg-at (e .coefs) 0,
+      neg-at (e .coefs) 1,
+      neg-at (e .coefs) 2,
+    ) refl
+
+-- ---- what no valuation satisfies
+pub never-is : (b : Ranges) (es : List Affine) (e : Affine) → isNone (first (rangeList b) (es ++ (e ∷ []))) ≡ never (rangeList b) es e
+unfolding never
+never-is b es e = by (first (rangeList b) (es ++ (e ∷ []))) refl
+  where
+    by : (o : Option (List ℤ)) → first (rangeList b) (es ++ (e ∷ [])) ≡ o → isNone (first (rangeList b) (es ++ (e ∷ []))) ≡ never (rangeList b) es e
+    by option.none q = rw q refl
+    by (option.some v) q = rw q refl

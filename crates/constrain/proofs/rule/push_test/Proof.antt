@@ -1,0 +1,29 @@
+-- The branches are the cases of `pushTest`.
+use borrow.Author.Needs.{needs}
+use Rattle.constrain.proofs.rule.push_test.Statement.{statement}
+use Rattle.constrain.proofs.rule.push_test.Tie as tie
+use Rattle.constrain.proofs.Steps.{push-row, push-column, push-in}
+
+returns : tie.Need-returns
+returns c = push-row _ _ (c .if1 .taken)
+
+returns-2 : tie.Need-returns-2
+returns-2 c = push-column _ _ (c .before .before .if1 .left) (c .if2 .taken)
+
+via-requires : tie.Need-via-requires
+via-requires c κs = search needs
+
+place-requires : tie.Need-place-requires
+place-requires c κs = search needs
+
+tested-requires : tie.Need-tested-requires
+tested-requires c κs = search needs
+
+returns-3 : tie.Need-returns-3
+returns-3 c =
+    let a = c .before .before .before .before .before .before .before .args in
+    push-in (a .r) (a .x) (c .before .before .before .before .before .if1 .left) (c .before .before .before .if2 .left) _ _ _ (c .tested .ensures) (c .before .before .via .ensures) (c .before .place .ensures)
+
+pub push-test-spec : {M : Type 1} → statement M
+push-test-spec =
+    tie.close (tie.spec returns returns-2 via-requires place-requires tested-requires returns-3)

@@ -1,0 +1,25 @@
+-- Rule (1).
+use borrow.Author.Needs.{needs}
+use Rattle.constrain.proofs.rule.void_test.Statement.{statement}
+use Rattle.constrain.proofs.rule.void_test.Tie as tie
+use mathlib.Core.Path.{_∙_, ap}
+use Rattle.constrain.specs.Rules.{voidTest, sumC, testSum}
+use Rattle.zones.specs.Zone.{zeroBound}
+use Rattle.expr.specs.declared.bound.Bound.{Bound}
+use Rattle.expr.specs.declared.bound.BoundSum.{BoundSum}
+
+entry-requires : tie.Need-entry-requires
+entry-requires c κs = search needs
+
+sum-requires : tie.Need-sum-requires
+sum-requires c κs = search needs
+
+tested-requires : tie.Need-tested-requires
+tested-requires c κs = search needs
+
+returns : tie.Need-returns
+unfolding voidTest
+returns c = c .tested .ensures ∙ ap (λ (s : BoundSum). testSum s zeroBound) (c .before .sum .ensures ∙ ap (λ (b : Bound). sumC (c .before .before .before .before .args .r .bound) b) (c .before .before .entry .ensures))
+
+pub void-test-spec : {M : Type 1} → statement M
+void-test-spec = tie.close (tie.spec entry-requires sum-requires tested-requires returns)

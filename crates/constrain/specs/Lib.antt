@@ -1,0 +1,2 @@
+-- What a guard asks of a matrix.
+pub mod Rules

@@ -1,0 +1,60 @@
+-- What a guard asks of a matrix, test by test, on the code's records.
+use mathlib.Core.List.{List}
+use mathlib.Core.Bool.{Bool}
+use Prim.Native.Nat.{ℕ, zero, suc, _+_, _*_, _/_, _%_}
+use lib.Dec.{ltb}
+use lib.ListN.{getD}
+use Rattle.expr.specs.Limit.{sumB, tighterB}
+use Rattle.expr.specs.Three.{limitOf, boundSum, test}
+use Rattle.expr.specs.declared.bound.Bound.{Bound}
+use Rattle.expr.specs.declared.bound.BoundSum.{BoundSum}
+use Rattle.expr.specs.declared.bound.BoundSum.the-variants.{Sum, Wide as BoundWide}
+use Rattle.expr.specs.declared.bound.Test.{Test}
+use Rattle.expr.specs.declared.bound.Test.the-variants.{No, Wide as TestWide}
+use Rattle.zones.specs.Zone.{pick, zeroBound}
+use Rattle.constrain.specs.declared.rule.Rule.{Rule}
+
+-- entry (k, l) of a matrix, five rows of five
+abbrev pub entryC : List Bound → ℕ → ℕ → Bound
+entryC m k l = getD m (5 * k + l) zeroBound
+
+-- the code's sum and test of bounds
+abbrev pub sumC : Bound → Bound → BoundSum
+sumC a b = boundSum (sumB (limitOf a) (limitOf b))
+
+abbrev pub tighterC : Bound → Bound → Test
+tighterC a b = test (tighterB (limitOf a) (limitOf b))
+
+abbrev pub testSum : BoundSum → Bound → Test
+testSum (Sum a) b = tighterC a b
+testSum BoundWide b = TestWide
+
+abbrev pub sumSum : BoundSum → Bound → BoundSum
+sumSum (Sum a) b = sumC a b
+sumSum BoundWide b = BoundWide
+
+abbrev pub viaBound : BoundSum → Bound
+viaBound (Sum a) = a
+viaBound BoundWide = zeroBound
+
+-- rule (1): e + (j, i) against zero, not strict
+unfoldable pub voidTest : Rule → Test
+voidTest r = testSum (sumC (r .bound) (entryC (r .old) (r .right) (r .left))) zeroBound
+
+-- rule (2): e against (i, j)
+unfoldable pub tightTest : Rule → Test
+tightTest r = tighterC (r .bound) (entryC (r .old) (r .left) (r .right))
+
+-- rule (3): (k, i) + e + (j, l) for the entry x = 5k + l
+unfoldable pub viaC : Rule → ℕ → BoundSum
+viaC r x = sumSum (sumC (entryC (r .old) (x / 5) (r .left)) (r .bound)) (entryC (r .old) (r .right) (x % 5))
+
+-- against the entry; no, past the clocks
+unfoldable pub pushTest : Rule → ℕ → Test
+pushTest r x = pick (ltb (r .clocks) (x / 5)) No (pick (ltb (r .clocks) (x % 5)) No (testSum (viaC r x) (getD (r .old) x zeroBound)))
+
+-- the test of a phase
+unfoldable pub askC : Rule → ℕ → Test
+askC r zero = voidTest r
+askC r (suc zero) = tightTest r
+askC r (suc (suc x)) = pushTest r x

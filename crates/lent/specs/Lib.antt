@@ -1,2 +1,0 @@
--- What a call of Windows on a table by value gives.
-pub mod Cut

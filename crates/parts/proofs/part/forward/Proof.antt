@@ -1,0 +1,43 @@
+-- The verdicts are the cases of `forwardC`.
+use borrow.Author.Needs.{needs}
+use Rattle.parts.proofs.part.forward.Statement.{statement}
+use Rattle.parts.proofs.part.forward.Tie as tie
+use Rattle.parts.proofs.Steps.{forward-no, forward-yes, forward-halts}
+use mathlib.Core.Path.{_∙_}
+
+asked-requires : tie.Need-asked-requires
+asked-requires c κs = search needs
+
+settled-requires : tie.Need-settled-requires
+settled-requires c κs = search needs
+
+answered-requires : tie.Need-answered-requires
+answered-requires c κs = search needs
+
+returns : tie.Need-returns
+returns c = c .answered .ensures ∙ forward-no (c .before .before .before .before .before .before .args .b) (c .before .before .before .before .before .before .args .r) (c .before .before .before .before .before .before .args .p) _ (c .before .before .before .before .asked .ensures) _ (c .before .before .before .settled .ensures) (c .before .if1 .taken)
+
+answered-requires-2 : tie.Need-answered-requires-2
+answered-requires-2 c κs = search needs
+
+returns-2 : tie.Need-returns-2
+returns-2 c = c .answered2 .ensures ∙ forward-yes (c .before .before .before .before .before .before .before .before .args .b) (c .before .before .before .before .before .before .before .before .args .r) (c .before .before .before .before .before .before .before .before .args .p) _ (c .before .before .before .before .before .before .asked .ensures) _ (c .before .before .before .before .before .settled .ensures) (c .before .before .before .if1 .left) (c .before .if2 .taken)
+
+halted-requires : tie.Need-halted-requires
+halted-requires c κs = search needs
+
+returns-3 : tie.Need-returns-3
+returns-3 c = c .halted .ensures ∙ forward-halts (c .before .before .before .before .before .before .before .before .args .b) (c .before .before .before .before .before .before .before .before .args .r) (c .before .before .before .before .before .before .before .before .args .p) _ (c .before .before .before .before .before .before .asked .ensures) _ (c .before .before .before .before .before .settled .ensures) (c .before .before .before .if1 .left) (c .before .if2 .left)
+
+pub forward-spec : {M : Type 1} → statement M
+forward-spec =
+    tie.close
+    (tie.spec
+    asked-requires
+    settled-requires
+    answered-requires
+    returns
+    answered-requires-2
+    returns-2
+    halted-requires
+    returns-3)

@@ -1,0 +1,2 @@
+-- A part of a zone, test by test.
+pub mod Parts

@@ -1,0 +1,153 @@
+// A part of a zone on its way through the tests of a guard.
+use constrain::Rule;
+use expr::Bound;
+use expr::Expr;
+use expr::Ranges;
+use zones::Verdict;
+use zones::Zone;
+ghost use mathlib.Core.Path.{_≡_};
+ghost use Rattle.constrain.specs.Rules.{viaC, viaBound};
+ghost use Rattle.parts.specs.Parts.{standing, putC, pushedC, answeredC, forwardC, yesC, noC};
+ghost use Rattle.zones.specs.Zone.{pick};
+
+// A part: the test that comes next (27: none); whether it goes on (0), is cut (1), is kept (2), splits by the test (3), or is refused (8, 9);
+// and its zone, whose matrix is the new one.
+pub struct Part {
+    pub phase: usize,
+    pub halt: usize,
+    pub test: Expr,
+    pub zone: Zone,
+}
+
+// The part at a phase, going on or halted.
+fn at(p: Part, phase: usize, halt: usize) -> Part
+    ensures { λ r. ⌜ r ≡ standing p phase halt ⌝ }
+{
+    let zone = p.zone;
+    let test = p.test;
+    Part {
+        phase,
+        halt,
+        test,
+        zone,
+    }
+}
+
+// The part with an entry put in; outside the matrix there is none.
+fn put(p: Part, x: usize, b: Bound) -> Part
+    ensures { λ r. ⌜ r ≡ putC p x b ⌝ }
+{
+    if x < 25 {
+        let mut zone = p.zone;
+        let test = p.test;
+        zone.bounds[x] = b;
+        return Part {
+            phase: p.phase,
+            halt: p.halt,
+            test,
+            zone,
+        };
+    }
+    p
+}
+
+// The part with the entry x put in where it is tighter.
+fn entered(r: Rule, p: Part, x: usize, yes: bool) -> Part
+    ensures { λ q. ⌜ q ≡ pick yes (putC p x (viaBound (viaC r x))) p ⌝ }
+{
+    if yes {
+        return put(p, x, constrain::via_bound(r, x));
+    }
+    p
+}
+
+// The part after the test of the entry x: the entry is put in, or not; after the last one the part is kept.
+fn pushed(r: Rule, p: Part, x: usize, yes: bool) -> Part
+    ensures { λ q. ⌜ q ≡ pushedC r p x yes ⌝ }
+{
+    let q = entered(r, p, x, yes);
+    if x < 24 {
+        return at(q, x + 3, 0);
+    }
+    at(q, 27, 2)
+}
+
+// The part after the answer to its test.
+fn answered(r: Rule, p: Part, yes: bool) -> Part
+    ensures { λ q. ⌜ q ≡ answeredC r p yes ⌝ }
+{
+    if p.phase < 1 {
+        if yes {
+            return at(p, 27, 1);
+        }
+        return at(p, 1, 0);
+    }
+    if p.phase < 2 {
+        if yes {
+            return at(p, 2, 0);
+        }
+        return at(p, 27, 2);
+    }
+    pushed(r, p, p.phase - 2, yes)
+}
+
+// A part that stops at its test.
+fn halted(p: Part, v: Verdict) -> Part
+    ensures { λ q. ⌜ q ≡ record { phase = p .phase; halt = v .kind; test = v .test; zone = p .zone } ⌝ }
+{
+    let zone = p.zone;
+    let test = v.test;
+    Part {
+        phase: p.phase,
+        halt: v.kind,
+        test,
+        zone,
+    }
+}
+
+// The part after its test, if that is settled; else it stops there.
+pub fn forward(b: Ranges, r: Rule, p: Part) -> Part
+    ensures { λ q. ⌜ q ≡ forwardC b r p ⌝ }
+{
+    let zone = p.zone;
+    let v = zones::settled(b, zone, constrain::asked(r, p.phase));
+    if v.kind < 1 {
+        return answered(r, p, false);
+    }
+    if v.kind < 2 {
+        return answered(r, p, true);
+    }
+    halted(p, v)
+}
+
+// The yes part of a split.
+pub fn yes_part(r: Rule, p: Part) -> Part
+    ensures { λ q. ⌜ q ≡ yesC r p ⌝ }
+{
+    let zone = p.zone;
+    let test = p.test;
+    let more = zones::with_inequality(zone, test);
+    let part = Part {
+        phase: p.phase,
+        halt: 0,
+        test,
+        zone: more,
+    };
+    answered(r, part, true)
+}
+
+// Its no part.
+pub fn no_part(r: Rule, p: Part) -> Part
+    ensures { λ q. ⌜ q ≡ noC r p ⌝ }
+{
+    let zone = p.zone;
+    let test = p.test;
+    let more = zones::with_opposite(zone, test);
+    let part = Part {
+        phase: p.phase,
+        halt: 0,
+        test,
+        zone: more,
+    };
+    answered(r, part, false)
+}

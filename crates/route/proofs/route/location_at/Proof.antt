@@ -1,0 +1,27 @@
+-- The index is below 16.
+use borrow.Author.Needs.{needs}
+use Rattle.route.proofs.route.location_at.Statement.{statement}
+use Rattle.route.proofs.route.location_at.Tie as tie
+use Prim.Native.Nat.{ℕ, _<_}
+use lib.Dec.{lit<}
+use lib.ListN.{getD}
+use Rattle.sheet.specs.WellFormed.{noLocation}
+use Rattle.timed.specs.Indexed.{locationC, at-fits}
+use mathlib.Core.Path.{ap, subst, sym}
+use native.Mathlib.Omega.{arith}
+
+below-requires : tie.Need-below-requires
+below-requires c κs = search needs
+
+mul-result : tie.Need-mul-result
+mul-result c = let h = subst (λ (n : ℕ). n < 16) (sym (c .below .ensures)) (at-fits 16 (c .before .args .l) (lit< tt)) in omega arith
+
+element-copy-out-result : tie.Need-element-copy-out-result
+element-copy-out-result c = subst (λ (n : ℕ). n < 16) (sym (c .below .ensures)) (at-fits 16 (c .before .args .l) (lit< tt))
+
+returns : tie.Need-returns
+unfolding locationC
+returns c = ap (λ (n : ℕ). getD (c .before .before .args .t1 .location) n noLocation) (c .before .below .ensures)
+
+pub location-at-spec : {M : Type 1} → statement M
+location-at-spec = tie.close (tie.spec below-requires mul-result element-copy-out-result returns)

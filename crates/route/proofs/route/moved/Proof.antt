@@ -1,0 +1,35 @@
+-- The guards, then the resets, then the visit.
+use borrow.Author.Needs.{needs}
+use Rattle.route.proofs.route.moved.Statement.{statement}
+use Rattle.route.proofs.route.moved.Tie as tie
+use mathlib.Core.Path.{_∙_, ap}
+use Rattle.zones.specs.declared.zone.Zones.{Zones}
+use lib.ListN.{take}
+use Prim.Native.Nat.{ℕ, suc}
+use native.Mathlib.Numerals.{add-one}
+use Rattle.coded.specs.Walked.{atVisit, resetsAll, guardsAll, moveAll}
+use Prim.Native.Nat.{_+_}
+
+guards-of-requires : tie.Need-guards-of-requires
+guards-of-requires c κs = search needs
+
+resets-all-requires : tie.Need-resets-all-requires
+resets-all-requires c κs = search needs
+
+add-at-visit : tie.Need-add-at-visit
+add-at-visit c = search needs
+
+at-visit-requires : tie.Need-at-visit-requires
+at-visit-requires c κs = search needs
+
+returns : tie.Need-returns
+unfolding moveAll
+returns c =
+    let a = c .before .before .before .before .args in
+    c .at-visit .ensures ∙ ap (λ (z : Zones). atVisit (a .visit + 1) z) (c .before .resets-all .ensures ∙ ap (λ (z : Zones). resetsAll (a .clocks) (a .t .resets) z) (c .before .before .guards-of .ensures))
+    ∙ ap (λ (k : ℕ). atVisit k (resetsAll (a .clocks) (a .t .resets) (guardsAll (a .b) (a .clocks) (take (a .t .count) (a .t .guards)) (a .zones)))) (add-one (a .visit))
+
+pub moved-spec : {M : Type 1} → statement M
+moved-spec =
+    tie.close
+    (tie.spec guards-of-requires resets-all-requires add-at-visit at-visit-requires returns)

@@ -1,0 +1,16 @@
+-- One zone before blank ones.
+use borrow.Author.Needs.{needs}
+use Rattle.route.proofs.route.start.Statement.{statement}
+use Rattle.route.proofs.route.start.Tie as tie
+use mathlib.Core.Path.{refl}
+use Rattle.coded.specs.Walked.{startAll}
+
+array-set-from-list : tie.Need-array-set-from-list
+array-set-from-list c = search needs
+
+returns : tie.Need-returns
+unfolding startAll
+returns c = refl
+
+pub start-spec : {M : Type 1} → statement M
+start-spec = tie.close (tie.spec array-set-from-list returns)

@@ -1,0 +1,101 @@
+-- The loop's invariant: what is left of the route takes the zones to where the whole route takes them.
+use Rattle.route.proofs.route.walk.Statement.{statement}
+use Rattle.route.proofs.route.walk.Tie as tie
+use Prim.Native.Nat.{ℕ, _≤_, _-_}
+use lib.ListN.{length, take, drop}
+use Rattle.timed.specs.Indexed.{transitionC}
+use Rattle.coded.specs.Walked.{walkAll, zonesAll}
+use Rattle.zones.specs.declared.zone.Zones.{Zones}
+use mathlib.Core.Path.{_≡_, refl, ap, _∙_}
+use native.Mathlib.Omega.{arith}
+use Rattle.route.proofs.Steps.{size-is, walk-turn, walk-done}
+use borrow.Author.Needs.{needs}
+
+abbrev Inv-loop : tie.InvT-loop
+Inv-loop s b n zones₀ l₀ k₀ zones l k = (n ≤ 32) × (n ≡ length (take (s .moves) (s .route))) × (walkAll s k l (drop k (take (s .moves) (s .route))) zones ≡ zonesAll s)
+
+abbrev μ-loop : tie.MeasureT-loop
+μ-loop s b n zones₀ l₀ k₀ zones l k = n - k
+
+at-most-requires : tie.Need-at-most-requires Inv-loop μ-loop
+at-most-requires c κs = search needs
+
+start-requires : tie.Need-start-requires Inv-loop μ-loop
+start-requires c κs = search needs
+
+loop-holds : tie.Need-loop-holds Inv-loop μ-loop
+unfolding zonesAll
+loop-holds c =
+    let s = c .before .before .before .args .t1 in
+    let l : length (s .route) ≡ 32 = search needs in
+    let h = size-is _ (s .moves) 32 (s .route) (c .before .at-most .ensures) l in
+    (h .0, h .1, ap (λ (z : Zones). walkAll s 0 0 (take (s .moves) (s .route)) z) (c .start .ensures))
+
+element-copy-out-wide : tie.Need-element-copy-out-wide Inv-loop μ-loop
+element-copy-out-wide c = omega (arith, c .loop-test .taken, c .before .loop .inv .0)
+
+wide-requires : tie.Need-wide-requires Inv-loop μ-loop
+wide-requires c κs = search needs
+
+transition-at-requires : tie.Need-transition-at-requires Inv-loop μ-loop
+transition-at-requires c κs = search needs
+
+location-at-requires : tie.Need-location-at-requires Inv-loop μ-loop
+location-at-requires c κs = search needs
+
+stay-requires : tie.Need-stay-requires Inv-loop μ-loop
+stay-requires c κs = search needs
+
+moved-requires : tie.Need-moved-requires Inv-loop μ-loop
+moved-requires c κs = omega (arith, c .before .before .before .before .before .loop-test .taken, c .before .before .before .before .before .before .loop .inv .0)
+
+add-k : tie.Need-add-k Inv-loop μ-loop
+add-k c = omega (arith, c .before .before .before .before .before .before .loop-test .taken, c .before .before .before .before .before .before .before .loop .inv .0)
+
+loop-less : tie.Need-loop-less Inv-loop μ-loop
+loop-less c = omega (arith, c .before .before .before .before .before .before .loop-test .taken)
+
+loop-again : tie.Need-loop-again Inv-loop μ-loop
+loop-again c =
+    let s = c .before .before .before .before .before .before .before .before .before .before .before .args .t1 in
+    let i = c .before .before .before .before .before .before .before .loop in
+    let v = i .inv in (
+      v .0,
+      v .1,
+      walk-turn s (i .k) (i .l) (i .zones) (c .before .stay .result) (c .moved .result) _ (c .before .before .location-at .result) (c .before .before .before .transition-at .result) (omega (arith, c .before .before .before .before .before .before .loop-test .taken, v .1)) (v .2)
+          (c .before .before .before .transition-at .ensures ∙ ap (λ (n : ℕ). transitionC s n) (c .before .before .before .before .wide .ensures)) (c .before .before .location-at .ensures) (c .before .stay .ensures) (c .moved .ensures),
+    )
+
+location-at-requires-2 : tie.Need-location-at-requires-2 Inv-loop μ-loop
+location-at-requires-2 c κs = search needs
+
+stay-requires-2 : tie.Need-stay-requires-2 Inv-loop μ-loop
+stay-requires-2 c κs = search needs
+
+returns : tie.Need-returns Inv-loop μ-loop
+returns c =
+    let s = c .before .before .before .before .before .before .before .args .t1 in
+    let i = c .before .before .before .loop in
+    walk-done s (i .k) (i .l) (i .zones) _ _ (c .before .location-at2 .result) (omega (arith, c .before .before .loop-test .left, i .inv .1)) (i .inv .2) (c .before .location-at2 .ensures) (c .stay2 .ensures)
+
+pub walk-spec : {M : Type 1} → statement M
+walk-spec =
+    tie.close
+    (tie.spec
+    Inv-loop
+    μ-loop
+    at-most-requires
+    start-requires
+    loop-holds
+    element-copy-out-wide
+    wide-requires
+    transition-at-requires
+    location-at-requires
+    stay-requires
+    moved-requires
+    add-k
+    loop-less
+    loop-again
+    location-at-requires-2
+    stay-requires-2
+    returns)

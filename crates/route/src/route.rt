@@ -1,0 +1,154 @@
+// The zones of a sheet along its route.
+use expr::Bound;
+use expr::Expr;
+use expr::Ranges;
+use sheet::Guard;
+use sheet::Location;
+use sheet::Sheet;
+use sheet::Transition;
+use zones::Zone;
+use zones::Zones;
+ghost use mathlib.Core.Path.{_≡_};
+ghost use Prim.Native.Nat.{min, suc, _<_};
+ghost use lib.ListN.{take};
+ghost use Rattle.timed.specs.Indexed.{at, locationC, transitionC};
+ghost use Rattle.coded.specs.Walked.{atVisit, guardsAll, stayAll, moveAll, startAll, zonesAll};
+
+// n, or most where n is more.
+fn at_most(n: usize, most: usize) -> usize
+    ensures { λ r. ⌜ r ≡ min n most ⌝ }
+{
+    if n < most {
+        return n;
+    }
+    most
+}
+
+// The zones at a visit, unless they were refused before.
+fn at_visit(zones: Zones, visit: usize) -> Zones
+    ensures { λ r. ⌜ r ≡ atVisit visit zones ⌝ }
+{
+    if zones.refusal == 0 {
+        let mut next = zones;
+        next.visit = visit;
+        return next;
+    }
+    zones
+}
+
+// The zones after the first count guards, in order.
+fn guards_of(b: Ranges, clocks: usize, zones: Zones, count: usize, guards: [Guard; 6]) -> Zones
+    ensures { λ r. ⌜ r ≡ guardsAll b clocks (take count guards) zones ⌝ }
+{
+    let n = at_most(count, 6);
+    let mut now = zones;
+    let mut i = 0;
+    while i < n {
+        let g = guards[i];
+        let next = split::cut_by(b, clocks, g, now);
+        now = next;
+        i += 1;
+    }
+    now
+}
+
+// The zones after a stay: a wait, then the location's invariants (paper: standing limits).
+fn stay(b: Ranges, clocks: usize, here: Location, zones: Zones) -> Zones
+    ensures { λ r. ⌜ r ≡ stayAll b clocks here zones ⌝ }
+{
+    let guards = here.guards;
+    guards_of(
+        b,
+        clocks,
+        delay::delayed_all(zones, clocks),
+        here.count,
+        guards,
+    )
+}
+
+// The zones after a transition (paper: move): its guards, which belong to the visit before it, then its resets.
+fn moved(b: Ranges, clocks: usize, visit: usize, t: Transition, zones: Zones) -> Zones
+    requires { ⌜ visit < 32 ⌝ }
+    ensures { λ r. ⌜ r ≡ moveAll b clocks visit t zones ⌝ }
+{
+    let guards = t.guards;
+    let limited = guards_of(b, clocks, zones, t.count, guards);
+    at_visit(delay::resets_all(limited, clocks, t.resets), visit + 1)
+}
+
+// i, or 0 where i is not below n.
+fn below(i: usize, n: usize) -> usize
+    ensures { λ r. ⌜ r ≡ at n i ⌝ }
+{
+    if i < n {
+        return i;
+    }
+    0
+}
+
+// The location with the number l.
+fn location_at(s: Sheet, l: usize) -> Location
+    ensures { λ r. ⌜ r ≡ locationC s l ⌝ }
+{
+    let i = below(l, 16);
+    s.location[i]
+}
+
+// The transition with the number n.
+fn transition_at(s: Sheet, n: usize) -> Transition
+    ensures { λ r. ⌜ r ≡ transitionC s n ⌝ }
+{
+    let i = below(n, 32);
+    s.transition[i]
+}
+
+// x as a wider number.
+fn wide(x: u8) -> usize
+    ensures { λ r. ⌜ r ≡ x ⌝ }
+{
+    x as usize
+}
+
+// One zone without inequalities, all entries zero, not strict.
+fn start() -> Zones
+    ensures { λ r. ⌜ r ≡ startAll ⌝ }
+{
+    let first = Zone {
+        count: 0,
+        ineqs: [Expr::ZERO; 24],
+        bounds: [Bound::ZERO; 25],
+    };
+    let mut list = [Zone::BLANK; 32];
+    list[0] = first;
+    Zones {
+        refusal: 0,
+        visit: 0,
+        count: 1,
+        list,
+    }
+}
+
+// The zones after the whole route, or the first refusal that is met.
+pub fn walk(s: Sheet) -> Zones
+    ensures { λ r. ⌜ r ≡ zonesAll s ⌝ }
+{
+    let b = s.ranges;
+    let n = at_most(s.moves, 32);
+    let mut zones = start();
+    let mut l = 0;
+    let mut k = 0;
+    while k < n {
+        let t = transition_at(s, wide(s.route[k]));
+        let next = moved(
+            b,
+            s.clocks,
+            k,
+            t,
+            stay(b, s.clocks, location_at(s, l), zones),
+        );
+        zones = next;
+        l = t.to;
+        k += 1;
+    }
+    stay(b, s.clocks, location_at(s, l), zones)
+}

@@ -1,0 +1,33 @@
+-- The loop's invariant: the part on its way comes to what the first one comes to.
+use Rattle.split.proofs.cut.run.Statement.{statement}
+use Rattle.split.proofs.cut.run.Tie as tie
+use Prim.Native.Nat.{_<_}
+use borrow.Author.Needs.{needs}
+use mathlib.Core.Path.{subst, sym}
+use Rattle.split.proofs.Runs.{Going, left, going-starts, going-ends, goes-on, left-less}
+use Rattle.parts.specs.declared.part.Part.{Part}
+
+abbrev Inv-loop : tie.InvT-loop
+Inv-loop b r q₀ q = Going b r q₀ q
+
+abbrev μ-loop : tie.MeasureT-loop
+μ-loop b r q₀ q = left q
+
+loop-holds : tie.Need-loop-holds Inv-loop μ-loop
+loop-holds c = going-starts (c .args .b) (c .args .r) (c .args .p) (c .pre)
+
+forward-requires : tie.Need-forward-requires Inv-loop μ-loop
+forward-requires c κs = search needs
+
+loop-less : tie.Need-loop-less Inv-loop μ-loop
+loop-less c = let g = c .before .before .before .loop .inv in subst (λ (p : Part). left p < left (c .before .before .before .loop .q)) (sym (c .forward .ensures)) (left-less _ _ (c .before .before .before .before .args .p) (c .before .before .before .loop .q) g (c .before .if1 .taken))
+
+loop-again : tie.Need-loop-again Inv-loop μ-loop
+loop-again c = subst (λ (p : Part). Going (c .before .before .before .before .args .b) (c .before .before .before .before .args .r) (c .before .before .before .before .args .p) p) (sym (c .forward .ensures)) (goes-on (c .before .before .before .before .args .b) (c .before .before .before .before .args .r) (c .before .before .before .before .args .p) (c .before .before .before .loop .q) (c .before .before .before .loop .inv) (c .before .if1 .taken))
+
+returns : tie.Need-returns Inv-loop μ-loop
+returns c = going-ends (c .before .before .before .args .b) (c .before .before .before .args .r) (c .before .before .before .args .p) (c .before .before .loop .q) (c .before .before .loop .inv) (c .if1 .left)
+
+pub run-spec : {M : Type 1} → statement M
+run-spec =
+    tie.close (tie.spec Inv-loop μ-loop loop-holds forward-requires loop-less loop-again returns)

@@ -1,0 +1,137 @@
+// One guard over zones in order: the parts still to be worked on stand on a stack, the next one on top.
+use crate::list;
+use constrain::Rule;
+use expr::Expr;
+use expr::Ranges;
+use parts::Part;
+use sheet::Guard;
+use zones::Zone;
+use zones::Zones;
+ghost use mathlib.Core.Path.{_≡_};
+ghost use Prim.Native.Nat.{min};
+ghost use Rattle.split.specs.Guarded.{cutC, ruleC, guardedC};
+ghost use Rattle.split.specs.Trees.{startC, endedC, Live, Ran};
+
+// n, or most where n is more.
+fn at_most(n: usize, most: usize) -> usize
+    ensures { λ r. ⌜ r ≡ min n most ⌝ }
+{
+    if n < most {
+        return n;
+    }
+    most
+}
+
+// The part where it stops.
+fn run(b: Ranges, r: Rule, p: Part) -> Part
+    requires { ⌜ Live p ⌝ }
+    ensures { λ q. ⌜ Ran b r p q ⌝ }
+{
+    let mut q = p;
+    while q.halt < 1 {
+        let next = parts::forward(b, r, q);
+        q = next;
+    }
+    q
+}
+
+// The zones listed so far, after a part that is not split: cut, it leaves them; kept, it is listed; or refused.
+fn ended(out: Zones, p: Part) -> Zones
+    ensures { λ r. ⌜ r ≡ endedC p out ⌝ }
+{
+    if p.halt < 2 {
+        return out;
+    }
+    if p.halt < 3 {
+        let zone = p.zone;
+        return list::listed(out, zone);
+    }
+    if p.halt < 4 {
+        return out;
+    }
+    list::refused(out, p.halt)
+}
+
+// The zone before the first test.
+fn start(zone: Zone) -> Part
+    ensures { λ r. ⌜ r ≡ startC zone ⌝ }
+{
+    Part {
+        phase: 0,
+        halt: 0,
+        test: Expr::ZERO,
+        zone,
+    }
+}
+
+// The zones listed so far, and then the parts of a zone that a guard leaves.
+fn cut_zone(b: Ranges, r: Rule, zone: Zone, out: Zones) -> Zones
+    ensures { λ s. ⌜ s ≡ cutC b r zone out ⌝ }
+{
+    if 0 < out.refusal {
+        return out;
+    }
+    let mut stack = [start(zone); 25];
+    let mut now = out;
+    let mut n = 1;
+    while 0 < n {
+        let top = n - 1;
+        let popped = stack[top];
+        let p = run(b, r, popped);
+        let next = ended(now, p);
+        now = next;
+        if 0 < now.refusal {
+            return now;
+        }
+        if p.halt == 3 {
+            let no = parts::no_part(r, p);
+            let yes = parts::yes_part(r, p);
+            stack[top] = no;
+            stack[n] = yes;
+            n += 1;
+        } else {
+            n = top;
+        }
+    }
+    now
+}
+
+// The rule of a guard for a zone's matrix.
+fn rule(clocks: usize, g: Guard, zone: Zone) -> Rule
+    ensures { λ r. ⌜ r ≡ ruleC clocks g zone ⌝ }
+{
+    let old = zone.bounds;
+    let bound = g.bound;
+    Rule {
+        clocks,
+        left: g.left as usize,
+        right: g.right as usize,
+        bound,
+        old,
+    }
+}
+
+// What a guard leaves of zones in order. Zones that were refused stay so, and so do all where the guard has no such clock.
+pub fn cut_by(b: Ranges, clocks: usize, g: Guard, zones: Zones) -> Zones
+    ensures { λ r. ⌜ r ≡ guardedC b clocks g zones ⌝ }
+{
+    if 0 < zones.refusal {
+        return zones;
+    }
+    if 4 < g.left {
+        return zones;
+    }
+    if 4 < g.right {
+        return zones;
+    }
+    let n = at_most(zones.count, 32);
+    let mut out = list::none_at(zones.visit);
+    let mut i = 0;
+    while i < n {
+        let zone = zones.list[i];
+        let next = cut_zone(b, rule(clocks, g, zone), zone, out);
+        out = next;
+        i += 1;
+    }
+    out
+}

@@ -1,0 +1,2 @@
+-- What a call of Windows on a table by value gives.
+pub mod On
