@@ -18,13 +18,15 @@ use Rattle.expr.specs.declared.bound.Bound.{Bound}
 use Rattle.expr.specs.declared.number.Expr.{Expr}
 use Rattle.expr.specs.declared.number.Valuation.{Valuation}
 use Rattle.expr.specs.declared.range.Range.{Range}
-use Rattle.sweep.specs.Right.{AllOf}
+use Rattle.timed.specs.Right.{AllOf}
 use Rattle.sheet.specs.declared.Sheet.{Sheet}
 use Rattle.timed.specs.Runs.{Run}
-use Rattle.agreement.specs.Agreement.{sheetOf, IsRun, IsVoid}
+use Rattle.sweep.specs.Theorems.{sheetOf, IsRun, IsVoid}
 use Rattle.agreement.specs.Bytes.{minus, range, constant, withP, withPQ, atMost, under, standing, moving}
-use Rattle.agreement.specs.Lent.{Lists, table, pieceAt}
-use Rattle.windows.specs.declared.reply.Counts.{Counts}
+use Rattle.agreement.specs.Words.{windowsOf, table, pieceAt}
+use Rattle.answers.specs.Numbers.{numbered}
+use Rattle.answers.specs.declared.windows.Counts.{Counts}
+use Rattle.windows.specs.Reply.{answeredOf}
 use Rattle.constrain.specs.Rules.{entryC}
 use Rattle.windows.specs.declared.table.Piece.{Piece}
 
@@ -71,11 +73,11 @@ abbrev pub countsIn : SheetRow → Counts
 countsIn r = record { pieces = length (r .pieces); kept = r .kept; cut = r .cut }
 
 pub record SheetYields (r : SheetRow) : Type 0 where
-  pub lists : Lists (r .file) 32 (countsIn r)
+  pub lists : answeredOf (windowsOf (r .file) 32) ≡ record { answer = numbered 0 0; counts = countsIn r }
   pub pieces : map (pieceIn (sheetOf (r .file))) (take (length (r .pieces)) (table (r .file) 32)) ≡ r .pieces
   pub entries : AllOf (λ e. entryC (pieceAt (r .file) 32 (e .piece) .bounds) (e .row) (e .column) ≡ e .bound) (r .entries)
-  pub runs : AllOf (λ v. IsRun (r .file) (v .p) (v .q) (v .r) × Run (sheetOf (r .file)) (point v)) (r .runs)
-  pub voids : AllOf (λ v. IsVoid (r .file) (v .p) (v .q) (v .r) × (Run (sheetOf (r .file)) (point v) → ⊥)) (r .voids)
+  pub runs : AllOf (λ v. IsRun (r .file) (point v) × Run (sheetOf (r .file)) (point v)) (r .runs)
+  pub voids : AllOf (λ v. IsVoid (r .file) (point v) × (Run (sheetOf (r .file)) (point v) → ⊥)) (r .voids)
 
 pub record IntervalYields (r : IntervalRow) : Type 0 where
   pub is : interval (r .whole) (r .constant) (r .slope) ≡ r .part

@@ -1,10 +1,13 @@
--- What the replies of Windows and Sweep are worth: Agreement (against Sweep and runs), Grounds (the refusals), Stored (the table), Kept (kept and
--- cut), and Cases (the proved rows of the paper). Lent, Bytes and Yielded serve these.
+-- What is read first: Words, then Demand, which has all of demand 3 in one record: Agreement (Windows against Sweep and runs), Grounds (each answer
+-- exactly if its ground holds), Stored (the table) and Kept (kept and cut). Cases has the proved rows of the paper, Yielded their proof, Bytes
+-- their files; Behind serves the rest.
 pub mod Agreement
+pub mod Behind
 pub mod Bytes
 pub mod Cases
+pub mod Demand
 pub mod Grounds
 pub mod Kept
-pub mod Lent
 pub mod Stored
+pub mod Words
 pub mod Yielded

@@ -1,12 +1,15 @@
 -- What the table has after the call (paper 01, "The lent table of pieces gets the pieces in order; the rest of it becomes blank"): where the zones
 -- are listed, they in order and blank places past them; with a refusal it is all blank.
 use mathlib.Core.Path.{_≡_, refl, sym, ap, subst, _∙_}
-use mathlib.Core.List.{List, map}
-use mathlib.Core.Bool.{Bool, true, false}
+use mathlib.Core.List.{List, [], _++_, map}
+use mathlib.Core.Bool.{Bool, true, false, cond}
 use Prim.Native.Nat.{ℕ, _-_, _≤_, _<_}
 use native.Mathlib.Omega.{arith}
-use lib.Dec.{ltb}
-use lib.ListN.{length, getD, replicate, take}
+use lib.Dec.{ltb, eqb}
+use lib.ListN.{length, getD, take, replicate}
+use Rattle.answers.specs.Numbers.{numbered}
+use Rattle.coded.specs.Coded.{zoneOf, taken, entry-at}
+use Rattle.constrain.specs.Rules.{entryC}
 use Rattle.cutting.specs.Cutting.{Listing, listed, refused, zonesOf}
 use Rattle.cutting.specs.Cutting as cutting
 use Rattle.cutting.specs.Shape.{Shaped, zones-shaped}
@@ -14,46 +17,42 @@ use Rattle.dbm.specs.Entries.{Outside}
 use Rattle.expr.specs.Affine.{Affine}
 use Rattle.expr.specs.Limit.{Limit}
 use Rattle.expr.specs.Three.{exprOf, boundOf}
-use Rattle.contents.specs.declared.Refusal.{Refusal}
-use Rattle.contents.specs.declared.Refusal.the-variants.{Nothing, Size, Contents, Body, Route}
-use Rattle.sheet.specs.declared.Sheet.{Sheet}
 use Rattle.sheet.specs.File.{readOf}
-use Rattle.windows.specs.Reply.{blankPiece, blankWork, listingWork, sheetWork, readingWork, workOf, tableOf}
+use Rattle.sheet.specs.declared.Sheet.{Sheet}
+use Rattle.sweep.specs.Theorems.{sheetOf}
+use Rattle.windows.specs.Reply as windows
+use Rattle.windows.specs.Reply.{WindowsReply, refusedReply, listingReply, pieceOf, blankPiece, tableOf}
 use Rattle.windows.specs.Table.{past-list, table-length}
 use Rattle.windows.specs.declared.table.Piece.{Piece}
-use Rattle.agreement.specs.Lent.{Lists, table, pieceAt, recordOf, Behind, lists-behind, noZone, member, pieces-are, few-pieces, table-is, piece-is, past-pieces}
-use Rattle.windows.specs.declared.reply.Answer.the-variants as answer
-use Rattle.windows.specs.declared.reply.Counts.{Counts}
-use Rattle.coded.specs.Coded.{zoneOf, entry-at, taken}
-use Rattle.zones.specs.Zone.{pick, zeroExpr, zeroBound}
-use Rattle.constrain.specs.Rules.{entryC}
-use Rattle.zones.specs.declared.zone.Zone.{Zone}
+use Rattle.zones.specs.Zone.{zeroBound, zeroExpr}
+use Rattle.agreement.specs.Behind.{Behind, lists-behind, noZone, member, pieces-are, few-pieces, table-is, piece-is, past-pieces}
+use Rattle.agreement.specs.Words.{windowsOf, Lists, pieces, table, pieceAt}
 
 -- ---- the statements
-pub record Filled (file : List ℕ) (n : ℕ) (c : Counts) : Type 0 where
+pub record Filled (file : List ℕ) (n : ℕ) : Type 0 where
   -- the places that were lent, of which at most 32 are pieces
   pub long : length (table file n) ≡ n
-  pub few : c .pieces ≤ 32
+  pub few : pieces file n ≤ 32
   -- the pieces are the zones that the cutting lists, in order
-  pub zones : (zs : List cutting.Zone) × (zonesOf (readOf file .sheet) ≡ listed zs) × (take (c .pieces) (table file n) ≡ map recordOf zs)
+  pub zones : (zs : List cutting.Zone) × (zonesOf (sheetOf file) ≡ listed zs) × (take (pieces file n) (table file n) ≡ map pieceOf zs)
   -- a piece is in use; it has at most 24 inequalities, and zeros past them; past the sheet's clocks its entries are zero, not strict
-  pub used : (i : ℕ) → i < c .pieces → pieceAt file n i .used ≡ true
-  pub ineqs : (i : ℕ) → i < c .pieces → pieceAt file n i .count ≤ 24
-  pub spare : (i k : ℕ) → i < c .pieces → pieceAt file n i .count ≤ k → getD (pieceAt file n i .ineqs) k zeroExpr ≡ zeroExpr
-  pub padding : (i k l : ℕ) → i < c .pieces → k ≤ 4 → l ≤ 4 → Outside (readOf file .sheet .clocks) k l → entryC (pieceAt file n i .bounds) k l ≡ zeroBound
+  pub used : (i : ℕ) → i < pieces file n → pieceAt file n i .used ≡ true
+  pub ineqs : (i : ℕ) → i < pieces file n → pieceAt file n i .count ≤ 24
+  pub spare : (i k : ℕ) → i < pieces file n → pieceAt file n i .count ≤ k → getD (pieceAt file n i .ineqs) k zeroExpr ≡ zeroExpr
+  pub padding : (i k l : ℕ) → i < pieces file n → k ≤ 4 → l ≤ 4 → Outside (sheetOf file .clocks) k l → entryC (pieceAt file n i .bounds) k l ≡ zeroBound
   -- every other place is blank
-  pub blank : (i : ℕ) → c .pieces ≤ i → i < n → pieceAt file n i ≡ blankPiece
+  pub blank : (i : ℕ) → pieces file n ≤ i → i < n → pieceAt file n i ≡ blankPiece
 
 abbrev pub TableFilled : Type 0
-TableFilled = (file : List ℕ) (n : ℕ) (c : Counts) → Lists file n c → Filled file n c
+TableFilled = (file : List ℕ) (n : ℕ) → Lists file n → Filled file n
 
--- an answer that lists no zones leaves every place blank
+-- a refusal leaves every place blank
 abbrev pub RefusedBlank : Type 0
-RefusedBlank = (file : List ℕ) (n : ℕ) → ((c : Counts) → Lists file n c → ⊥) → table file n ≡ replicate n blankPiece
+RefusedBlank = (file : List ℕ) (n : ℕ) → (Lists file n → ⊥) → table file n ≡ replicate n blankPiece
 
 -- ---- the proofs
 module _ (w : ℕ) (z : cutting.Zone) (h : Shaped w z) where
-  zone-used : recordOf z .used ≡ true
+  zone-used : pieceOf z .used ≡ true
   zone-used = refl
 
   zone-ineqs : zoneOf z .count ≤ 24
@@ -68,26 +67,29 @@ module _ (w : ℕ) (z : cutting.Zone) (h : Shaped w z) where
   unfolding zoneOf
   zone-padding k l hk hl o = entry-at (z .bounds) k l hk hl ∙ ap (λ (x : Limit Affine). boundOf x) (h .blank k l o)
 
-module _ {file : List ℕ} {n : ℕ} {c : Counts} (b : Behind file n c) where
+module _ {file : List ℕ} {n : ℕ} {zs : List cutting.Zone} (b : Behind file n zs) where
   -- what holds of each zone of the sheet holds of each piece
-  each-piece : (P : Piece → Type 0) → ((z : cutting.Zone) → Shaped (readOf file .sheet .clocks) z → P (recordOf z)) → (i : ℕ) → i < c .pieces → P (pieceAt file n i)
+  each-piece : (P : Piece → Type 0) → ((z : cutting.Zone) → Shaped (sheetOf file .clocks) z → P (pieceOf z)) → (i : ℕ) → i < pieces file n → P (pieceAt file n i)
   each-piece P f i h =
       let e = pieces-are b in
-      let l : i < length (b .zones) = omega arith in
-      let z = getD (b .zones) i noZone in
-      subst P (sym (piece-is b i h)) (f z (zones-shaped (readOf file .sheet) (b .zones) (b .listing) .1 z (member (b .zones) i l)))
+      let l : i < length zs = omega arith in
+      let z = getD zs i noZone in
+      subst P (sym (piece-is b i h)) (f z (zones-shaped (sheetOf file) zs (b .listing) .1 z (member zs i l)))
 
-  taken-pieces : take (c .pieces) (table file n) ≡ map recordOf (b .zones)
-  taken-pieces = ap (λ (k : ℕ). take k (table file n)) (pieces-are b) ∙ ap (take (length (b .zones))) (table-is b) ∙ taken recordOf blankPiece (n - length (b .zones)) (b .zones)
+  taken-pieces : take (pieces file n) (table file n) ≡ map pieceOf zs
+  taken-pieces =
+      ap (λ (k : ℕ). take k (table file n)) (pieces-are b) ∙ ap (take (length zs)) (table-is b) ∙ taken pieceOf blankPiece (n - length zs) zs
 
 pub table-filled : TableFilled
-table-filled file n c lists =
-    let b = lists-behind file n c lists in
-    let w = readOf file .sheet .clocks in
+table-filled file n lists =
+    let behind = lists-behind file n lists in
+    let zs = behind .0 in
+    let b = behind .1 in
+    let w = sheetOf file .clocks in
     record {
       long = table-length file n;
-      few = few-pieces b;
-      zones = (b .zones, b .listing, taken-pieces b);
+      few = let e = pieces-are b in let h = few-pieces b in omega arith;
+      zones = (zs, b .listing, taken-pieces b);
       used = each-piece b (λ z. z .used ≡ true) (zone-used w);
       ineqs = each-piece b (λ z. z .count ≤ 24) (zone-ineqs w);
       spare = λ i k h. each-piece b (λ z. z .count ≤ k → getD (z .ineqs) k zeroExpr ≡ zeroExpr) (λ z f. zone-spare w z f k) i h;
@@ -96,28 +98,23 @@ table-filled file n c lists =
     }
 
 -- ---- a refusal
-listing-none : (s : Sheet) (o : Listing) → ((c : Counts) → listingWork s o .answer ≡ answer.Listed c → ⊥) → listingWork s o .pieces ≡ 0
-unfolding listingWork blankWork
-listing-none s (listed zs) h = absurd (h _ refl)
+listing-none : (s : Sheet) (o : Listing) → (listingReply s o .answer .number ≡ 0 → ⊥) → listingReply s o .zones ≡ []
+unfolding listingReply
+listing-none s (listed zs) h = absurd (h refl)
 listing-none s (refused m visit) h = refl
 
-reading-none : (r : Refusal) (s : Sheet) → ((c : Counts) → readingWork r s .answer ≡ answer.Listed c → ⊥) → readingWork r s .pieces ≡ 0
-unfolding readingWork sheetWork blankWork
-reading-none Nothing s h = listing-none s (zonesOf s) h
-reading-none Size s h = refl
-reading-none (Contents at) s h = refl
-reading-none (Body at) s h = refl
-reading-none (Route at) s h = refl
-
-work-none : (file : List ℕ) (n : ℕ) → ((c : Counts) → Lists file n c → ⊥) → workOf file n .pieces ≡ 0
-unfolding workOf blankWork
-work-none file n h = by (ltb n 32) h
+reply-none : (file : List ℕ) (n : ℕ) → (Lists file n → ⊥) → windowsOf file n .zones ≡ []
+unfolding windows.replyOf windows.readReply windows.sheetReply
+reply-none file n = by (ltb n 32) (eqb (readOf file .answer .number) 0)
   where
-    by : (b : Bool) → ((c : Counts) → pick b (blankWork answer.Small) (readingWork (readOf file .refusal) (readOf file .sheet)) .answer ≡ answer.Listed c → ⊥)
-        → pick b (blankWork answer.Small) (readingWork (readOf file .refusal) (readOf file .sheet)) .pieces ≡ 0
-    by true k = refl
-    by false k = reading-none (readOf file .refusal) (readOf file .sheet) k
+    reply : Bool → Bool → WindowsReply
+    reply b c = cond b (refusedReply (numbered 1 0)) (cond c (listingReply (sheetOf file) (zonesOf (sheetOf file))) (refusedReply (readOf file .answer)))
+
+    by : (b c : Bool) → (reply b c .answer .number ≡ 0 → ⊥) → reply b c .zones ≡ []
+    by true c h = refl
+    by false true h = listing-none (sheetOf file) (zonesOf (sheetOf file)) h
+    by false false h = refl
 
 pub refused-blank : RefusedBlank
 unfolding tableOf
-refused-blank file n h = let e : n - 0 ≡ n = omega arith in rw (work-none file n h, e) refl
+refused-blank file n h = let e : n - 0 ≡ n = omega arith in rw (reply-none file n h, e) refl

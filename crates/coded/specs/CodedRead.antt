@@ -6,17 +6,15 @@ use Prim.Native.Nat.{ℕ, _+_, _-_, _≤_}
 use lib.IntN.{ℤ}
 use lib.ListN.{length, take}
 use Rattle.cutting.specs.Kept.{keptOf}
-use Rattle.cutting.specs.Cutting.{listed, zonesOf}
 use Rattle.cutting.specs.Cutting as cutting
 use Rattle.cutting.specs.Held.{holds, at}
 use Rattle.expr.specs.Limit.{atV}
+use Rattle.expr.specs.Ranges.{Inside}
 use Rattle.expr.specs.Three.{affine, exprOf, limitOf, rangeList}
 use Rattle.search.specs.Valuations.{satisfies, count}
 use Rattle.expr.specs.declared.bound.Bound.{Bound}
 use Rattle.expr.specs.declared.number.Expr.{Expr}
 use Rattle.expr.specs.declared.range.Ranges.{Ranges}
-use Rattle.sheet.specs.declared.Sheet.{Sheet}
-use Rattle.sheet.specs.WellFormed.{WellFormed}
 use Rattle.coded.specs.Coded.{zoneOf, zonesIn, taken, entry-at}
 use Rattle.coded.specs.CodedTests.{pad-at, pad-satisfies, pad-count}
 use Rattle.zones.specs.Zone.{zeroExpr, blankZone}
@@ -35,14 +33,30 @@ unfolding zoneOf
 ineqs-coded z = taken exprOf zeroExpr (24 - length (z .ineqs)) (z .ineqs)
 
 -- it holds the same valuations
-pub holds-coded : (z : cutting.Zone) (p q r : ℤ) → satisfies (map affine (take (zoneOf z .count) (zoneOf z .ineqs))) (p ∷ q ∷ r ∷ []) ≡ holds (p ∷ q ∷ r ∷ []) z
-holds-coded z p q r = ap (λ (l : List Expr). satisfies (map affine l) (p ∷ q ∷ r ∷ [])) (ineqs-coded z) ∙ pad-satisfies (z .ineqs) p q r
+holds-three : (z : cutting.Zone) (p q r : ℤ) → satisfies (map affine (take (zoneOf z .count) (zoneOf z .ineqs))) (p ∷ q ∷ r ∷ []) ≡ holds (p ∷ q ∷ r ∷ []) z
+holds-three z p q r = ap (λ (l : List Expr). satisfies (map affine l) (p ∷ q ∷ r ∷ [])) (ineqs-coded z) ∙ pad-satisfies (z .ineqs) p q r
+
+pub holds-coded : (b : Ranges) (z : cutting.Zone) (v : List ℤ) → Inside v (rangeList b)
+    → satisfies (map affine (take (zoneOf z .count) (zoneOf z .ineqs))) v ≡ holds v z
+holds-coded b z [] h = absurd h
+holds-coded b z (p ∷ []) h = absurd (h .1)
+holds-coded b z (p ∷ q ∷ []) h = absurd (h .1 .1)
+holds-coded b z (p ∷ q ∷ r ∷ []) h = holds-three z p q r
+holds-coded b z (p ∷ q ∷ r ∷ x ∷ v) h = absurd (h .1 .1 .1)
 
 -- its entries are the same at each
-pub entry-coded : (z : cutting.Zone) (p q r : ℤ) (i j : ℕ) → i ≤ 4 → j ≤ 4
+entry-three : (z : cutting.Zone) (p q r : ℤ) (i j : ℕ) → i ≤ 4 → j ≤ 4
     → atV (p ∷ q ∷ r ∷ []) (limitOf (entryC (zoneOf z .bounds) i j)) ≡ at (p ∷ q ∷ r ∷ []) (z .bounds) i j
 unfolding zoneOf at
-entry-coded z p q r i j hi hj = ap (λ (b : Bound). atV (p ∷ q ∷ r ∷ []) (limitOf b)) (entry-at (z .bounds) i j hi hj) ∙ pad-at (z .bounds i j) p q r
+entry-three z p q r i j hi hj = ap (λ (b : Bound). atV (p ∷ q ∷ r ∷ []) (limitOf b)) (entry-at (z .bounds) i j hi hj) ∙ pad-at (z .bounds i j) p q r
+
+pub entry-coded : (b : Ranges) (z : cutting.Zone) (v : List ℤ) → Inside v (rangeList b) → (i j : ℕ) → i ≤ 4 → j ≤ 4
+    → atV v (limitOf (entryC (zoneOf z .bounds) i j)) ≡ at v (z .bounds) i j
+entry-coded b z [] h = absurd h
+entry-coded b z (p ∷ []) h = absurd (h .1)
+entry-coded b z (p ∷ q ∷ []) h = absurd (h .1 .1)
+entry-coded b z (p ∷ q ∷ r ∷ []) h = entry-three z p q r
+entry-coded b z (p ∷ q ∷ r ∷ x ∷ v) h = absurd (h .1 .1 .1)
 
 -- it holds as many of the ranges
 pub count-coded : (b : Ranges) (z : cutting.Zone) → count (rangeList b) (map affine (take (zoneOf z .count) (zoneOf z .ineqs))) ≡ count (rangeList b) (z .ineqs)
@@ -61,8 +75,3 @@ kept-map b (z ∷ zs) = rw (count-coded b z, kept-map b zs) refl
 -- whatever the zones are
 pub kept-in : (b : Ranges) (zs : List cutting.Zone) → keptC b (take (length zs) (zonesIn zs)) ≡ keptOf (rangeList b) zs
 kept-in b zs = ap (keptC b) (list-coded zs) ∙ kept-map b zs
-
--- and so for those of a sheet
-pub kept-coded : (s : Sheet) → WellFormed s → (zs : List cutting.Zone) → zonesOf s ≡ listed zs
-    → keptC (s .ranges) (take (length zs) (zonesIn zs)) ≡ keptOf (rangeList (s .ranges)) zs
-kept-coded s f zs q = kept-in (s .ranges) zs

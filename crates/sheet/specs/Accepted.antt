@@ -2,6 +2,7 @@
 use Prim.Native.Nat.{ℕ, _+_, _≤_}
 use mathlib.Core.Path.{_≡_, refl, sym, subst, ap, _∙_}
 use mathlib.Core.List.{List}
+use mathlib.Core.Logic.{_⊎_, inl, inr}
 use mathlib.Core.Bool.{Bool, true, false, not}
 use native.Mathlib.Omega.{arith}
 use lib.ListN.{length}
@@ -114,3 +115,27 @@ read-well-formed s h =
 pub reading-well-formed : (s : List ℕ) (reading : Reading) → readAs reading ≡ readOf s → Fine (readAs reading) → WellFormed (reading .sheet)
 reading-well-formed s reading e h =
     subst WellFormed (sym (ap (λ (x : Read). x .sheet) e)) (read-well-formed s (subst Fine e h))
+
+-- ---- the refusals that a file meets
+abbrev pub TwoToFive : ℕ → Type 0
+TwoToFive n = (n ≡ 2) ⊎ (n ≡ 3) ⊎ (n ≡ 4) ⊎ (n ≡ 5)
+
+abbrev Met : Read → Type 0
+Met x = (x .answer .number ≡ 0) ⊎ TwoToFive (x .answer .number)
+
+met-cases : (b : Bool) (x : Read) (n at : ℕ) → TwoToFive n → Met x → Met (pick b x (refusedBy n at))
+unfolding refusedBy
+met-cases true x n at t h = h
+met-cases false x n at t h = inr t
+
+pub read-numbered : (s : List ℕ) → (readOf s .answer .number ≡ 0) ⊎ TwoToFive (readOf s .answer .number)
+unfolding readOf judgedBodies judgedRoute
+read-numbered s =
+    let contents = contentsOf s in
+    let bodies = bodiesOf s contents in
+    let link = linksOf (bodies .sheet .transition) (bodies .sheet .route) (bodies .sheet .moves) in
+    met-cases (sized s) _ 2 0 (inl refl)
+    (met-cases (contents .spot .ok) _ 3 (contents .spot .at) (inr (inl refl))
+    (met-cases (bodies .spot .ok) _ 4 (bodies .spot .at) (inr (inr (inl refl)))
+    (met-cases (link .ok) (record { answer = numbered 0 0; sheet = bodies .sheet }) 5 (contents .third + 1 + link .index) (inr (inr (inr refl)))
+    (inl refl))))
