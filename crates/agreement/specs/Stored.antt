@@ -78,7 +78,9 @@ module _ {file : List ℕ} {n : ℕ} {c : Counts} (b : Behind file n c) where
       subst P (sym (piece-is b i h)) (f z (zones-shaped (readOf file .sheet) (b .zones) (b .listing) .1 z (member (b .zones) i l)))
 
   taken-pieces : take (c .pieces) (table file n) ≡ map recordOf (b .zones)
-  taken-pieces = ap (λ (k : ℕ). take k (table file n)) (pieces-are b) ∙ ap (take (length (b .zones))) (table-is b) ∙ taken recordOf blankPiece (n - length (b .zones)) (b .zones)
+  taken-pieces =
+      ap (λ (k : ℕ). take k (table file n)) (pieces-are b) ∙ ap (take (length (b .zones))) (table-is b)
+      ∙ taken recordOf blankPiece (n - length (b .zones)) (b .zones)
 
 pub table-filled : TableFilled
 table-filled file n c lists =

@@ -21,7 +21,8 @@ any-default (x ∷ l) (suc i) d e h = any-default l i d e (le-of-suc-le-suc h)
 
 -- the two cases of an item
 module _ (work : Worked) (n i : ℕ) where
-  pub item-in : (d : Zone) (p : Piece) → n ≡ min (work .pieces) 32 → length (work .zones) ≡ 32 → i < n → p ≡ pieceOf (getD (work .zones) i d) → p ≡ itemOf work i
+  pub item-in : (d : Zone) (p : Piece) → n ≡ min (work .pieces) 32 → length (work .zones) ≡ 32 → i < n → p ≡ pieceOf (getD (work .zones) i d)
+      → p ≡ itemOf work i
   unfolding itemOf
   item-in d p e l h k =
       rw (lt-ltb i (min (work .pieces) 32) (omega arith)) (k ∙ ap (λ (z : Zone). pieceOf z) (any-default (work .zones) i d blankZone (omega arith)))
