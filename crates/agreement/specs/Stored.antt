@@ -27,7 +27,6 @@ use Rattle.windows.specs.declared.reply.Counts.{Counts}
 use Rattle.coded.specs.Coded.{zoneOf, entry-at, taken}
 use Rattle.zones.specs.Zone.{pick, zeroExpr, zeroBound}
 use Rattle.constrain.specs.Rules.{entryC}
-use Rattle.zones.specs.declared.zone.Zone.{Zone}
 
 -- ---- the statements
 pub record Filled (file : List ℕ) (n : ℕ) (c : Counts) : Type 0 where

@@ -7,7 +7,6 @@ use native.Mathlib.Omega.{arith}
 use borrow.Author.Tests.{lt-ltb, le-ltb, eq-eqb, ne-eqb}
 use lib.ListN.{length, getD, set, take, drop, replicate, length-take, drop-of-length-le}
 use lib.Seq.{drop-cons, getD-take}
-use Rattle.expr.specs.Valuations.{count}
 use Rattle.expr.specs.declared.ranges.Ranges.{Ranges}
 use Rattle.sheet.specs.declared.Guard.{Guard}
 use Rattle.split.specs.Guarded.{ruleC, cutC, cutAll, guardedC}
