@@ -133,7 +133,8 @@ module _ {file : List ℕ} {n : ℕ} {c : Counts} (b : Behind file n c) where
   piece-is i h =
       let e = pieces-are in
       let l : i < length (b .zones) = omega arith in
-      ap (λ (t : List Piece). getD t i blankPiece) table-is ∙ in-list recordOf blankPiece (b .zones) (replicate (n - length (b .zones)) blankPiece) noZone i l
+      ap (λ (t : List Piece). getD t i blankPiece) table-is
+      ∙ in-list recordOf blankPiece (b .zones) (replicate (n - length (b .zones)) blankPiece) noZone i l
 
   -- the places past the pieces are blank
   pub past-pieces : (i : ℕ) → c .pieces ≤ i → pieceAt file n i ≡ blankPiece

@@ -27,7 +27,6 @@ use Rattle.windows.specs.declared.reply.Counts.{Counts}
 use Rattle.coded.specs.Coded.{zoneOf, entry-at, taken}
 use Rattle.zones.specs.Zone.{pick, zeroExpr, zeroBound}
 use Rattle.constrain.specs.Rules.{entryC}
-use Rattle.zones.specs.declared.zone.Zone.{Zone}
 
 -- ---- the statements
 pub record Filled (file : List ℕ) (n : ℕ) (c : Counts) : Type 0 where
@@ -78,7 +77,9 @@ module _ {file : List ℕ} {n : ℕ} {c : Counts} (b : Behind file n c) where
       subst P (sym (piece-is b i h)) (f z (zones-shaped (readOf file .sheet) (b .zones) (b .listing) .1 z (member (b .zones) i l)))
 
   taken-pieces : take (c .pieces) (table file n) ≡ map recordOf (b .zones)
-  taken-pieces = ap (λ (k : ℕ). take k (table file n)) (pieces-are b) ∙ ap (take (length (b .zones))) (table-is b) ∙ taken recordOf blankPiece (n - length (b .zones)) (b .zones)
+  taken-pieces =
+      ap (λ (k : ℕ). take k (table file n)) (pieces-are b) ∙ ap (take (length (b .zones))) (table-is b)
+      ∙ taken recordOf blankPiece (n - length (b .zones)) (b .zones)
 
 pub table-filled : TableFilled
 table-filled file n c lists =

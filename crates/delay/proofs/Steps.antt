@@ -9,7 +9,10 @@ use borrow.Author.Tests.{lt-ltb, le-ltb, eq-eqb, ne-eqb}
 use lib.ListN.{length, getD, set}
 use Rattle.expr.specs.Limit.{none}
 use Rattle.expr.specs.Three.{boundOf}
+<<<<<<< HEAD
 use Rattle.search.specs.Valuations.{count}
+=======
+>>>>>>> zones2
 use Rattle.expr.specs.declared.bound.Bound.{Bound}
 use Rattle.zones.specs.Zone.{zeroBound}
 use Rattle.coded.specs.Walked.{noneIf, resetPair, resetB, resetIfB, onFirst}

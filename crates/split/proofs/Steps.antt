@@ -7,8 +7,12 @@ use native.Mathlib.Omega.{arith}
 use borrow.Author.Tests.{lt-ltb, le-ltb, eq-eqb, ne-eqb}
 use lib.ListN.{length, getD, set, take, drop, replicate, length-take, drop-of-length-le}
 use lib.Seq.{drop-cons, getD-take}
+<<<<<<< HEAD
 use Rattle.search.specs.Valuations.{count}
 use Rattle.expr.specs.declared.range.Ranges.{Ranges}
+=======
+use Rattle.expr.specs.declared.range.Ranges.{Ranges}
+>>>>>>> zones2
 use Rattle.sheet.specs.declared.Guard.{Guard}
 use Rattle.split.specs.Guarded.{ruleC, cutC, cutAll, guardedC}
 use Rattle.zones.specs.Zone.{blankZone}

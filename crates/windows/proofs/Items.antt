@@ -5,7 +5,7 @@ use Prim.Native.Nat.{ℕ, zero, suc, _+_, _≤_, _<_, min}
 use native.Mathlib.Nat.{not-suc-le-zero, le-of-suc-le-suc, le-refl, add-zero, add-suc, le-of-lt}
 use native.Mathlib.Omega.{arith}
 use borrow.Author.Tests.{lt-ltb, le-ltb}
-use lib.ListN.{length, getD, set, drop, length-append, length-set, drop-of-length-le}
+use lib.ListN.{length, getD, set, drop, length-set, drop-of-length-le}
 use Rattle.windows.specs.declared.reply.Worked.{Worked}
 use Rattle.zones.specs.Zone.{blankZone}
 use Rattle.zones.specs.declared.zone.Zone.{Zone}
@@ -21,7 +21,8 @@ any-default (x ∷ l) (suc i) d e h = any-default l i d e (le-of-suc-le-suc h)
 
 -- the two cases of an item
 module _ (work : Worked) (n i : ℕ) where
-  pub item-in : (d : Zone) (p : Piece) → n ≡ min (work .pieces) 32 → length (work .zones) ≡ 32 → i < n → p ≡ pieceOf (getD (work .zones) i d) → p ≡ itemOf work i
+  pub item-in : (d : Zone) (p : Piece) → n ≡ min (work .pieces) 32 → length (work .zones) ≡ 32 → i < n → p ≡ pieceOf (getD (work .zones) i d)
+      → p ≡ itemOf work i
   unfolding itemOf
   item-in d p e l h k =
       rw (lt-ltb i (min (work .pieces) 32) (omega arith)) (k ∙ ap (λ (z : Zone). pieceOf z) (any-default (work .zones) i d blankZone (omega arith)))
