@@ -26,7 +26,8 @@ module _ (r : Rule) (x : ℕ) where
       → t ≡ pushTest r x
   unfolding pushTest
   push-in h k t s b e f g =
-      rw (le-ltb (r .clocks) (x / 5) h, le-ltb (r .clocks) (x % 5) k) (e ∙ ap (λ (y : BoundSum). testSum y b) f ∙ ap (λ (y : Bound). testSum (viaC r x) y) g)
+      rw (le-ltb (r .clocks) (x / 5) h, le-ltb (r .clocks) (x % 5) k)
+      (e ∙ ap (λ (y : BoundSum). testSum y b) f ∙ ap (λ (y : Bound). testSum (viaC r x) y) g)
 
 pub asks-first : (r : Rule) (k : ℕ) → k < 1 → voidTest r ≡ askC r k
 unfolding askC

@@ -20,7 +20,8 @@ use Rattle.zones.specs.declared.settle.Verdict.{Verdict}
 -- ---- an entry put in
 pub put-past : (p : Part) (x : ℕ) (b : Bound) → length (p .zone .bounds) ≤ x → p ≡ putC p x b
 put-past p x b h =
-    ap (λ (l : List Bound). record { phase = p .phase; halt = p .halt; test = p .test; zone = withBounds (p .zone) l }) (sym (set-out (p .zone .bounds) x b h))
+    ap (λ (l : List Bound). record { phase = p .phase; halt = p .halt; test = p .test; zone = withBounds (p .zone) l })
+    (sym (set-out (p .zone .bounds) x b h))
 
 -- ---- parts
 pub entered-yes : (r : Rule) (p : Part) (x : ℕ) (b : Bool) (via : Bound) (q : Part) → b ≡ true → via ≡ viaBound (viaC r x) → q ≡ putC p x via

@@ -1,4 +1,4 @@
--- The tests of a guard as a tree, worked on a zone; and what a part on its way comes to: the tree of tests that is left, worked on its zone.
+-- The tests of a guard as a tree, worked on a zone; and what a part on its way comes to: the tests that are left, worked on its zone.
 use mathlib.Core.Path.{_≡_}
 use mathlib.Core.List.{List}
 use mathlib.Core.Bool.{Bool, true, false}

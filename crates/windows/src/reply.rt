@@ -91,7 +91,7 @@ fn cut_sheet(s: Sheet) -> Worked
     ensures { λ r. ⌜ shown r ≡ shownOf (sheetReply s) ⌝ }
 {
     let b = s.ranges;
-    listed(b, route::walk(s))
+    listed(b, windows_route::walk(s))
 }
 
 // The reply for a file and a table of so many places.

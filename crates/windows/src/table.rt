@@ -8,8 +8,8 @@ ghost use lib.ListN.{length};
 ghost use Rattle.windows.specs.Reply.{pieceIn};
 ghost use Rattle.windows.specs.Table.{itemOf, itemsOf};
 
-// A place of the table (paper: piece): whether it is used; its inequalities, the first `count` of the list, each an expression that is at least
-// 0, zeros past them; and its matrix, five rows of five: entry 5i + j bounds clock i - clock j.
+// A place of the table (paper: piece): whether it is used; its inequalities, the first `count` of the list, each an expression that is at
+// least 0, zeros past them; and its matrix, five rows of five: entry 5i + j bounds clock i - clock j.
 pub struct Piece {
     pub used: bool,
     pub count: usize,

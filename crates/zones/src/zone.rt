@@ -4,8 +4,8 @@ use expr::Expr;
 ghost use mathlib.Core.Path.{_≡_};
 ghost use Rattle.zones.specs.Zone.{moreC};
 
-// A zone: its inequalities, the first `count` of the list, each an expression that is at least 0, zeros past them; and its matrix, five rows
-// of five: entry 5i + j bounds clock i - clock j.
+// A zone: its inequalities, the first `count` of the list, each an expression that is at least 0, zeros past them; and its matrix, five
+// rows of five: entry 5i + j bounds clock i - clock j.
 pub struct Zone {
     pub count: usize,
     pub ineqs: [Expr; 24],

@@ -1,6 +1,6 @@
 -- The loop's invariant: what is left of the route takes the zones to where the whole route takes them.
-use Rattle.route.proofs.route.walk.Statement.{statement}
-use Rattle.route.proofs.route.walk.Tie as tie
+use Rattle.windows_route.proofs.route.walk.Statement.{statement}
+use Rattle.windows_route.proofs.route.walk.Tie as tie
 use Prim.Native.Nat.{ℕ, _≤_, _-_}
 use lib.ListN.{length, take, drop}
 use Rattle.timed.specs.Indexed.{transitionC}
@@ -8,7 +8,7 @@ use Rattle.coded.specs.Walked.{walkAll, zonesAll}
 use Rattle.zones.specs.declared.zone.Zones.{Zones}
 use mathlib.Core.Path.{_≡_, refl, ap, _∙_}
 use native.Mathlib.Omega.{arith}
-use Rattle.route.proofs.Steps.{size-is, walk-turn, walk-done}
+use Rattle.windows_route.proofs.Steps.{size-is, walk-turn, walk-done}
 use borrow.Author.Needs.{needs}
 
 abbrev Inv-loop : tie.InvT-loop

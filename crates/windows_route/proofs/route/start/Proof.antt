@@ -1,7 +1,7 @@
 -- One zone before blank ones.
 use borrow.Author.Needs.{needs}
-use Rattle.route.proofs.route.start.Statement.{statement}
-use Rattle.route.proofs.route.start.Tie as tie
+use Rattle.windows_route.proofs.route.start.Statement.{statement}
+use Rattle.windows_route.proofs.route.start.Tie as tie
 use mathlib.Core.Path.{refl}
 use Rattle.coded.specs.Walked.{startAll}
 

@@ -1,7 +1,7 @@
 -- The guards, then the resets, then the visit.
 use borrow.Author.Needs.{needs}
-use Rattle.route.proofs.route.moved.Statement.{statement}
-use Rattle.route.proofs.route.moved.Tie as tie
+use Rattle.windows_route.proofs.route.moved.Statement.{statement}
+use Rattle.windows_route.proofs.route.moved.Tie as tie
 use mathlib.Core.Path.{_∙_, ap}
 use Rattle.zones.specs.declared.zone.Zones.{Zones}
 use lib.ListN.{take}

@@ -1,7 +1,7 @@
 -- The index is below 32.
 use borrow.Author.Needs.{needs}
-use Rattle.route.proofs.route.transition_at.Statement.{statement}
-use Rattle.route.proofs.route.transition_at.Tie as tie
+use Rattle.windows_route.proofs.route.transition_at.Statement.{statement}
+use Rattle.windows_route.proofs.route.transition_at.Tie as tie
 use Prim.Native.Nat.{ℕ, _<_}
 use lib.Dec.{lit<}
 use lib.ListN.{getD}

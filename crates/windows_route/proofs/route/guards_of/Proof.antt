@@ -1,13 +1,13 @@
 -- The loop's invariant: what is left of the guards takes the zones to where all of them take them.
-use Rattle.route.proofs.route.guards_of.Statement.{statement}
-use Rattle.route.proofs.route.guards_of.Tie as tie
+use Rattle.windows_route.proofs.route.guards_of.Statement.{statement}
+use Rattle.windows_route.proofs.route.guards_of.Tie as tie
 use borrow.Author.Needs.{needs}
 use Prim.Native.Nat.{ℕ, _≤_, _-_}
 use lib.ListN.{length, take, drop, length-map}
 use Rattle.coded.specs.Walked.{guardsAll}
 use mathlib.Core.Path.{_≡_, refl}
 use native.Mathlib.Omega.{arith}
-use Rattle.route.proofs.Steps.{size-is, guards-turn, guards-done}
+use Rattle.windows_route.proofs.Steps.{size-is, guards-turn, guards-done}
 
 abbrev Inv-loop : tie.InvT-loop
 Inv-loop b clocks count guards n now₀ i₀ now i = (n ≤ 6) × (n ≡ length (take count guards)) × (guardsAll b clocks (drop i (take count guards)) now ≡ guardsAll b clocks (take count guards) now₀)

@@ -1,7 +1,7 @@
 -- A wait, then the guards.
 use borrow.Author.Needs.{needs}
-use Rattle.route.proofs.route.stay.Statement.{statement}
-use Rattle.route.proofs.route.stay.Tie as tie
+use Rattle.windows_route.proofs.route.stay.Statement.{statement}
+use Rattle.windows_route.proofs.route.stay.Tie as tie
 use mathlib.Core.Path.{_∙_, ap}
 use Rattle.coded.specs.Walked.{guardsAll, stayAll}
 use Rattle.zones.specs.declared.zone.Zones.{Zones}

@@ -1,7 +1,7 @@
 -- The branches are the cases of `atVisit`.
-use Rattle.route.proofs.route.at_visit.Statement.{statement}
-use Rattle.route.proofs.route.at_visit.Tie as tie
-use Rattle.route.proofs.Steps.{visit-now, visit-before}
+use Rattle.windows_route.proofs.route.at_visit.Statement.{statement}
+use Rattle.windows_route.proofs.route.at_visit.Tie as tie
+use Rattle.windows_route.proofs.Steps.{visit-now, visit-before}
 
 returns : tie.Need-returns
 returns c = visit-now (c .before .before .args .visit) (c .before .before .args .zones) (c .if1 .taken)

@@ -1,6 +1,6 @@
 -- The branches are the cases of `at`.
-use Rattle.route.proofs.route.below.Statement.{statement}
-use Rattle.route.proofs.route.below.Tie as tie
+use Rattle.windows_route.proofs.route.below.Statement.{statement}
+use Rattle.windows_route.proofs.route.below.Tie as tie
 use Rattle.timed.specs.Indexed.{at-below, at-past}
 
 returns : tie.Need-returns
