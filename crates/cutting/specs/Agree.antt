@@ -21,7 +21,7 @@ use Rattle.search.specs.SearchLaws.{first-none}
 use Rattle.expr.specs.Three.{limitOf, rangeList}
 use Rattle.search.specs.Valuations.{satisfies, first}
 use Rattle.expr.specs.declared.range.Range.{Range}
-use Rattle.sheet.specs.declared.Guard.{Guard}
+use Rattle.guards.specs.declared.Guard.{Guard}
 use Rattle.sheet.specs.declared.Sheet.{Sheet}
 use Rattle.sweep.specs.Walk.{guardStep, guardSteps, pickM, resetSteps, stay, move, walk, sweepAt}
 use Rattle.sweep.specs.Walk as sweep

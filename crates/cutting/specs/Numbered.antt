@@ -12,7 +12,7 @@ use Rattle.expr.specs.Affine.{Affine, opposite}
 use Rattle.expr.specs.Limit.{none}
 use Rattle.expr.specs.Three.{limitOf, rangeList}
 use Rattle.expr.specs.declared.range.Range.{Range}
-use Rattle.sheet.specs.declared.Guard.{Guard}
+use Rattle.guards.specs.declared.Guard.{Guard}
 use Rattle.sheet.specs.declared.Sheet.{Sheet}
 use Rattle.timed.specs.Runs.{invariants, guardsOf, routeOf, transitionAt}
 

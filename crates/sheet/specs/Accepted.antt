@@ -2,37 +2,39 @@
 use Prim.Native.Nat.{ℕ, _+_, _≤_}
 use mathlib.Core.Path.{_≡_, refl, sym, subst, ap, _∙_}
 use mathlib.Core.List.{List}
-use mathlib.Core.Bool.{Bool, true, false, not}
+use mathlib.Core.Bool.{Bool, true, false, cond}
 use native.Mathlib.Omega.{arith}
 use lib.ListN.{length}
 use Rattle.contents.specs.declared.Contents.{Contents}
-use Rattle.cursor.specs.Cursor.{pick, went, judged}
+use Rattle.cursor.specs.Cursor.{advanced}
 use Rattle.contents.specs.Contents.{sized, contentsOf}
 use Rattle.sheet.specs.declared.Sheet.{Sheet}
 use Rattle.sheet.specs.declared.SheetAt.{SheetAt}
 use Rattle.sheet.specs.declared.Reading.{Reading}
 use Rattle.answers.specs.Numbers.{numbered}
-use Rattle.sheet.specs.Bodies.{parametersAt, locationsAt, transitionsAt, routeAt}
-use Rattle.sheet.specs.Route.{linksOf}
+use Rattle.parameters.specs.Parameters.{parametersAt}
+use Rattle.automaton.specs.Automaton.{locationsAt, transitionsAt}
+use Rattle.route.specs.Route.{routeAt, linksOf}
 use Rattle.sheet.specs.File.{blankSheet, Read, readAs, refusedBy, bodiesOf, judgedRoute, judgedBodies, readOf}
 use Rattle.sheet.specs.WellFormed.{WellFormed}
-use Rattle.sheet.specs.BodyLaws.{parametersAt-right, locationsAt-right, transitionsAt-right, routeAt-right}
-use Rattle.sheet.specs.RouteLaws.{links-right}
+use Rattle.parameters.specs.ParameterLaws.{parametersAt-right}
+use Rattle.automaton.specs.AutomatonLaws.{locationsAt-right, transitionsAt-right}
+use Rattle.route.specs.RouteLaws.{routeAt-right, links-right}
 
 bodies-right :
-    (s : List ℕ) (contents : Contents) → bodiesOf s contents .spot .ok ≡ true →
+    (s : List ℕ) (contents : Contents) → bodiesOf s contents .cursor .ok ≡ true →
     linksOf (bodiesOf s contents .sheet .transition) (bodiesOf s contents .sheet .route) (bodiesOf s contents .sheet .moves) .ok ≡ true →
     WellFormed (bodiesOf s contents .sheet)
 unfolding bodiesOf
 bodies-right s contents h l =
-    let one = parametersAt s (contents .first) (went 22 0) in
-    let two = locationsAt s (contents .second) (one .count) (one .spot) in
-    let three = transitionsAt s (contents .third) (one .count) (two .clocks) (two .count) (two .spot) in
-    let four = routeAt s (length s) (three .count) (three .spot) in
-    let h4 = routeAt-right s (length s) (three .count) (three .spot) h in
-    let h3 = transitionsAt-right s (contents .third) (one .count) (two .clocks) (two .count) (two .spot) (h4 .0) in
-    let h2 = locationsAt-right s (contents .second) (one .count) (one .spot) (h3 .0) in
-    let h1 = parametersAt-right s (contents .first) (went 22 0) (h2 .0) in
+    let one = parametersAt s (contents .first) (advanced 22 0) in
+    let two = locationsAt s (contents .second) (one .count) (one .cursor) in
+    let three = transitionsAt s (contents .third) (one .count) (two .clocks) (two .count) (two .cursor) in
+    let four = routeAt s (length s) (three .count) (three .cursor) in
+    let h4 = routeAt-right s (length s) (three .count) (three .cursor) h in
+    let h3 = transitionsAt-right s (contents .third) (one .count) (two .clocks) (two .count) (two .cursor) (h4 .0) in
+    let h2 = locationsAt-right s (contents .second) (one .count) (one .cursor) (h3 .0) in
+    let h1 = parametersAt-right s (contents .first) (advanced 22 0) (h2 .0) in
     record {
       parameters = h1 .1 .0;
       p = h1 .1 .1 .0;
@@ -53,8 +55,8 @@ Fine x = x .answer .number ≡ 0
 
 -- it came by the first way
 accepted-cases :
-    (b : Bool) (x : Read) (n at : ℕ) → 1 ≤ n → Fine (pick b x (refusedBy n at)) →
-    (b ≡ true) × (Fine x × (pick b x (refusedBy n at) ≡ x))
+    (b : Bool) (x : Read) (n at : ℕ) → 1 ≤ n → Fine (cond b x (refusedBy n at)) →
+    (b ≡ true) × (Fine x × (cond b x (refusedBy n at) ≡ x))
 unfolding refusedBy
 accepted-cases true x n at l h = (refl, (h, refl))
 accepted-cases false x n at l h = absurd (omega arith)
@@ -70,18 +72,18 @@ route-accepted third sheet h =
 
 bodies-accepted :
     (third : ℕ) (bodies : SheetAt) → Fine (judgedBodies third bodies) →
-    (bodies .spot .ok ≡ true) ×
+    (bodies .cursor .ok ≡ true) ×
     ((linksOf (bodies .sheet .transition) (bodies .sheet .route) (bodies .sheet .moves) .ok ≡ true) ×
     (judgedBodies third bodies .sheet ≡ bodies .sheet))
 unfolding judgedBodies
 bodies-accepted third bodies h =
-    let a = accepted-cases (bodies .spot .ok) (judgedRoute third (bodies .sheet)) 4 (bodies .spot .at) (omega arith) h in
+    let a = accepted-cases (bodies .cursor .ok) (judgedRoute third (bodies .sheet)) 4 (bodies .cursor .at) (omega arith) h in
     let b = route-accepted third (bodies .sheet) (a .1 .0) in
     (a .0, (b .0, ap (λ (x : Read). x .sheet) (a .1 .1) ∙ b .1))
 
 refused-cases :
     (b : Bool) (x : Read) (n at : ℕ) → ((Fine x → ⊥) → x .sheet ≡ blankSheet) →
-    (Fine (pick b x (refusedBy n at)) → ⊥) → pick b x (refusedBy n at) .sheet ≡ blankSheet
+    (Fine (cond b x (refusedBy n at)) → ⊥) → cond b x (refusedBy n at) .sheet ≡ blankSheet
 unfolding refusedBy
 refused-cases true x n at f g = f g
 refused-cases false x n at f g = refl
@@ -94,8 +96,8 @@ read-refused s =
     let bodies = bodiesOf s contents in
     let link = linksOf (bodies .sheet .transition) (bodies .sheet .route) (bodies .sheet .moves) in
     refused-cases (sized s) _ 2 0
-    (refused-cases (contents .spot .ok) _ 3 (contents .spot .at)
-    (refused-cases (bodies .spot .ok) _ 4 (bodies .spot .at)
+    (refused-cases (contents .cursor .ok) _ 3 (contents .cursor .at)
+    (refused-cases (bodies .cursor .ok) _ 4 (bodies .cursor .at)
     (refused-cases (link .ok) (record { answer = numbered 0 0; sheet = bodies .sheet }) 5 (contents .third + 1 + link .index)
     (λ n. absurd (n refl)))))
 
@@ -105,8 +107,8 @@ unfolding readOf
 read-well-formed s h =
     let contents = contentsOf s in
     let judged = judgedBodies (contents .third) (bodiesOf s contents) in
-    let a = accepted-cases (sized s) (pick (contents .spot .ok) judged (refusedBy 3 (contents .spot .at))) 2 0 (omega arith) h in
-    let b = accepted-cases (contents .spot .ok) judged 3 (contents .spot .at) (omega arith) (a .1 .0) in
+    let a = accepted-cases (sized s) (cond (contents .cursor .ok) judged (refusedBy 3 (contents .cursor .at))) 2 0 (omega arith) h in
+    let b = accepted-cases (contents .cursor .ok) judged 3 (contents .cursor .at) (omega arith) (a .1 .0) in
     let d = bodies-accepted (contents .third) (bodiesOf s contents) (b .1 .0) in
     rw (a .1 .1, b .1 .1, d .1 .1) (bodies-right s contents (d .0) (d .1 .0))
 

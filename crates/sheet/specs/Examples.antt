@@ -8,14 +8,15 @@ use lib.IntN.{pos, negsuc}
 use Rattle.expr.specs.declared.number.Expr.{Expr}
 use Rattle.expr.specs.declared.bound.Bound.{Bound}
 use Rattle.answers.specs.Numbers.{numbered}
-use Rattle.cursor.specs.Cursor.{shifted, judged, byteTaken, wordTaken, signedTaken, byteField, wordField, signedField, finished, turns}
+use Rattle.cursor.specs.Cursor.{shifted, signedOf, judged, byteTaken, wordTaken, signedTaken, byteField, belowField, wordField, signedField, finished, iterate}
 use Rattle.contents.specs.Contents.{sized, entryField, headOf, oneOf, firstOf, twoOf, secondOf, threeOf, thirdOf, fourOf, contentsOf}
-use Rattle.sheet.specs.declared.Guard.{Guard}
+use Rattle.guards.specs.declared.Guard.{Guard}
 use Rattle.sheet.specs.declared.Sheet.{Sheet}
-use Rattle.sheet.specs.Guards.{signedOf, exprOf, boundOf, oneZero, rightField, coefficientField, guardAt, blankGuard, blankGuards, guardStep, guardsAt}
-use Rattle.sheet.specs.Bodies.{rangeOf, highestRight, highestField, rangeAt, parametersAt, blankLocation, blankLocations, locationStep, locationsRead, locationsAt, belowField, resetsRight, resetsField, transitionAt, blankTransition, blankTransitions, transitionStep, transitionsRead, transitionsAt, routeStep, routeRead, routeAt}
-use Rattle.sheet.specs.Route.{endsAt, linkStep, linksOf}
-use Rattle.sheet.specs.File.{blankRange, blankSheet, refusedBy, bodiesOf, judgedRoute, judgedBodies, readOf}
+use Rattle.guards.specs.Guards.{exprOf, boundOf, oneZero, rightField, coefficientField, guardAt, blankGuard, blankGuards, guardStep, guardsAt}
+use Rattle.parameters.specs.Parameters.{blankRange, rangeOf, highestRight, highestField, rangeAt, parametersAt}
+use Rattle.automaton.specs.Automaton.{blankLocation, blankLocations, locationStep, locationsRead, locationsAt, resetsRight, resetsField, transitionAt, blankTransition, blankTransitions, transitionStep, transitionsRead, transitionsAt}
+use Rattle.route.specs.Route.{routeStep, routeRead, routeAt, endsAt, linkStep, linksOf}
+use Rattle.sheet.specs.File.{blankSheet, refusedBy, bodiesOf, judgedRoute, judgedBodies, readOf}
 
 -- contents of four bodies of 5, 16, 17 and 2 bytes
 contentsA : List ℕ
@@ -88,7 +89,7 @@ pub record Examples : Type 0 where
   pub no-such-move : readOf (set sheetA 61 1) .answer ≡ numbered 4 61
 
 pub examples : Examples
-unfolding sheetA contentsA limitP limitThree guardP guardThree readA bare shifted judged byteTaken wordTaken signedTaken byteField wordField signedField finished turns sized entryField headOf oneOf firstOf twoOf secondOf threeOf thirdOf fourOf contentsOf signedOf exprOf boundOf oneZero rightField coefficientField guardAt blankGuard blankGuards guardStep guardsAt rangeOf highestRight highestField rangeAt parametersAt blankLocation blankLocations locationStep locationsRead locationsAt belowField resetsRight resetsField transitionAt blankTransition blankTransitions transitionStep transitionsRead transitionsAt routeStep routeRead routeAt endsAt linkStep linksOf blankSheet refusedBy bodiesOf judgedRoute judgedBodies readOf
+unfolding sheetA contentsA limitP limitThree guardP guardThree readA bare shifted judged byteTaken wordTaken signedTaken byteField wordField signedField finished iterate sized entryField headOf oneOf firstOf twoOf secondOf threeOf thirdOf fourOf contentsOf signedOf exprOf boundOf oneZero rightField coefficientField guardAt blankGuard blankGuards guardStep guardsAt rangeOf highestRight highestField rangeAt parametersAt blankLocation blankLocations locationStep locationsRead locationsAt belowField resetsRight resetsField transitionAt blankTransition blankTransitions transitionStep transitionsRead transitionsAt routeStep routeRead routeAt endsAt linkStep linksOf blankSheet refusedBy bodiesOf judgedRoute judgedBodies readOf
 examples =
     record {
       sheet-a = refl;

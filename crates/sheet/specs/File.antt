@@ -1,23 +1,19 @@
 -- The whole file (paper 01, "The sheet file", and rows 2 to 5 of "When no piece is given"): checked 2 to 5 in order, the whole file for each.
 use Prim.Native.Nat.{ℕ, _+_}
 use mathlib.Core.List.{List}
+use mathlib.Core.Bool.{cond}
 use lib.ListN.{length, replicate}
-use lib.IntN.{pos}
-use Rattle.expr.specs.declared.range.Range.{Range}
 use Rattle.expr.specs.declared.range.Ranges.{Ranges}
 use Rattle.answers.specs.Numbers.{Numbered, numbered, checkedAs}
 use Rattle.contents.specs.declared.Contents.{Contents}
-use Rattle.cursor.specs.Cursor.{pick, went}
+use Rattle.cursor.specs.Cursor.{advanced}
 use Rattle.contents.specs.Contents.{sized, contentsOf}
 use Rattle.sheet.specs.declared.Sheet.{Sheet}
 use Rattle.sheet.specs.declared.SheetAt.{SheetAt}
 use Rattle.sheet.specs.declared.Reading.{Reading}
-use Rattle.sheet.specs.Bodies.{parametersAt, locationsAt, transitionsAt, routeAt, blankLocations, blankTransitions}
-use Rattle.sheet.specs.Route.{linksOf}
-
--- 0 to 0
-abbrev pub blankRange : Range
-blankRange = record { low = pos 0; high = pos 0 }
+use Rattle.parameters.specs.Parameters.{blankRange, parametersAt}
+use Rattle.automaton.specs.Automaton.{locationsAt, transitionsAt, blankLocations, blankTransitions}
+use Rattle.route.specs.Route.{routeAt, linksOf}
 
 -- a sheet with nothing but zeros
 unfoldable pub blankSheet : Sheet
@@ -50,12 +46,12 @@ refusedBy n at = record { answer = numbered n at; sheet = blankSheet }
 -- the four bodies, one after another: body 1 from byte 22 to its end, and so on; body 4 to the file's end
 unfoldable pub bodiesOf : List ℕ → Contents → SheetAt
 bodiesOf s contents =
-    let one = parametersAt s (contents .first) (went 22 0) in
-    let two = locationsAt s (contents .second) (one .count) (one .spot) in
-    let three = transitionsAt s (contents .third) (one .count) (two .clocks) (two .count) (two .spot) in
-    let four = routeAt s (length s) (three .count) (three .spot) in
+    let one = parametersAt s (contents .first) (advanced 22 0) in
+    let two = locationsAt s (contents .second) (one .count) (one .cursor) in
+    let three = transitionsAt s (contents .third) (one .count) (two .clocks) (two .count) (two .cursor) in
+    let four = routeAt s (length s) (three .count) (three .cursor) in
     record {
-      spot = four .spot;
+      cursor = four .cursor;
       sheet =
           record {
             parameters = one .count;
@@ -74,17 +70,17 @@ bodiesOf s contents =
 unfoldable pub judgedRoute : ℕ → Sheet → Read
 judgedRoute third sheet =
     let link = linksOf (sheet .transition) (sheet .route) (sheet .moves) in
-    pick (link .ok) (record { answer = numbered 0 0; sheet = sheet }) (refusedBy 5 (third + 1 + link .index))
+    cond (link .ok) (record { answer = numbered 0 0; sheet = sheet }) (refusedBy 5 (third + 1 + link .index))
 
 -- refusal 4, else what follows it
 unfoldable pub judgedBodies : ℕ → SheetAt → Read
-judgedBodies third bodies = pick (bodies .spot .ok) (judgedRoute third (bodies .sheet)) (refusedBy 4 (bodies .spot .at))
+judgedBodies third bodies = cond (bodies .cursor .ok) (judgedRoute third (bodies .sheet)) (refusedBy 4 (bodies .cursor .at))
 
 -- what reading a file gives: refusal 2, 3, 4 or 5, the first that there is ground for; else the sheet
 unfoldable pub readOf : List ℕ → Read
 readOf s =
-    pick (sized s)
-    (pick (contentsOf s .spot .ok)
+    cond (sized s)
+    (cond (contentsOf s .cursor .ok)
     (judgedBodies (contentsOf s .third) (bodiesOf s (contentsOf s)))
-    (refusedBy 3 (contentsOf s .spot .at)))
+    (refusedBy 3 (contentsOf s .cursor .at)))
     (refusedBy 2 0)

@@ -1,58 +1,31 @@
 // The sheet file (paper 01, "The sheet file") read whole: `read` gives the sheet by value, or why
-// the file is refused, with the place.
+// the file is refused, with the place. What lies past a count is zero, so that a file has one sheet.
 //
-// The contracts cite specs/: Guards for a limit, Bodies for the four bodies, Route for its links,
-// File for the whole. What lies past a count is zero, so that a file has one sheet.
-mod bodies;
-mod guards;
-mod route;
+// Every function is total, and its contract is an equation with a definition of specs/: File for
+// the whole file, Lookup for a sheet's locations and transitions.
+pub mod lookup;
 
 ghost use mathlib.Core.Path.{_≡_};
 ghost use Rattle.sheet.specs.File.{blankSheet, bodiesOf, judgedRoute, judgedBodies, readOf, readAs};
 ghost use Rattle.answers.specs.Numbers.{refusalAs};
 use answers::file::Checked;
 use answers::file::Refusal;
-use bodies::blank_locations;
-use bodies::blank_transitions;
-use bodies::locations_at;
-use bodies::parameters_at;
-use bodies::route_at;
-use bodies::transitions_at;
+use automaton::Location;
+use automaton::Transition;
+use automaton::locations::locations_at;
+use automaton::transitions::transitions_at;
 use contents::Contents;
 use contents::entries::contents_of;
 use contents::entries::sized;
-use cursor::Spot;
-use cursor::went;
-use expr::Bound;
+use cursor::Cursor;
 use expr::Range;
 use expr::Ranges;
+use parameters::parameters_at;
 use route::links_of;
+use route::route_at;
 
-// A guard (paper: limit): clock `left` - clock `right` is at most, or below, the bound's
-// expression. Clock 0 is always zero.
-pub struct Guard {
-    pub left: u8,
-    pub right: u8,
-    pub bound: Bound,
-}
-
-// A location (paper: stage) with its invariants (paper: standing limits).
-pub struct Location {
-    pub count: usize,
-    pub guards: [Guard; 6],
-}
-
-// A transition (paper: move) from one location to another. Bit i - 1 of `resets` is for clock i.
-pub struct Transition {
-    pub from: usize,
-    pub to: usize,
-    pub resets: u8,
-    pub count: usize,
-    pub guards: [Guard; 6],
-}
-
-// A sheet: parameters (paper: allowances) with their ranges, clocks (paper: watches), locations,
-// transitions, and the route, a list of transition numbers.
+// A sheet: parameters (paper: allowances) with their ranges, clocks (paper: watches), locations (paper: stages),
+// transitions (paper: moves), and the route, a list of transition numbers.
 pub struct Sheet {
     pub parameters: usize,
     pub ranges: Ranges,
@@ -65,6 +38,25 @@ pub struct Sheet {
     pub route: [u8; 32],
 }
 
+impl Sheet {
+    // A sheet with nothing but zeros.
+    pub const BLANK: Sheet = Sheet {
+        parameters: 0,
+        ranges: Ranges {
+            p: Range { low: 0, high: 0 },
+            q: Range { low: 0, high: 0 },
+            r: Range { low: 0, high: 0 },
+        },
+        clocks: 0,
+        locations: 0,
+        location: [Location::BLANK; 16],
+        transitions: 0,
+        transition: [Transition::BLANK; 32],
+        moves: 0,
+        route: [0; 32],
+    };
+}
+
 // What reading a file gives: that it is fine, and its sheet; or why it is refused, and a blank sheet.
 pub struct Reading {
     pub checked: Checked,
@@ -73,40 +65,17 @@ pub struct Reading {
 
 // The four bodies: where reading them ended, and the sheet.
 pub struct SheetAt {
-    pub spot: Spot,
+    pub cursor: Cursor,
     pub sheet: Sheet,
-}
-
-// A sheet with nothing but zeros.
-fn blank_sheet() -> Sheet
-    ensures { λ r. ⌜ r ≡ blankSheet ⌝ }
-{
-    let range = Range { low: 0, high: 0 };
-    Sheet {
-        parameters: 0,
-        ranges: Ranges {
-            p: range,
-            q: range,
-            r: range,
-        },
-        clocks: 0,
-        locations: 0,
-        location: blank_locations(),
-        transitions: 0,
-        transition: blank_transitions(),
-        moves: 0,
-        route: [0; 32],
-    }
 }
 
 // The reading of a file that is refused.
 fn refused(refusal: Refusal) -> Reading
     ensures { λ r. ⌜ readAs r ≡ record { answer = refusalAs refusal; sheet = blankSheet } ⌝ }
 {
-    let sheet = blank_sheet();
     Reading {
         checked: Checked::Refused(refusal),
-        sheet,
+        sheet: Sheet::BLANK,
     }
 }
 
@@ -114,24 +83,30 @@ fn refused(refusal: Refusal) -> Reading
 fn bodies_of(file: &[u8], contents: Contents) -> SheetAt
     ensures { λ r. ⌜ r ≡ bodiesOf (now (file .entry)) contents ⌝ }
 {
-    let one = parameters_at(file, contents.first as usize, went(22, 0));
-    let two = locations_at(file, contents.second as usize, one.count, one.spot);
+    let start = Cursor {
+        ok: true,
+        at: 22,
+        byte: 0,
+        word: 0,
+    };
+    let one = parameters_at(file, contents.first as usize, start);
+    let two = locations_at(file, contents.second as usize, one.count, one.cursor);
     let three = transitions_at(
         file,
         contents.third as usize,
         one.count,
         two.clocks,
         two.count,
-        two.spot,
+        two.cursor,
     );
-    let four = route_at(file, file.len(), three.count, three.spot);
-    let spot = four.spot;
+    let four = route_at(file, file.len(), three.count, three.cursor);
+    let cursor = four.cursor;
     let ranges = one.ranges;
     let location = two.list;
     let transition = three.list;
     let route = four.list;
     SheetAt {
-        spot,
+        cursor,
         sheet: Sheet {
             parameters: one.count as usize,
             ranges,
@@ -167,11 +142,11 @@ fn judged_route(third: u32, sheet: Sheet) -> Reading
 fn judged_bodies(third: u32, bodies: SheetAt) -> Reading
     ensures { λ r. ⌜ readAs r ≡ judgedBodies third bodies ⌝ }
 {
-    let spot = bodies.spot;
-    if spot.ok {
+    let cursor = bodies.cursor;
+    if cursor.ok {
         judged_route(third, bodies.sheet)
     } else {
-        refused(Refusal::Body(spot.at))
+        refused(Refusal::Body(cursor.at))
     }
 }
 
@@ -180,12 +155,12 @@ pub fn read(file: &[u8]) -> Reading
     ensures { λ r. ⌜ readAs r ≡ readOf (now (file .entry)) ⌝ }
 {
     let contents = contents_of(file);
-    let spot = contents.spot;
+    let cursor = contents.cursor;
     if sized(file) {
-        if spot.ok {
+        if cursor.ok {
             judged_bodies(contents.third, bodies_of(file, contents))
         } else {
-            refused(Refusal::Contents(spot.at))
+            refused(Refusal::Contents(cursor.at))
         }
     } else {
         refused(Refusal::Size)

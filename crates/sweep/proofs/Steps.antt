@@ -11,10 +11,10 @@ use lib.IntN.{ℤ}
 use lib.ListN.{length, getD, take, drop, length-take, drop-of-length-le}
 use lib.Seq.{drop-cons, getD-take}
 use Rattle.expr.specs.declared.weight.Weight.{Weight}
-use Rattle.sheet.specs.declared.Guard.{Guard}
-use Rattle.sheet.specs.declared.Location.{Location}
+use Rattle.guards.specs.declared.Guard.{Guard}
+use Rattle.automaton.specs.declared.Location.{Location}
 use Rattle.sheet.specs.declared.Sheet.{Sheet}
-use Rattle.sheet.specs.declared.Transition.{Transition}
+use Rattle.automaton.specs.declared.Transition.{Transition}
 use Rattle.sweep.specs.Tables.{Table, zeroWeight, voidTable, entryOf, rowOf, isVoid, pick, sumC, tighterC, limitedEntry, limitedTable, guardedTable, guardTable, guardsTable, stayTable, moveTable, locationC, transitionC, walkTable, at}
 
 pub list5 : {A : Type 0} {a b c d e a′ b′ c′ d′ e′ : A} → a ≡ a′ → b ≡ b′ → c ≡ c′ → d ≡ d′ → e ≡ e′

@@ -18,7 +18,7 @@ use Rattle.dbm.specs.Size.{AtMost, Small}
 use Rattle.expr.specs.Limit.{Limit, none, sumW, tighterW, zeroW, saturated, atV}
 use Rattle.expr.specs.Three.{weightOf, limitOf}
 use Rattle.expr.specs.declared.weight.Weight.{Weight}
-use Rattle.sheet.specs.declared.Guard.{Guard}
+use Rattle.guards.specs.declared.Guard.{Guard}
 use Rattle.sweep.specs.Tables.{zeroWeight, voidTable, rowOf, entryOf, pick, sumC, tighterC, limitedEntry, limitedRow, limitedLine, limitedTable, guardedTable, delayedRow, delayedTable, resetEntry, resetRow, resetLine, resetTable, resetIf, resetsTable, guardTable, guardsTable}
 use Rattle.sweep.specs.Walk.{pickM, resetSteps}
 use Rattle.sweep.specs.Sizes.{loop-exact, way-exact}

@@ -9,9 +9,11 @@ use borrow.Author.Tests.{lt-ltb}
 use Rattle.dbm.specs.Matrix.{Matrix, start, delayed, Outcome, void, kept}
 use Rattle.dbm.specs.Size.{Visit, atMost-more, visit-small}
 use Rattle.expr.specs.Limit.{Limit, none, zeroW}
-use Rattle.sheet.specs.declared.Guard.{Guard}
+use Rattle.guards.specs.declared.Guard.{Guard}
 use Rattle.sheet.specs.declared.Sheet.{Sheet}
-use Rattle.sheet.specs.WellFormed.{GuardRight, WellFormed, noLocation}
+use Rattle.guards.specs.Right.{GuardRight}
+use Rattle.sheet.specs.WellFormed.{WellFormed}
+use Rattle.automaton.specs.Automaton.{noLocation}
 use Rattle.timed.specs.Runs.{invariants, guardsOf, transitionAt, routeOf}
 use Rattle.sweep.specs.Tables.{Table, startTable, voidTable, guardTable, guardsTable, resetsTable, stayTable, moveTable, locationC, transitionC, walkTable, sweepTable}
 use Rattle.sweep.specs.Walk.{andThen, guardStep, guardSteps, resetSteps, stay, move, walk, sweepAt}

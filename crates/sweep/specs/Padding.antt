@@ -10,7 +10,7 @@ use Rattle.dbm.specs.Entries.{Outside, delayed-outside, reset-outside}
 use Rattle.dbm.specs.Guard.{guarded-outside}
 use Rattle.expr.specs.Limit.{Limit, none, atV}
 use Rattle.expr.specs.Three.{limitOf}
-use Rattle.sheet.specs.declared.Guard.{Guard}
+use Rattle.guards.specs.declared.Guard.{Guard}
 use Rattle.sheet.specs.declared.Sheet.{Sheet}
 use Rattle.timed.specs.Runs.{invariants, guardsOf, transitionAt, routeOf}
 use Rattle.sweep.specs.Walk.{andThen, guardStep, guardSteps, pickM, resetSteps, stay, move, walk, sweepAt}

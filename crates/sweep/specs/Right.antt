@@ -7,11 +7,12 @@ use native.Mathlib.Omega.{arith}
 use lib.Dec.{ltb}
 use lib.ListN.{length, getD, take, List·getD-eq-default}
 use borrow.Author.Tests.{ltb-true, ltb-false}
-use Rattle.sheet.specs.declared.Guard.{Guard}
+use Rattle.guards.specs.declared.Guard.{Guard}
 use Rattle.sheet.specs.declared.Sheet.{Sheet}
-use Rattle.sheet.specs.Bodies.{blankLocation, blankTransition}
-use Rattle.sheet.specs.Filled.{Filled}
-use Rattle.sheet.specs.WellFormed.{GuardRight, WellFormed}
+use Rattle.automaton.specs.Automaton.{blankLocation, blankTransition}
+use Rattle.cursor_laws.specs.Right.{Filled}
+use Rattle.guards.specs.Right.{GuardRight}
+use Rattle.sheet.specs.WellFormed.{WellFormed}
 use Rattle.timed.specs.Runs.{invariants, guardsOf}
 
 -- all of a list have P

@@ -17,9 +17,9 @@ use Rattle.dbm.specs.Reset.{reset-closed, reset-met, reset-from}
 use Rattle.expr.specs.Affine.{Affine, value}
 use Rattle.expr.specs.Limit.{Limit, none, limit, atV}
 use Rattle.expr.specs.Three.{affine, limitOf, pickL}
-use Rattle.sheet.specs.declared.Guard.{Guard}
+use Rattle.guards.specs.declared.Guard.{Guard}
 use Rattle.sheet.specs.declared.Sheet.{Sheet}
-use Rattle.sheet.specs.WellFormed.{GuardRight}
+use Rattle.guards.specs.Right.{GuardRight}
 use Rattle.timed.specs.Runs.{Clocks, waited, pickC, afterResets, compared, Holds, AllHold}
 use Rattle.sweep.specs.Walk.{andThen, guardStep, guardSteps, pickM, resetSteps}
 use Rattle.sweep.specs.Right.{GuardsAll}

@@ -8,12 +8,12 @@ use lib.ListN.{getD, set, take}
 use Rattle.expr.specs.Limit.{sumW, tighterW, saturated, atV}
 use Rattle.expr.specs.Three.{weighed, weightOf, limitOf}
 use Rattle.expr.specs.declared.weight.Weight.{Weight}
-use Rattle.sheet.specs.declared.Guard.{Guard}
-use Rattle.sheet.specs.declared.Location.{Location}
+use Rattle.guards.specs.declared.Guard.{Guard}
+use Rattle.automaton.specs.declared.Location.{Location}
 use Rattle.sheet.specs.declared.Sheet.{Sheet}
-use Rattle.sheet.specs.declared.Transition.{Transition}
-use Rattle.sheet.specs.Route.{noTransition}
-use Rattle.sheet.specs.WellFormed.{noLocation}
+use Rattle.automaton.specs.declared.Transition.{Transition}
+use Rattle.automaton.specs.Automaton.{noTransition}
+use Rattle.automaton.specs.Automaton.{noLocation}
 
 abbrev pub Table : Type 0
 Table = List (List Weight)

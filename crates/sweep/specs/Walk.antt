@@ -8,7 +8,7 @@ use lib.IntN.{ℤ}
 use Rattle.dbm.specs.Matrix.{Matrix, start, delayed, resetM, Outcome, void, kept, guarded}
 use Rattle.expr.specs.Limit.{Limit, none, atV}
 use Rattle.expr.specs.Three.{limitOf}
-use Rattle.sheet.specs.declared.Guard.{Guard}
+use Rattle.guards.specs.declared.Guard.{Guard}
 use Rattle.sheet.specs.declared.Sheet.{Sheet}
 use Rattle.timed.specs.Runs.{invariants, guardsOf, routeOf, transitionAt}
 

@@ -12,12 +12,12 @@ use lib.Signed.{_≤ℤ_, _<ℤ_}
 use Rattle.expr.specs.Affine.{value}
 use Rattle.expr.specs.Limit.{Limit, none, limit}
 use Rattle.expr.specs.Three.{affine}
-use Rattle.sheet.specs.declared.Guard.{Guard}
-use Rattle.sheet.specs.declared.Location.{Location}
+use Rattle.guards.specs.declared.Guard.{Guard}
+use Rattle.automaton.specs.declared.Location.{Location}
 use Rattle.sheet.specs.declared.Sheet.{Sheet}
-use Rattle.sheet.specs.declared.Transition.{Transition}
-use Rattle.sheet.specs.Route.{noTransition}
-use Rattle.sheet.specs.WellFormed.{noLocation}
+use Rattle.automaton.specs.declared.Transition.{Transition}
+use Rattle.automaton.specs.Automaton.{noTransition}
+use Rattle.automaton.specs.Automaton.{noLocation}
 
 -- the values of the clocks (paper: watches), in parts; clock 0 is always zero
 abbrev pub Clocks : Type 0

@@ -17,11 +17,11 @@ use Rattle.expr.specs.declared.bound.Bound.{Bound}
 use Rattle.expr.specs.declared.range.Ranges.{Ranges}
 use Rattle.contents.specs.declared.Refusal.{Refusal}
 use Rattle.contents.specs.declared.Refusal.the-variants.{Nothing, Size, Contents, Body, Route}
-use Rattle.sheet.specs.declared.Guard.{Guard}
-use Rattle.sheet.specs.declared.Location.{Location}
+use Rattle.guards.specs.declared.Guard.{Guard}
+use Rattle.automaton.specs.declared.Location.{Location}
 use Rattle.sheet.specs.declared.Reading.{Reading}
 use Rattle.sheet.specs.declared.Sheet.{Sheet}
-use Rattle.sheet.specs.declared.Transition.{Transition}
+use Rattle.automaton.specs.declared.Transition.{Transition}
 use Rattle.sheet.specs.Accepted.{reading-well-formed}
 use Rattle.sheet.specs.File.{readOf}
 use Rattle.sheet.specs.WellFormed.{WellFormed}

@@ -1,12 +1,12 @@
 // The zones of a sheet along its route.
 use crate::matrix;
+use automaton::Location;
+use automaton::Transition;
 use expr::Bound;
 use expr::Expr;
 use expr::Ranges;
-use sheet::Guard;
-use sheet::Location;
+use guards::Guard;
 use sheet::Sheet;
-use sheet::Transition;
 use zones::Zone;
 use zones::Zones;
 ghost use mathlib.Core.Path.{_≡_};

@@ -28,7 +28,7 @@ use Rattle.search.specs.declared.search.Solution.{Solution}
 use Rattle.search.specs.declared.search.Solution.the-variants.{Found, Nothing}
 use Rattle.search.specs.declared.search.System.{System}
 use lib.IntN.{zero-*ℤ}
-use Rattle.sheet.specs.declared.Guard.{Guard}
+use Rattle.guards.specs.declared.Guard.{Guard}
 use Rattle.zones.specs.Guarded.{ruleC, cutC, cutAll, guardedC}
 use Rattle.zones.specs.Listed.{pick, zeroExpr, zeroBound, blankZone, noneAt, refusedC, listC, plusC}
 use Rattle.zones.specs.Parts.{pushedC, answeredC, haltedC, forwardC, standing, putC, endedC}

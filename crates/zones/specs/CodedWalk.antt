@@ -14,7 +14,7 @@ use Rattle.expr.specs.Affine.{Affine}
 use Rattle.expr.specs.Limit.{Limit, none}
 use Rattle.expr.specs.Three.{rangeList}
 use Rattle.expr.specs.declared.bound.Bound.{Bound}
-use Rattle.sheet.specs.declared.Guard.{Guard}
+use Rattle.guards.specs.declared.Guard.{Guard}
 use Rattle.sheet.specs.declared.Sheet.{Sheet}
 use Rattle.sheet.specs.WellFormed.{WellFormed}
 use Rattle.sweep.specs.Coded.{up-to-4}

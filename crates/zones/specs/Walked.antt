@@ -7,10 +7,10 @@ use lib.ListN.{getD, set, take, replicate}
 use Rattle.expr.specs.Limit.{none}
 use Rattle.expr.specs.Three.{boundOf}
 use Rattle.expr.specs.declared.bound.Bound.{Bound}
-use Rattle.sheet.specs.declared.Guard.{Guard}
-use Rattle.sheet.specs.declared.Location.{Location}
+use Rattle.guards.specs.declared.Guard.{Guard}
+use Rattle.automaton.specs.declared.Location.{Location}
 use Rattle.sheet.specs.declared.Sheet.{Sheet}
-use Rattle.sheet.specs.declared.Transition.{Transition}
+use Rattle.automaton.specs.declared.Transition.{Transition}
 use Rattle.sweep.specs.Tables.{locationC, transitionC}
 use Rattle.zones.specs.Guarded.{guardedC}
 use Rattle.zones.specs.Listed.{pick, zeroBound, zeroExpr, blankZone}

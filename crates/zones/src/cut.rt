@@ -8,7 +8,7 @@ use crate::zone::Zone;
 use crate::zone::Zones;
 use expr::Expr;
 use expr::Ranges;
-use sheet::Guard;
+use guards::Guard;
 ghost use mathlib.Core.Path.{_≡_};
 ghost use Prim.Native.Nat.{_<_};
 ghost use Rattle.zones.specs.Parts.{startC, endedC};

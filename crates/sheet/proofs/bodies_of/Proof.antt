@@ -7,9 +7,6 @@ use Rattle.sheet.proofs.bodies_of.Tie as tie
 cast-parameters-at : tie.Need-cast-parameters-at
 cast-parameters-at c = search needs
 
-went-requires : tie.Need-went-requires
-went-requires c κs = search needs
-
 parameters-at-requires : tie.Need-parameters-at-requires
 parameters-at-requires c κs = search needs
 
@@ -28,8 +25,8 @@ transitions-at-requires c κs = search needs
 route-at-requires : tie.Need-route-at-requires
 route-at-requires c κs = search needs
 
-cast-t12 : tie.Need-cast-t12
-cast-t12 c = search needs
+cast-t13 : tie.Need-cast-t13
+cast-t13 c = search needs
 
 cast-t14 : tie.Need-cast-t14
 cast-t14 c = search needs
@@ -50,27 +47,20 @@ returns c =
     let three = four .before in
     let two = three .before .before in
     let one = two .before .before in
-    simp (
-      four .route-at .ensures,
-      three .transitions-at .ensures,
-      two .locations-at .ensures,
-      one .parameters-at .ensures,
-      one .before .went .ensures,
-    )
+    simp (four .route-at .ensures, three .transitions-at .ensures, two .locations-at .ensures, one .parameters-at .ensures)
 
 pub bodies-of-spec : {M : Type 1} → statement M
 bodies-of-spec =
     tie.close
     (tie.spec
     cast-parameters-at
-    went-requires
     parameters-at-requires
     cast-locations-at
     locations-at-requires
     cast-transitions-at
     transitions-at-requires
     route-at-requires
-    cast-t12
+    cast-t13
     cast-t14
     cast-t15
     cast-t16
