@@ -24,8 +24,8 @@ use Rattle.search.specs.Valuations.{satisfies}
 use Rattle.expr.specs.declared.range.Range.{Range}
 use Rattle.contents.specs.declared.Refusal.the-variants.{Nothing}
 use Rattle.integer.specs.Order.{leZ-true}
-use Rattle.sheet.specs.Accepted.{read-well-formed}
-use Rattle.sheet.specs.File.{readOf}
+use Rattle.reading.specs.Accepted.{read-well-formed}
+use Rattle.reading.specs.File.{readOf}
 use Rattle.sheet.specs.declared.Sheet.{Sheet}
 use Rattle.sweep.specs.Coded.{row, in-row, up-to-4, weighed-of}
 use Rattle.sweep.specs.Reply.{rowRecord, blankReply, swept, inRange, sheetReply, readingReply, replyOf}

@@ -12,7 +12,7 @@ use Rattle.cutting.specs.Cutting as cutting
 use Rattle.contents.specs.declared.Refusal.{Refusal}
 use Rattle.contents.specs.declared.Refusal.the-variants.{Nothing, Size, Contents, Body, Route}
 use Rattle.sheet.specs.declared.Sheet.{Sheet}
-use Rattle.sheet.specs.File.{readOf}
+use Rattle.reading.specs.File.{readOf}
 use Rattle.cutting.specs.Numbered.{SevenToNine, zones-numbered}
 use Rattle.windows.specs.Reply.{refusedBy, blankWork, listingWork, sheetWork, readingWork, workOf}
 use Rattle.agreement.specs.Lent.{countsOf}

@@ -17,8 +17,8 @@ use Rattle.expr.specs.declared.range.Range.{Range}
 use Rattle.expr.specs.declared.range.Ranges.{Ranges}
 use Rattle.contents.specs.declared.Refusal.the-variants.{Nothing}
 use Rattle.integer.specs.Order.{true-leZ}
-use Rattle.sheet.specs.Accepted.{read-well-formed}
-use Rattle.sheet.specs.File.{readOf}
+use Rattle.reading.specs.Accepted.{read-well-formed}
+use Rattle.reading.specs.File.{readOf}
 use Rattle.sweep.specs.Reply.{inRange}
 use Rattle.sweep.specs.Theorems.{Asked, sweep-right}
 use Rattle.timed.specs.Runs.{Run}

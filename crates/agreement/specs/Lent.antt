@@ -18,7 +18,7 @@ use Rattle.expr.specs.Three.{rangeList}
 use Rattle.contents.specs.declared.Refusal.{Refusal}
 use Rattle.contents.specs.declared.Refusal.the-variants.{Nothing, Size, Contents, Body, Route}
 use Rattle.sheet.specs.declared.Sheet.{Sheet}
-use Rattle.sheet.specs.File.{readOf}
+use Rattle.reading.specs.File.{readOf}
 use Rattle.windows.specs.Reply.{blankWork, listingWork, sheetWork, readingWork, workOf, itemOf, itemsOf}
 use Rattle.windows.specs.declared.reply.Answer.the-variants as answer
 use Rattle.windows.specs.declared.reply.Counts.{Counts}

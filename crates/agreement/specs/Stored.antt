@@ -18,7 +18,7 @@ use Rattle.expr.specs.Three.{exprOf, boundOf}
 use Rattle.contents.specs.declared.Refusal.{Refusal}
 use Rattle.contents.specs.declared.Refusal.the-variants.{Nothing, Size, Contents, Body, Route}
 use Rattle.sheet.specs.declared.Sheet.{Sheet}
-use Rattle.sheet.specs.File.{readOf}
+use Rattle.reading.specs.File.{readOf}
 use Rattle.windows.specs.Reply.{blankWork, listingWork, sheetWork, readingWork, workOf, itemOf}
 use Rattle.agreement.specs.Lent.{Lists, table, pieceAt, Behind, lists-behind, noZone, member, items-length, items-at, in-list, blanks, past-list, pieces-are, few-pieces, piece-is, past-pieces}
 use Rattle.windows.specs.declared.reply.Answer.the-variants as answer

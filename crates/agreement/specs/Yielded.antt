@@ -29,7 +29,7 @@ use Rattle.parameters.specs.Parameters.{rangeOf, highestRight, highestField, ra
 use Rattle.automaton.specs.Automaton.{blankLocation, blankLocations, locationStep, locationsRead, locationsAt, resetsRight, resetsField, transitionAt, blankTransition, blankTransitions, transitionStep, transitionsRead, transitionsAt}
 use Rattle.cursor.specs.Cursor.{belowField}
 use Rattle.route.specs.Route.{routeStep, routeRead, routeAt}
-use Rattle.sheet.specs.File.{blankSheet, refusedBy, bodiesOf, judgedRoute, judgedBodies, readOf}
+use Rattle.reading.specs.File.{blankSheet, refusedBy, bodiesOf, judgedRoute, judgedBodies, readOf}
 use Rattle.cursor.specs.Cursor.{signedOf}
 use Rattle.guards.specs.Guards.{exprOf, boundOf, oneZero, rightField, coefficientField, guardAt, blankGuard, blankGuards, guardStep, guardsAt}
 use Rattle.route.specs.Route.{endsAt, linkStep, linksOf}

@@ -1,5 +1,5 @@
--- What holds of every sheet that `read` gives (paper 01, "The sheet file"), for callers in other crates. Definitions only; `Accepted` has the
--- theorem.
+-- What holds of every sheet that `read` of crate reading gives (paper 01, "The sheet file"). Definitions only; that it holds is a theorem of
+-- reading/specs/Accepted.
 use Prim.Native.Nat.{ℕ, _≤_, _<_}
 use mathlib.Core.Path.{_≡_}
 use lib.ListN.{getD}

@@ -19,11 +19,11 @@ use Rattle.contents.specs.declared.Refusal.{Refusal}
 use Rattle.contents.specs.declared.Refusal.the-variants.{Nothing, Size, Contents, Body, Route}
 use Rattle.guards.specs.declared.Guard.{Guard}
 use Rattle.automaton.specs.declared.Location.{Location}
-use Rattle.sheet.specs.declared.Reading.{Reading}
+use Rattle.reading.specs.declared.Reading.{Reading}
 use Rattle.sheet.specs.declared.Sheet.{Sheet}
 use Rattle.automaton.specs.declared.Transition.{Transition}
-use Rattle.sheet.specs.Accepted.{reading-well-formed}
-use Rattle.sheet.specs.File.{readOf}
+use Rattle.reading.specs.Accepted.{reading-well-formed}
+use Rattle.reading.specs.File.{readOf}
 use Rattle.sheet.specs.WellFormed.{WellFormed}
 use Rattle.sweep.specs.Tables.{at, locationC, transitionC}
 use Rattle.sweep.specs.Tables.{pick as sweepPick}

@@ -153,7 +153,7 @@ pub(crate) fn work_for(file: &[u8], places: usize) -> Worked
     if places < 32 {
         return blank(Answer::Small);
     }
-    let reading = sheet::read(file);
+    let reading = reading::read(file);
     let refusal = reading.refusal;
     let s = reading.sheet;
     if contents::number(refusal) == 0 {

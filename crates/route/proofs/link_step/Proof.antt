@@ -23,7 +23,7 @@ unfolding linkStep
 returns-2 c =
     let e = c .before .before .before .before .before .ends-at .ensures in
     let h = rw e at (c .if3 .left) in
-    simp (lt-ltb _ _ (c .before .before .before .before .if1 .taken), c .before .before .before .if2 .taken, e, ne-eqb _ _ h)
+    simp (lt-ltb _ _ (c .before .before .before .before .if1 .taken), c .before .before .before .if2 .taken, ne-eqb _ _ h)
 
 returns-3 : tie.Need-returns-3
 unfolding linkStep

@@ -1,8 +1,8 @@
 -- `bodies_of` meets its contract: code and definition are one composition. Assumes nothing.
-use Rattle.sheet.specs.File.{bodiesOf}
+use Rattle.reading.specs.File.{bodiesOf}
 use borrow.Author.Needs.{needs}
-use Rattle.sheet.proofs.bodies_of.Statement.{statement}
-use Rattle.sheet.proofs.bodies_of.Tie as tie
+use Rattle.reading.proofs.bodies_of.Statement.{statement}
+use Rattle.reading.proofs.bodies_of.Tie as tie
 
 cast-parameters-at : tie.Need-cast-parameters-at
 cast-parameters-at c = search needs

@@ -1,8 +1,8 @@
 -- `judged_route` meets its contract: the test on the way picks the definition's case. Assumes nothing.
-use Rattle.sheet.specs.File.{judgedRoute, refusedBy}
+use Rattle.reading.specs.File.{judgedRoute, refusedBy}
 use borrow.Author.Needs.{needs}
-use Rattle.sheet.proofs.judged_route.Statement.{statement}
-use Rattle.sheet.proofs.judged_route.Tie as tie
+use Rattle.reading.proofs.judged_route.Statement.{statement}
+use Rattle.reading.proofs.judged_route.Tie as tie
 
 links-of-requires : tie.Need-links-of-requires
 links-of-requires c κs = search needs

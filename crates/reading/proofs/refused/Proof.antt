@@ -2,9 +2,9 @@
 use mathlib.Core.Path.{refl}
 use Rattle.guards.specs.Guards.{blankGuard, blankGuards}
 use Rattle.automaton.specs.Automaton.{blankLocation, blankLocations, blankTransition, blankTransitions}
-use Rattle.sheet.specs.File.{blankSheet}
-use Rattle.sheet.proofs.refused.Statement.{statement}
-use Rattle.sheet.proofs.refused.Tie as tie
+use Rattle.reading.specs.File.{blankSheet}
+use Rattle.reading.proofs.refused.Statement.{statement}
+use Rattle.reading.proofs.refused.Tie as tie
 
 returns : tie.Need-returns
 unfolding blankSheet blankLocations blankLocation blankTransitions blankTransition blankGuards blankGuard

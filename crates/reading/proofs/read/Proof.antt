@@ -1,8 +1,8 @@
 -- `read` meets its contract: the tests on the way pick the definition's case. Assumes nothing.
-use Rattle.sheet.specs.File.{readOf, refusedBy}
+use Rattle.reading.specs.File.{readOf, refusedBy}
 use borrow.Author.Needs.{needs}
-use Rattle.sheet.proofs.read.Statement.{statement}
-use Rattle.sheet.proofs.read.Tie as tie
+use Rattle.reading.proofs.read.Statement.{statement}
+use Rattle.reading.proofs.read.Tie as tie
 
 contents-of-requires : tie.Need-contents-of-requires
 contents-of-requires c κs = search needs

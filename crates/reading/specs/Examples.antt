@@ -11,12 +11,12 @@ use Rattle.answers.specs.Numbers.{numbered}
 use Rattle.cursor.specs.Cursor.{shifted, signedOf, judged, byteTaken, wordTaken, signedTaken, byteField, belowField, wordField, signedField, finished, iterate}
 use Rattle.contents.specs.Contents.{sized, entryField, headOf, oneOf, firstOf, twoOf, secondOf, threeOf, thirdOf, fourOf, contentsOf}
 use Rattle.guards.specs.declared.Guard.{Guard}
 use Rattle.sheet.specs.declared.Sheet.{Sheet}
 use Rattle.guards.specs.Guards.{exprOf, boundOf, oneZero, rightField, coefficientField, guardAt, blankGuard, blankGuards, guardStep, guardsAt}
 use Rattle.parameters.specs.Parameters.{blankRange, rangeOf, highestRight, highestField, rangeAt, parametersAt}
 use Rattle.automaton.specs.Automaton.{blankLocation, blankLocations, locationStep, locationsRead, locationsAt, resetsRight, resetsField, transitionAt, blankTransition, blankTransitions, transitionStep, transitionsRead, transitionsAt}
 use Rattle.route.specs.Route.{routeStep, routeRead, routeAt, endsAt, linkStep, linksOf}
-use Rattle.sheet.specs.File.{blankSheet, refusedBy, bodiesOf, judgedRoute, judgedBodies, readOf}
+use Rattle.reading.specs.File.{blankSheet, refusedBy, bodiesOf, judgedRoute, judgedBodies, readOf}
 
 -- contents of four bodies of 5, 16, 17 and 2 bytes
 contentsA : List ℕ

@@ -8,9 +8,9 @@ use Rattle.answers.specs.Numbers.{Numbered, numbered, checkedAs}
 use Rattle.contents.specs.declared.Contents.{Contents}
 use Rattle.cursor.specs.Cursor.{advanced}
 use Rattle.contents.specs.Contents.{sized, contentsOf}
 use Rattle.sheet.specs.declared.Sheet.{Sheet}
-use Rattle.sheet.specs.declared.SheetAt.{SheetAt}
-use Rattle.sheet.specs.declared.Reading.{Reading}
+use Rattle.reading.specs.declared.SheetAt.{SheetAt}
+use Rattle.reading.specs.declared.Reading.{Reading}
 use Rattle.parameters.specs.Parameters.{blankRange, parametersAt}
 use Rattle.automaton.specs.Automaton.{locationsAt, transitionsAt, blankLocations, blankTransitions}
 use Rattle.route.specs.Route.{routeAt, linksOf}

@@ -8,15 +8,15 @@ use lib.ListN.{length}
 use Rattle.contents.specs.declared.Contents.{Contents}
 use Rattle.cursor.specs.Cursor.{advanced}
 use Rattle.contents.specs.Contents.{sized, contentsOf}
 use Rattle.sheet.specs.declared.Sheet.{Sheet}
-use Rattle.sheet.specs.declared.SheetAt.{SheetAt}
-use Rattle.sheet.specs.declared.Reading.{Reading}
+use Rattle.reading.specs.declared.SheetAt.{SheetAt}
+use Rattle.reading.specs.declared.Reading.{Reading}
 use Rattle.answers.specs.Numbers.{numbered}
 use Rattle.parameters.specs.Parameters.{parametersAt}
 use Rattle.automaton.specs.Automaton.{locationsAt, transitionsAt}
 use Rattle.route.specs.Route.{routeAt, linksOf}
-use Rattle.sheet.specs.File.{blankSheet, Read, readAs, refusedBy, bodiesOf, judgedRoute, judgedBodies, readOf}
+use Rattle.reading.specs.File.{blankSheet, Read, readAs, refusedBy, bodiesOf, judgedRoute, judgedBodies, readOf}
 use Rattle.sheet.specs.WellFormed.{WellFormed}
 use Rattle.parameters.specs.ParameterLaws.{parametersAt-right}
 use Rattle.automaton.specs.AutomatonLaws.{locationsAt-right, transitionsAt-right}
 use Rattle.route.specs.RouteLaws.{routeAt-right, links-right}

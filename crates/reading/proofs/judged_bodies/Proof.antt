@@ -1,8 +1,8 @@
 -- `judged_bodies` meets its contract: the test on the way picks the definition's case. Assumes nothing.
-use Rattle.sheet.specs.File.{judgedBodies, refusedBy}
+use Rattle.reading.specs.File.{judgedBodies, refusedBy}
 use borrow.Author.Needs.{needs}
-use Rattle.sheet.proofs.judged_bodies.Statement.{statement}
-use Rattle.sheet.proofs.judged_bodies.Tie as tie
+use Rattle.reading.proofs.judged_bodies.Statement.{statement}
+use Rattle.reading.proofs.judged_bodies.Tie as tie
 
 judged-route-requires : tie.Need-judged-route-requires
 judged-route-requires c κs = search needs
