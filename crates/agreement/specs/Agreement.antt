@@ -14,7 +14,7 @@ use Rattle.cutting.specs.Held.{holds, at, HeldBy}
 use Rattle.expr.specs.Limit.{Limit}
 use Rattle.expr.specs.Ranges.{Inside}
 use Rattle.expr.specs.Three.{rangeList}
-use Rattle.sheet.specs.Accepted.{read-well-formed}
+use Rattle.reading.specs.Accepted.{read-well-formed}
 use Rattle.soundness.specs.Theorems.{matrices-agree, zones-tightest, held-iff-run}
 use Rattle.sweep.specs.Reply.{replyOf}
 use Rattle.sweep.specs.Theorems.{sheetOf, IsVoid, IsRun, entryAt, reply-entry, sweep-right}

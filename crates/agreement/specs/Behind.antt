@@ -19,8 +19,8 @@ use Rattle.cutting.specs.Numbered.{SevenToNine, zones-numbered}
 use Rattle.cutting.specs.Shape.{zones-shaped}
 use Rattle.expr.specs.Ranges.{Inside}
 use Rattle.expr.specs.Three.{rangeList}
-use Rattle.sheet.specs.Accepted.{Fine}
-use Rattle.sheet.specs.File.{readOf}
+use Rattle.reading.specs.Accepted.{Fine}
+use Rattle.reading.specs.File.{readOf}
 use Rattle.sheet.specs.declared.Sheet.{Sheet}
 use Rattle.sweep.specs.Reply.{blankReply, swept, outside, orOutside, sheetReply, readReply, replyOf}
 use Rattle.sweep.specs.ReplyLaws.{outside-none}

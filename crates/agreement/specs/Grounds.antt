@@ -11,8 +11,9 @@ use Rattle.answers.specs.Numbers.{Numbered, numbered}
 use Rattle.cutting.specs.Cutting.{Listing, listed, refused, zonesOf}
 use Rattle.cutting.specs.Cutting as cutting
 use Rattle.cutting.specs.Numbered.{SevenToNine, zones-numbered}
-use Rattle.sheet.specs.Accepted.{Fine, TwoToFive, read-numbered}
-use Rattle.sheet.specs.File.{readOf}
+use Rattle.reading.specs.Accepted.{Fine}
+use Rattle.sheet.specs.Accepted.{TwoToFive, read-numbered}
+use Rattle.reading.specs.File.{readOf}
 use Rattle.sheet.specs.declared.Sheet.{Sheet}
 use Rattle.sweep.specs.Theorems.{sheetOf}
 use Rattle.windows.specs.Reply as windows

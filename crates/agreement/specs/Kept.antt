@@ -12,8 +12,8 @@ use Rattle.expr.specs.Three.{rangeList}
 use Rattle.search.specs.Once.{valuations-once}
 use Rattle.search.specs.SearchLaws.{widths, valuations-inside, valuations-all}
 use Rattle.search.specs.Valuations.{valuations}
-use Rattle.sheet.specs.Accepted.{Fine, read-well-formed}
-use Rattle.sheet.specs.File.{readOf}
+use Rattle.reading.specs.Accepted.{Fine, read-well-formed}
+use Rattle.reading.specs.File.{readOf}
 use Rattle.soundness.specs.Counts.{kept-counts-runs, cut-counts-the-rest, kept-and-cut}
 use Rattle.sweep.specs.Theorems.{sheetOf, IsRun, IsVoid, numberAt, sweep-right}
 use Rattle.timed.specs.Runs.{Run}

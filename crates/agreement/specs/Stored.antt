@@ -17,7 +17,7 @@ use Rattle.dbm.specs.Entries.{Outside}
 use Rattle.expr.specs.Affine.{Affine}
 use Rattle.expr.specs.Limit.{Limit}
 use Rattle.expr.specs.Three.{exprOf, boundOf}
-use Rattle.sheet.specs.File.{readOf}
+use Rattle.reading.specs.File.{readOf}
 use Rattle.sheet.specs.declared.Sheet.{Sheet}
 use Rattle.sweep.specs.Theorems.{sheetOf}
 use Rattle.windows.specs.Reply as windows

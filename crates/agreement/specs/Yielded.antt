@@ -22,13 +22,17 @@ use Rattle.search.specs.Valuations.{span, width, before, valuations, satisfies,
 use Rattle.expr.specs.declared.number.Valuation.{Valuation}
 use Rattle.expr.specs.declared.range.Range.{Range}
 use Rattle.contents.specs.Contents.{sized, entryField, headOf, oneOf, firstOf, twoOf, secondOf, threeOf, thirdOf, fourOf, contentsOf}
-use Rattle.cursor.specs.Cursor.{shifted, judged, byteTaken, wordTaken, signedTaken, byteField, wordField, signedField, finished, turns}
+use Rattle.cursor.specs.Cursor.{shifted, judged, byteTaken, wordTaken, signedTaken, byteField, wordField, signedField, finished, iterate}
 use Rattle.contents.specs.declared.Refusal.the-variants.{Nothing}
 use Rattle.integer.specs.Parts.{p, n}
-use Rattle.sheet.specs.Bodies.{rangeOf, highestRight, highestField, rangeAt, parametersAt, blankLocation, blankLocations, locationStep, locationsRead, locationsAt, belowField, resetsRight, resetsField, transitionAt, blankTransition, blankTransitions, transitionStep, transitionsRead, transitionsAt, routeStep, routeRead, routeAt}
-use Rattle.sheet.specs.File.{blankSheet, refusedBy, bodiesOf, judgedRoute, judgedBodies, readOf}
-use Rattle.sheet.specs.Guards.{signedOf, exprOf, boundOf, oneZero, rightField, coefficientField, guardAt, blankGuard, blankGuards, guardStep, guardsAt}
-use Rattle.sheet.specs.Route.{endsAt, linkStep, linksOf}
+use Rattle.parameters.specs.Parameters.{rangeOf, highestRight, highestField, rangeAt, parametersAt}
+use Rattle.automaton.specs.Automaton.{blankLocation, blankLocations, locationStep, locationsRead, locationsAt, resetsRight, resetsField, transitionAt, blankTransition, blankTransitions, transitionStep, transitionsRead, transitionsAt}
+use Rattle.cursor.specs.Cursor.{belowField}
+use Rattle.route.specs.Route.{routeStep, routeRead, routeAt}
+use Rattle.reading.specs.File.{blankSheet, refusedBy, bodiesOf, judgedRoute, judgedBodies, readOf}
+use Rattle.cursor.specs.Cursor.{signedOf}
+use Rattle.guards.specs.Guards.{exprOf, boundOf, oneZero, rightField, coefficientField, guardAt, blankGuard, blankGuards, guardStep, guardsAt}
+use Rattle.route.specs.Route.{endsAt, linkStep, linksOf}
 use Rattle.sheet.specs.declared.Sheet.{Sheet}
 use Rattle.walk.specs.Coded.{row}
 use Rattle.sweep.specs.Reply.{blankReply, swept, sheetReply, readingReply, replyOf}
@@ -77,7 +81,7 @@ bytes-of-A = refl
 
 -- ---- every row
 pub listed-cases : ListedCases
-unfolding startB summed tested putEntry rowFrom rowsFrom places pushed guardTree never listZone worked guardZones guardsZones onBounds resetBounds stayZones moveZones cutRoute zonesOf keptOf widths start delayed resetM limitedM guarded dot value plusL minusL plus minus lessOne opposite judge atV sumW marked sumB tighterW asked tighterB span width before valuations satisfies firstIn countIn first count p n sized entryField headOf oneOf firstOf twoOf secondOf threeOf thirdOf fourOf contentsOf shifted judged byteTaken wordTaken signedTaken byteField wordField signedField finished turns rangeOf highestRight highestField rangeAt parametersAt blankLocation blankLocations locationStep locationsRead locationsAt belowField resetsRight resetsField transitionAt blankTransition blankTransitions transitionStep transitionsRead transitionsAt routeStep routeRead routeAt blankSheet refusedBy bodiesOf judgedRoute judgedBodies readOf signedOf exprOf boundOf oneZero rightField coefficientField guardAt blankGuard blankGuards guardStep guardsAt endsAt linkStep linksOf row blankReply swept sheetReply readingReply replyOf sweepGuard guardSteps resetSteps stay move walk sweepAt invariants guardsOf routeOf blankWork listingWork sheetWork readingWork workOf tableOf rowOf boundsOf zoneOf zonesIn
+unfolding startB summed tested putEntry rowFrom rowsFrom places pushed guardTree never listZone worked guardZones guardsZones onBounds resetBounds stayZones moveZones cutRoute zonesOf keptOf widths start delayed resetM limitedM guarded dot value plusL minusL plus minus lessOne opposite judge atV sumW marked sumB tighterW asked tighterB span width before valuations satisfies firstIn countIn first count p n sized entryField headOf oneOf firstOf twoOf secondOf threeOf thirdOf fourOf contentsOf shifted judged byteTaken wordTaken signedTaken byteField wordField signedField finished iterate rangeOf highestRight highestField rangeAt parametersAt blankLocation blankLocations locationStep locationsRead locationsAt belowField resetsRight resetsField transitionAt blankTransition blankTransitions transitionStep transitionsRead transitionsAt routeStep routeRead routeAt blankSheet refusedBy bodiesOf judgedRoute judgedBodies readOf signedOf exprOf boundOf oneZero rightField coefficientField guardAt blankGuard blankGuards guardStep guardsAt endsAt linkStep linksOf row blankReply swept sheetReply readingReply replyOf sweepGuard guardSteps resetSteps stay move walk sweepAt invariants guardsOf routeOf blankWork listingWork sheetWork readingWork workOf tableOf rowOf boundsOf zoneOf zonesIn
 listed-cases = (a, (strict, (pq, (qp, (free, (empty, (back, (down, (up, (touch, (gap, (early, tt))))))))))))
   where
     a : SheetYields rowA

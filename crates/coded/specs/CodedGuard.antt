@@ -16,7 +16,7 @@ use Rattle.expr.specs.Three.{affine, exprOf, limitOf, rangeList}
 use Rattle.search.specs.Valuations.{first}
 use Rattle.expr.specs.declared.number.Expr.{Expr}
 use Rattle.expr.specs.declared.range.Ranges.{Ranges}
-use Rattle.sheet.specs.declared.Guard.{Guard}
+use Rattle.guards.specs.declared.Guard.{Guard}
 use Rattle.timed.specs.Right.{AllOf}
 use Rattle.coded.specs.Coded.{boundsOf, zoneOf, zonesIn, coded, one-more, length-more, taken}
 use Rattle.coded.specs.CodedTests.{pad-first, NarrowM, opposite-coded, never-is}

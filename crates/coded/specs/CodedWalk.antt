@@ -17,9 +17,9 @@ use Rattle.expr.specs.Limit.{Limit, none}
 use Rattle.expr.specs.Three.{rangeList}
 use Rattle.expr.specs.declared.bound.Bound.{Bound}
 use Rattle.expr.specs.declared.range.Ranges.{Ranges}
-use Rattle.sheet.specs.declared.Guard.{Guard}
+use Rattle.guards.specs.declared.Guard.{Guard}
 use Rattle.sheet.specs.declared.Sheet.{Sheet}
-use Rattle.sheet.specs.declared.Transition.{Transition}
+use Rattle.automaton.specs.declared.Transition.{Transition}
 use Rattle.sheet.specs.WellFormed.{WellFormed}
 use Rattle.timed.specs.Automaton.{invariants, guardsOf, routeOf, transitionAt}
 use Rattle.timed.specs.Indexed.{locationC, transitionC, location-in, transition-in}

@@ -8,10 +8,10 @@ use Rattle.expr.specs.Limit.{none}
 use Rattle.expr.specs.Three.{boundOf}
 use Rattle.expr.specs.declared.bound.Bound.{Bound}
 use Rattle.expr.specs.declared.range.Ranges.{Ranges}
-use Rattle.sheet.specs.declared.Guard.{Guard}
-use Rattle.sheet.specs.declared.Location.{Location}
+use Rattle.guards.specs.declared.Guard.{Guard}
+use Rattle.automaton.specs.declared.Location.{Location}
 use Rattle.sheet.specs.declared.Sheet.{Sheet}
-use Rattle.sheet.specs.declared.Transition.{Transition}
+use Rattle.automaton.specs.declared.Transition.{Transition}
 use Rattle.timed.specs.Indexed.{locationC, transitionC}
 use Rattle.split.specs.Guarded.{guardedC}
 use Rattle.zones.specs.Zone.{zeroBound, zeroExpr, blankZone}

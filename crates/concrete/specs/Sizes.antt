@@ -20,9 +20,11 @@ use Rattle.expr.specs.Limit.{Limit, none, limit, sumW, atV, saturated}
 use Rattle.expr.specs.Laws.{saturate-same}
 use Rattle.expr.specs.Three.{affine, limitOf, pickL}
 use Rattle.expr.specs.declared.number.Expr.{Expr}
-use Rattle.sheet.specs.declared.Guard.{Guard}
+use Rattle.guards.specs.declared.Guard.{Guard}
 use Rattle.sheet.specs.declared.Sheet.{Sheet}
-use Rattle.sheet.specs.WellFormed.{Small as Thousand, ExprRight, GuardRight, WellFormed}
+use Rattle.cursor_laws.specs.Right.{Small as Thousand}
+use Rattle.guards.specs.Right.{ExprRight, GuardRight}
+use Rattle.sheet.specs.WellFormed.{WellFormed}
 use Rattle.timed.specs.Automaton.{routeOf}
 use Rattle.timed.specs.Right.{AllOf, StepRight, steps-right, route-delays}
 use Rattle.timed.specs.Steps.{Step, delay, guard, resets, stepsOf, delays}

@@ -19,8 +19,8 @@ use Rattle.dbm.specs.Reset.{reset-closed, reset-met, reset-from}
 use Rattle.expr.specs.Affine.{Affine, value}
 use Rattle.expr.specs.Limit.{Limit, none, limit, atV}
 use Rattle.expr.specs.Three.{affine, limitOf, pickL}
-use Rattle.sheet.specs.declared.Guard.{Guard}
-use Rattle.sheet.specs.WellFormed.{GuardRight}
+use Rattle.guards.specs.declared.Guard.{Guard}
+use Rattle.guards.specs.Right.{GuardRight}
 use Rattle.timed.specs.Right.{AllOf, StepRight}
 use Rattle.timed.specs.Runs.{Clocks, waited, afterResets, compared, Holds}
 use Rattle.timed.specs.Steps.{Step, delay, guard, resets}

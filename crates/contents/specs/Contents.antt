@@ -1,13 +1,13 @@
 -- The contents of a sheet file, and the bodies' parts (paper 01, "The sheet file", first item, and rows 2 and 3 of "When no piece is given").
 use Prim.Native.Nat.{ℕ, _+_, _-_}
 use mathlib.Core.List.{List, []}
-use mathlib.Core.Bool.{Bool}
+use mathlib.Core.Bool.{Bool, cond, _&&_}
 use lib.ListN.{length, take, drop}
 use lib.Dec.{eqb}
 use Rattle.answers.specs.Numbers.{Numbered, numbered}
-use Rattle.cursor.specs.declared.Spot.{Spot}
+use Rattle.cursor.specs.declared.Cursor.{Cursor}
 use Rattle.contents.specs.declared.Contents.{Contents}
-use Rattle.cursor.specs.Cursor.{pick, both, within, went, byteField, wordField}
+use Rattle.cursor.specs.Cursor.{within, advanced, byteField, wordField}
 
 -- refusal 2 is for a file that is not so: 22 to 4,096 bytes
 unfoldable pub sized : List ℕ → Bool
@@ -15,18 +15,18 @@ sized s = within 22 (length s) 4096
 
 -- one entry of 5 bytes: the kind; the offset, which must be the last body's end, `start`; the length, which must be at least `least`
 -- and must not pass the file's end
-unfoldable pub entryField : List ℕ → ℕ → ℕ → ℕ → Spot → Spot
-entryField s kind start least spot =
+unfoldable pub entryField : List ℕ → ℕ → ℕ → ℕ → Cursor → Cursor
+entryField s kind start least cursor =
     wordField s 22 least (length s - start)
     (wordField s 22 start start
-    (byteField s 22 kind kind spot))
+    (byteField s 22 kind kind cursor))
 
 -- version 1, then the count 4
-unfoldable pub headOf : List ℕ → Spot
-headOf s = byteField s 22 4 4 (byteField s 22 1 1 (went 0 0))
+unfoldable pub headOf : List ℕ → Cursor
+headOf s = byteField s 22 4 4 (byteField s 22 1 1 (advanced 0 0))
 
 -- the entry of body 1, which starts at byte 22; then each body starts where the last ended
-unfoldable pub oneOf : List ℕ → Spot
+unfoldable pub oneOf : List ℕ → Cursor
 oneOf s = entryField s 1 22 0 (headOf s)
 
 -- where body 1 ends
@@ -34,7 +34,7 @@ unfoldable pub firstOf : List ℕ → ℕ
 firstOf s = 22 + oneOf s .word
 
 -- the entry of body 2, which starts there
-unfoldable pub twoOf : List ℕ → Spot
+unfoldable pub twoOf : List ℕ → Cursor
 twoOf s = entryField s 2 (firstOf s) 0 (oneOf s)
 
 -- where body 2 ends
@@ -42,7 +42,7 @@ unfoldable pub secondOf : List ℕ → ℕ
 secondOf s = firstOf s + twoOf s .word
 
 -- the entry of body 3
-unfoldable pub threeOf : List ℕ → Spot
+unfoldable pub threeOf : List ℕ → Cursor
 threeOf s = entryField s 3 (secondOf s) 0 (twoOf s)
 
 -- where body 3 ends
@@ -50,12 +50,12 @@ unfoldable pub thirdOf : List ℕ → ℕ
 thirdOf s = secondOf s + threeOf s .word
 
 -- the entry of body 4, whose length is all that is left of the file
-unfoldable pub fourOf : List ℕ → Spot
+unfoldable pub fourOf : List ℕ → Cursor
 fourOf s = entryField s 4 (thirdOf s) (length s - thirdOf s) (threeOf s)
 
 -- the contents: where reading them ended, and the ends of bodies 1, 2 and 3
 unfoldable pub contentsOf : List ℕ → Contents
-contentsOf s = record { spot = fourOf s; first = firstOf s; second = secondOf s; third = thirdOf s }
+contentsOf s = record { cursor = fourOf s; first = firstOf s; second = secondOf s; third = thirdOf s }
 
 -- the kinds that a file has
 unfoldable pub isKind : ℕ → Bool
@@ -64,29 +64,29 @@ isKind kind = within 1 kind 4
 -- where the body of a kind starts
 unfoldable pub startOf : Contents → ℕ → ℕ
 startOf contents kind =
-    pick (eqb kind 1) 22 (pick (eqb kind 2) (contents .first) (pick (eqb kind 3) (contents .second) (contents .third)))
+    cond (eqb kind 1) 22 (cond (eqb kind 2) (contents .first) (cond (eqb kind 3) (contents .second) (contents .third)))
 
 -- where the body of a kind ends
 unfoldable pub endOf : List ℕ → Contents → ℕ → ℕ
 endOf s contents kind =
-    pick (eqb kind 1) (contents .first) (pick (eqb kind 2) (contents .second) (pick (eqb kind 3) (contents .third) (length s)))
+    cond (eqb kind 1) (contents .first) (cond (eqb kind 2) (contents .second) (cond (eqb kind 3) (contents .third) (length s)))
 
 -- the file is refused by neither 2 nor 3, and the kind is one of its four
 unfoldable pub hasBody : List ℕ → ℕ → Bool
-hasBody s kind = both (sized s) (both (contentsOf s .spot .ok) (isKind kind))
+hasBody s kind = sized s && (contentsOf s .cursor .ok && isKind kind)
 
 -- the body handed out for a kind: that part of the bytes, or an empty part
 unfoldable pub bodyOf : List ℕ → ℕ → List ℕ
 bodyOf s kind =
-    pick (hasBody s kind)
+    cond (hasBody s kind)
     (take (endOf s (contentsOf s) kind - startOf (contentsOf s) kind) (drop (startOf (contentsOf s) kind) s))
     []
 
 -- its refusal: the file's comes before the kind's; 0 for a body
 unfoldable pub bodyRefusal : List ℕ → ℕ → Numbered
 bodyRefusal s kind =
-    pick (sized s)
-    (pick (contentsOf s .spot .ok)
-    (pick (isKind kind) (numbered 0 0) (numbered 3 0))
-    (numbered 3 (contentsOf s .spot .at)))
+    cond (sized s)
+    (cond (contentsOf s .cursor .ok)
+    (cond (isKind kind) (numbered 0 0) (numbered 3 0))
+    (numbered 3 (contentsOf s .cursor .at)))
     (numbered 2 0)

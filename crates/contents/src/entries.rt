@@ -2,28 +2,26 @@
 ghost use mathlib.Core.Path.{_≡_};
 ghost use Rattle.contents.specs.Contents.{sized, entryField, contentsOf};
 use super::Contents;
-use cursor::Spot;
+use cursor::Cursor;
 use cursor::byte_field;
-use cursor::left;
-use cursor::went;
-use cursor::within;
 use cursor::word_field;
+use numbers::less;
 
 // Whether the file has 22 to 4,096 bytes.
 pub fn sized(file: &[u8]) -> bool
     ensures { λ r. ⌜ r ≡ sized (now (file .entry)) ⌝ }
 {
-    within(22, file.len(), 4096)
+    22 <= file.len() && file.len() <= 4096
 }
 
 // One entry of the contents, whose body starts at `start`: kind, offset and length. The length is
 // at least `least`.
-fn entry_field(file: &[u8], kind: usize, start: usize, least: usize, spot: Spot) -> Spot
-    ensures { λ r. ⌜ r ≡ entryField (now (file .entry)) kind start least spot ⌝ }
+fn entry_field(file: &[u8], kind: usize, start: usize, least: usize, cursor: Cursor) -> Cursor
+    ensures { λ r. ⌜ r ≡ entryField (now (file .entry)) kind start least cursor ⌝ }
 {
-    let kinds = byte_field(file, 22, kind, kind, spot);
+    let kinds = byte_field(file, 22, kind, kind, cursor);
     let offset = word_field(file, 22, start, start, kinds);
-    let most = left(start, file.len());
+    let most = less(file.len(), start);
     word_field(file, 22, least, most, offset)
 }
 
@@ -31,7 +29,13 @@ fn entry_field(file: &[u8], kind: usize, start: usize, least: usize, spot: Spot)
 pub fn contents_of(file: &[u8]) -> Contents
     ensures { λ r. ⌜ r ≡ contentsOf (now (file .entry)) ⌝ }
 {
-    let version = byte_field(file, 22, 1, 1, went(0, 0));
+    let start = Cursor {
+        ok: true,
+        at: 0,
+        byte: 0,
+        word: 0,
+    };
+    let version = byte_field(file, 22, 1, 1, start);
     let count = byte_field(file, 22, 4, 4, version);
     let one = entry_field(file, 1, 22, 0, count);
     let first = 22 + (one.word as u32);
@@ -39,10 +43,10 @@ pub fn contents_of(file: &[u8]) -> Contents
     let second = first + (two.word as u32);
     let three = entry_field(file, 3, second as usize, 0, two);
     let third = second + (three.word as u32);
-    let rest = left(third as usize, file.len());
+    let rest = less(file.len(), third as usize);
     let four = entry_field(file, 4, third as usize, rest, three);
     Contents {
-        spot: four,
+        cursor: four,
         first,
         second,
         third,

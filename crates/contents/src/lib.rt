@@ -6,7 +6,7 @@ mod parts;
 
 use answers::file::Checked;
 use answers::file::Refusal;
-use cursor::Spot;
+use cursor::Cursor;
 ghost use mathlib.Core.Path.{_≡_};
 ghost use Rattle.contents.specs.Contents.{bodyOf, bodyRefusal};
 ghost use Rattle.answers.specs.Numbers.{checkedAs};
@@ -14,7 +14,7 @@ ghost use Rattle.answers.specs.Numbers.{checkedAs};
 // The contents: where reading them ended, and where bodies 1, 2 and 3 end. Body 1 starts at byte
 // 22 and body 4 ends with the file.
 pub struct Contents {
-    pub spot: Spot,
+    pub cursor: Cursor,
     pub first: u32,
     pub second: u32,
     pub third: u32,
@@ -25,7 +25,7 @@ pub fn body(file: &[u8], kind: u8) -> &[u8]
     ensures { λ r. ⌜ now r ≡ bodyOf (now (file .entry)) kind ⌝ }
 {
     let contents = entries::contents_of(file);
-    let ok = parts::has_body(file, kind);
+    let ok = parts::has_body(file, contents, kind);
     let start = parts::start_of(contents, kind);
     let end = parts::end_of(file, contents, kind);
     parts::part(file, ok, start, end)
@@ -37,17 +37,17 @@ pub fn body_refusal(file: &[u8], kind: u8) -> Checked
     ensures { λ r. ⌜ checkedAs r ≡ bodyRefusal (now (file .entry)) kind ⌝ }
 {
     let contents = entries::contents_of(file);
-    let spot = contents.spot;
+    let cursor = contents.cursor;
     let sized = entries::sized(file);
     if sized {
-        if spot.ok {
+        if cursor.ok {
             if parts::is_kind(kind) {
                 Checked::Fine
             } else {
                 Checked::Refused(Refusal::Contents(0))
             }
         } else {
-            Checked::Refused(Refusal::Contents(spot.at))
+            Checked::Refused(Refusal::Contents(cursor.at))
         }
     } else {
         Checked::Refused(Refusal::Size)

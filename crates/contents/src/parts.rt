@@ -3,19 +3,16 @@ ghost use mathlib.Core.Path.{_≡_};
 ghost use mathlib.Core.List.{[]};
 ghost use Prim.Native.Nat.{_-_};
 ghost use lib.ListN.{take, drop};
-ghost use Rattle.cursor.specs.Cursor.{pick};
-ghost use Rattle.contents.specs.Contents.{isKind, startOf, endOf, hasBody};
+ghost use mathlib.Core.Bool.{cond, _&&_};
+ghost use Rattle.contents.specs.Contents.{sized, isKind, startOf, endOf};
 use super::Contents;
-use super::entries::contents_of;
 use super::entries::sized;
-use cursor::both;
-use cursor::within;
 
 // Whether a kind is 1, 2, 3 or 4.
 pub fn is_kind(kind: u8) -> bool
     ensures { λ r. ⌜ r ≡ isKind kind ⌝ }
 {
-    within(1, kind as usize, 4)
+    1 <= kind && kind <= 4
 }
 
 // Where the body of a kind starts.
@@ -48,18 +45,17 @@ pub fn end_of(file: &[u8], contents: Contents, kind: u8) -> usize
     }
 }
 
-// Whether the file has a body of this kind to hand out.
-pub fn has_body(file: &[u8], kind: u8) -> bool
-    ensures { λ r. ⌜ r ≡ hasBody (now (file .entry)) kind ⌝ }
+// Whether the file, whose contents these are, has a body of this kind to hand out.
+pub fn has_body(file: &[u8], contents: Contents, kind: u8) -> bool
+    ensures { λ r. ⌜ r ≡ (sized (now (file .entry)) && (contents .cursor .ok && isKind kind)) ⌝ }
 {
-    let contents = contents_of(file);
-    let spot = contents.spot;
-    both(sized(file), both(spot.ok, is_kind(kind)))
+    let cursor = contents.cursor;
+    sized(file) && (cursor.ok && is_kind(kind))
 }
 
 // The bytes from `start` up to `end`, as far as the file has them; none unless `ok`.
 pub fn part(file: &[u8], ok: bool, start: usize, end: usize) -> &[u8]
-    ensures { λ r. ⌜ now r ≡ pick ok (take (end - start) (drop start (now (file .entry)))) [] ⌝ }
+    ensures { λ r. ⌜ now r ≡ cond ok (take (end - start) (drop start (now (file .entry)))) [] ⌝ }
 {
     if ok {
         if start <= file.len() {

@@ -2,13 +2,10 @@
 // stands and returns where it stands then; a stopped cursor passes through. Every function is total, and its contract is an equation with a
 // definition of specs/Cursor.
 ghost use mathlib.Core.Path.{_≡_};
-ghost use Prim.Native.Nat.{_+_, _-_, _*_};
+ghost use Prim.Native.Nat.{_+_, _*_};
 ghost use lib.ListN.{getD};
 ghost use Rattle.cursor.specs.Cursor.{
   within,
-  both,
-  went,
-  wentWord,
   stop,
   shifted,
   judged,
@@ -16,14 +13,16 @@ ghost use Rattle.cursor.specs.Cursor.{
   wordTaken,
   signedTaken,
   byteField,
+  belowField,
   wordField,
   signedField,
   finished,
 };
+use numbers::less;
 
 // Where reading stands. If `ok`, `at` is the next byte, and the field read last is in `byte` or in
 // `word`; otherwise `at` is the place of the first wrong field, and nothing more is read.
-pub struct Spot {
+pub struct Cursor {
     pub ok: bool,
     pub at: usize,
     pub byte: u8,
@@ -37,56 +36,18 @@ fn byte_at(s: &[u8], at: usize) -> u8
     if at < s.len() { s[at] } else { 0 }
 }
 
-// How many bytes lie from one place up to another, and 0 where that comes first.
-pub fn left(at: usize, end: usize) -> usize
-    ensures { λ r. ⌜ r ≡ end - at ⌝ }
-{
-    if at < end { end - at } else { 0 }
-}
-
-// Whether both hold.
-pub fn both(a: bool, b: bool) -> bool
-    ensures { λ r. ⌜ r ≡ both a b ⌝ }
-{
-    if a { b } else { false }
-}
-
 // Whether a number lies between two others, both included.
-pub fn within(low: usize, value: usize, high: usize) -> bool
+fn within(low: usize, value: usize, high: usize) -> bool
     ensures { λ r. ⌜ r ≡ within low value high ⌝ }
 {
-    both(low <= value, value <= high)
-}
-
-// Reading stands at a place, a byte having been read.
-pub fn went(at: usize, byte: u8) -> Spot
-    ensures { λ r. ⌜ r ≡ went at byte ⌝ }
-{
-    Spot {
-        ok: true,
-        at,
-        byte,
-        word: 0,
-    }
-}
-
-// Reading stands at a place, two bytes having been read.
-fn went_word(at: usize, word: u16) -> Spot
-    ensures { λ r. ⌜ r ≡ wentWord at word ⌝ }
-{
-    Spot {
-        ok: true,
-        at,
-        byte: 0,
-        word,
-    }
+    low <= value && value <= high
 }
 
 // Reading has stopped at a place.
-fn stop(at: usize) -> Spot
+fn stop(at: usize) -> Cursor
     ensures { λ r. ⌜ r ≡ stop at ⌝ }
 {
-    Spot {
+    Cursor {
         ok: false,
         at,
         byte: 0,
@@ -95,7 +56,7 @@ fn stop(at: usize) -> Spot
 }
 
 // The field that was taken is right, or reading stops where it started.
-pub fn judged(before: Spot, taken: Spot, right: bool) -> Spot
+pub fn judged(before: Cursor, taken: Cursor, right: bool) -> Cursor
     ensures { λ r. ⌜ r ≡ judged before taken right ⌝ }
 {
     if taken.ok {
@@ -106,18 +67,23 @@ pub fn judged(before: Spot, taken: Spot, right: bool) -> Spot
 }
 
 // The next byte of a body that ends at `end`.
-pub fn take_byte(s: &[u8], end: usize, spot: Spot) -> Spot
-    ensures { λ r. ⌜ r ≡ byteTaken (now (s .entry)) end spot ⌝ }
+fn take_byte(s: &[u8], end: usize, cursor: Cursor) -> Cursor
+    ensures { λ r. ⌜ r ≡ byteTaken (now (s .entry)) end cursor ⌝ }
 {
-    let at = spot.at;
-    if spot.ok {
-        if 1 <= left(at, end) {
-            went(at + 1, byte_at(s, at))
+    let at = cursor.at;
+    if cursor.ok {
+        if at < end {
+            Cursor {
+                ok: true,
+                at: at + 1,
+                byte: byte_at(s, at),
+                word: 0,
+            }
         } else {
             stop(end)
         }
     } else {
-        spot
+        cursor
     }
 }
 
@@ -129,18 +95,23 @@ fn word_of(low: u8, high: u8) -> u16
 }
 
 // The next two bytes of a body that ends at `end`, as a number without sign.
-fn take_word(s: &[u8], end: usize, spot: Spot) -> Spot
-    ensures { λ r. ⌜ r ≡ wordTaken (now (s .entry)) end spot ⌝ }
+fn take_word(s: &[u8], end: usize, cursor: Cursor) -> Cursor
+    ensures { λ r. ⌜ r ≡ wordTaken (now (s .entry)) end cursor ⌝ }
 {
-    let at = spot.at;
-    if spot.ok {
-        if 2 <= left(at, end) {
-            went_word(at + 2, word_of(byte_at(s, at), byte_at(s, at + 1)))
+    let at = cursor.at;
+    if cursor.ok {
+        if 2 <= less(end, at) {
+            Cursor {
+                ok: true,
+                at: at + 2,
+                byte: 0,
+                word: word_of(byte_at(s, at), byte_at(s, at + 1)),
+            }
         } else {
             stop(end)
         }
     } else {
-        spot
+        cursor
     }
 }
 
@@ -156,52 +127,65 @@ fn shifted(word: u16) -> u16
 }
 
 // The next two bytes as a number with sign, to which 32,768 is added.
-pub fn take_signed(s: &[u8], end: usize, spot: Spot) -> Spot
-    ensures { λ r. ⌜ r ≡ signedTaken (now (s .entry)) end spot ⌝ }
+fn take_signed(s: &[u8], end: usize, cursor: Cursor) -> Cursor
+    ensures { λ r. ⌜ r ≡ signedTaken (now (s .entry)) end cursor ⌝ }
 {
-    let taken = take_word(s, end, spot);
+    let taken = take_word(s, end, cursor);
     if taken.ok {
-        went_word(taken.at, shifted(taken.word))
+        Cursor {
+            ok: true,
+            at: taken.at,
+            byte: 0,
+            word: shifted(taken.word),
+        }
     } else {
         taken
     }
 }
 
-// A byte that must lie between two numbers.
-pub fn byte_field(s: &[u8], end: usize, low: usize, high: usize, spot: Spot) -> Spot
-    ensures { λ r. ⌜ r ≡ byteField (now (s .entry)) end low high spot ⌝ }
+// A byte that must lie between two numbers, both included.
+pub fn byte_field(s: &[u8], end: usize, low: usize, high: usize, cursor: Cursor) -> Cursor
+    ensures { λ r. ⌜ r ≡ byteField (now (s .entry)) end low high cursor ⌝ }
 {
-    let taken = take_byte(s, end, spot);
+    let taken = take_byte(s, end, cursor);
     let right = within(low, taken.byte as usize, high);
-    judged(spot, taken, right)
+    judged(cursor, taken, right)
 }
 
-// A two-byte number without sign that must lie between two numbers.
-pub fn word_field(s: &[u8], end: usize, low: usize, high: usize, spot: Spot) -> Spot
-    ensures { λ r. ⌜ r ≡ wordField (now (s .entry)) end low high spot ⌝ }
+// A byte that must be below a count.
+pub fn below_field(s: &[u8], end: usize, count: u8, cursor: Cursor) -> Cursor
+    ensures { λ r. ⌜ r ≡ belowField (now (s .entry)) end count cursor ⌝ }
 {
-    let taken = take_word(s, end, spot);
-    let right = within(low, taken.word as usize, high);
-    judged(spot, taken, right)
+    let taken = take_byte(s, end, cursor);
+    judged(cursor, taken, taken.byte < count)
 }
 
-// A two-byte number with sign; with 32,768 added it must lie between two numbers.
-pub fn signed_field(s: &[u8], end: usize, low: usize, high: usize, spot: Spot) -> Spot
-    ensures { λ r. ⌜ r ≡ signedField (now (s .entry)) end low high spot ⌝ }
+// A two-byte number without sign that must lie between two numbers, both included.
+pub fn word_field(s: &[u8], end: usize, low: usize, high: usize, cursor: Cursor) -> Cursor
+    ensures { λ r. ⌜ r ≡ wordField (now (s .entry)) end low high cursor ⌝ }
 {
-    let taken = take_signed(s, end, spot);
+    let taken = take_word(s, end, cursor);
     let right = within(low, taken.word as usize, high);
-    judged(spot, taken, right)
+    judged(cursor, taken, right)
+}
+
+// A two-byte number with sign; with 32,768 added it must lie between two numbers, both included.
+pub fn signed_field(s: &[u8], end: usize, low: usize, high: usize, cursor: Cursor) -> Cursor
+    ensures { λ r. ⌜ r ≡ signedField (now (s .entry)) end low high cursor ⌝ }
+{
+    let taken = take_signed(s, end, cursor);
+    let right = within(low, taken.word as usize, high);
+    judged(cursor, taken, right)
 }
 
 // A body's end: reading stops at the first byte left over.
-pub fn finished(end: usize, spot: Spot) -> Spot
-    ensures { λ r. ⌜ r ≡ finished end spot ⌝ }
+pub fn finished(end: usize, cursor: Cursor) -> Cursor
+    ensures { λ r. ⌜ r ≡ finished end cursor ⌝ }
 {
-    let at = spot.at;
-    if spot.ok {
-        if at < end { stop(at) } else { spot }
+    let at = cursor.at;
+    if cursor.ok {
+        if at < end { stop(at) } else { cursor }
     } else {
-        spot
+        cursor
     }
 }

@@ -13,7 +13,7 @@ use Rattle.expr.specs.Limit.{Limit, none, limit, sumB, tighterB, Question, yes�
 use Rattle.expr.specs.Three.{limitOf, rangeList}
 use Rattle.search.specs.Valuations.{first}
 use Rattle.expr.specs.declared.range.Range.{Range}
-use Rattle.sheet.specs.declared.Guard.{Guard}
+use Rattle.guards.specs.declared.Guard.{Guard}
 use Rattle.sheet.specs.declared.Sheet.{Sheet}
 use Rattle.timed.specs.Automaton.{routeOf}
 use Rattle.timed.specs.Steps.{Step, delay, guard, resets, stepsOf}

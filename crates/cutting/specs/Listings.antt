@@ -7,7 +7,7 @@ use lib.ListN.{length}
 use Rattle.expr.specs.Affine.{Affine}
 use Rattle.expr.specs.Three.{limitOf}
 use Rattle.expr.specs.declared.range.Range.{Range}
-use Rattle.sheet.specs.declared.Guard.{Guard}
+use Rattle.guards.specs.declared.Guard.{Guard}
 use Rattle.timed.specs.Steps.{Step}
 use Rattle.cutting.specs.Cutting.{Bounds, Zone, Tree, cut, keep, wideTree, asks, guardTree, Listing, listed, refused, worked}
 use Rattle.cutting.specs.Cutting.{guardZones, onBounds, stepZones, andThen, cutSteps}

@@ -14,7 +14,7 @@ use Rattle.expr.specs.Affine.{Affine, opposite, Judged, fine, wide}
 use Rattle.expr.specs.Limit.{Limit, none, sumB, tighterB, Question, yes′, no′, ask, wide′}
 use Rattle.expr.specs.Three.{limitOf, rangeList}
 use Rattle.expr.specs.declared.range.Range.{Range}
-use Rattle.sheet.specs.declared.Guard.{Guard}
+use Rattle.guards.specs.declared.Guard.{Guard}
 use Rattle.sheet.specs.declared.Sheet.{Sheet}
 use Rattle.timed.specs.Automaton.{routeOf}
 use Rattle.timed.specs.Steps.{Step, delay, guard, resets, stepsOf}

@@ -21,7 +21,7 @@ use Rattle.search.specs.SearchLaws.{first-none}
 use Rattle.expr.specs.Three.{limitOf}
 use Rattle.search.specs.Valuations.{satisfies, first}
 use Rattle.expr.specs.declared.range.Range.{Range}
-use Rattle.sheet.specs.declared.Guard.{Guard}
+use Rattle.guards.specs.declared.Guard.{Guard}
 use Rattle.timed.specs.Steps.{delay, guard, resets}
 use Rattle.cutting.specs.Cutting.{Bounds, startB, Zone, Tree, cut, keep, wideTree, asks, guardTree, Listing, listed, refused, INEQS}
 use Rattle.cutting.specs.Cutting.{ZONES, never, listZone, worked, guardZones, onBounds, stepZones}

@@ -45,7 +45,7 @@ fn print_refusal(answer: Answer) -> bool {
 
 // How many clocks the sheet of a file has.
 fn clocks_of(file: &[u8]) -> usize {
-    let reading = sheet::read(file);
+    let reading = reading::read(file);
     let s = reading.sheet;
     s.clocks
 }

@@ -22,21 +22,21 @@ pub fn less(a: usize, b: usize) -> usize
     0
 }
 
-// x as an index.
-pub fn index(x: u8) -> usize
-    ensures { λ r. ⌜ r ≡ x ⌝ }
+// A byte as an index.
+pub fn index(byte: u8) -> usize
+    ensures { λ r. ⌜ r ≡ byte ⌝ }
 {
-    x as usize
+    byte as usize
 }
 
-// x as a wider number.
-pub fn wide16(x: i16) -> i64
-    ensures { λ r. ⌜ r ≡ x ⌝ }
+// A number of 16 bits as a wider one.
+pub fn wide16(short: i16) -> i64
+    ensures { λ r. ⌜ r ≡ short ⌝ }
 {
-    x as i64
+    short as i64
 }
 
-// x as a wider number.
+// A number of 32 bits as a wider one.
 pub fn wide(x: i32) -> i64
     ensures { λ r. ⌜ r ≡ x ⌝ }
 {

@@ -1,12 +1,2 @@
-pub mod Guards
-pub mod Bodies
-pub mod Route
-pub mod File
-pub mod Filled
 pub mod WellFormed
-pub mod Numbers
-pub mod GuardLaws
-pub mod BodyLaws
-pub mod RouteLaws
-pub mod Accepted
-pub mod Examples
+pub mod Lookup

@@ -9,7 +9,7 @@ use lib.ListN.{length, getD, set, take, drop, replicate, length-take, drop-of-le
 use lib.Seq.{drop-cons, getD-take}
 use Rattle.search.specs.Valuations.{count}
 use Rattle.expr.specs.declared.range.Ranges.{Ranges}
-use Rattle.sheet.specs.declared.Guard.{Guard}
+use Rattle.guards.specs.declared.Guard.{Guard}
 use Rattle.split.specs.Guarded.{ruleC, cutC, cutAll, guardedC}
 use Rattle.zones.specs.Zone.{blankZone}
 use Rattle.split.specs.Listed.{noneAt, refusedC, listC}

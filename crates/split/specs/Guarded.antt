@@ -4,7 +4,7 @@ use Prim.Native.Nat.{ℕ}
 use lib.Dec.{ltb}
 use lib.ListN.{take}
 use Rattle.expr.specs.declared.range.Ranges.{Ranges}
-use Rattle.sheet.specs.declared.Guard.{Guard}
+use Rattle.guards.specs.declared.Guard.{Guard}
 use Rattle.split.specs.Listed.{noneAt}
 use Rattle.zones.specs.Zone.{pick}
 use Rattle.split.specs.Trees.{treeAt, workedC, startC}

@@ -4,7 +4,7 @@ use constrain::Rule;
 use expr::Expr;
 use expr::Ranges;
 use parts::Part;
-use sheet::Guard;
+use guards::Guard;
 use zones::Zone;
 use zones::Zones;
 ghost use mathlib.Core.Path.{_≡_};

@@ -22,9 +22,9 @@ use Rattle.expr.specs.Three.{rangeList, point, valuationOf}
 use Rattle.expr.specs.declared.range.Ranges.{Ranges}
 use Rattle.integer.specs.Split.{split, split-all}
 use Rattle.sheet.specs.declared.Sheet.{Sheet}
-use Rattle.sheet.specs.declared.Reading.{Reading}
-use Rattle.sheet.specs.Accepted.{reading-well-formed}
-use Rattle.sheet.specs.File.{Read, readAs, readOf}
+use Rattle.reading.specs.declared.Reading.{Reading}
+use Rattle.reading.specs.Accepted.{reading-well-formed}
+use Rattle.reading.specs.File.{Read, readAs, readOf}
 use Rattle.sweep.specs.Faithful.{sheet-faithful}
 use Rattle.sweep.specs.Reply.{SweepReply, blankReply, inRange, outside, orOutside, sheetReply, readReply, replyOf}
 use Rattle.sweep.specs.TableReply.{placedBy, placedOf, sweptTable, sheetTable}

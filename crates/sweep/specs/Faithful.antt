@@ -13,7 +13,9 @@ use Rattle.expr.specs.Three.{rangeList}
 use Rattle.expr.specs.declared.range.Range.{Range}
 use Rattle.integer.specs.Order.{≤ℤ-trans}
 use Rattle.sheet.specs.declared.Sheet.{Sheet}
-use Rattle.sheet.specs.WellFormed.{WellFormed, RangeRight, Small}
+use Rattle.sheet.specs.WellFormed.{WellFormed}
+use Rattle.parameters.specs.Right.{RangeRight}
+use Rattle.cursor_laws.specs.Right.{Small}
 use Rattle.walk.specs.Coded.{coded, row-at, table-not-void}
 use Rattle.walk.specs.CodedWalk.{sweep-coded}
 use Rattle.sweep.specs.Reply.{swept, outside, orOutside, sheetReply}

@@ -14,7 +14,7 @@ use Rattle.dbm.specs.Matrix.{Outcome, void, kept}
 use Rattle.expr.specs.Three.{rangeList}
 use Rattle.expr.specs.declared.range.Range.{Range}
 use Rattle.expr.specs.declared.weight.Weight.{Weight}
-use Rattle.sheet.specs.File.{Read, readOf}
+use Rattle.reading.specs.File.{Read, readOf}
 use Rattle.sheet.specs.declared.Sheet.{Sheet}
 use Rattle.walk.specs.Coded.{row}
 use Rattle.walk.specs.Tables.{zeroRow}

@@ -14,8 +14,8 @@ use Rattle.dbm.specs.Matrix.{Matrix, Outcome, void, kept}
 use Rattle.expr.specs.Limit.{Limit, zeroW}
 use Rattle.expr.specs.Ranges.{Inside}
 use Rattle.expr.specs.Three.{weighed, rangeList}
-use Rattle.sheet.specs.Accepted.{Fine, read-well-formed}
-use Rattle.sheet.specs.File.{readOf}
+use Rattle.reading.specs.Accepted.{Fine, read-well-formed}
+use Rattle.reading.specs.File.{readOf}
 use Rattle.sheet.specs.declared.Sheet.{Sheet}
 use Rattle.walk.specs.Coded.{row, in-row, weighed-of}
 use Rattle.concrete.specs.Padding.{padded}

@@ -16,7 +16,7 @@ ghost use Rattle.sweep.specs.Reply.{replyAs, replyOf};
 pub fn sweep(file: &[u8], p: i64, q: i64, r: i64) -> Reply
     ensures { λ x. ⌜ replyAs x ≡ replyOf (now (file .entry)) (p ∷ q ∷ r ∷ []) ⌝ }
 {
-    let reading = sheet::read(file);
+    let reading = reading::read(file);
     let checked = reading.checked;
     let s = reading.sheet;
     match checked {

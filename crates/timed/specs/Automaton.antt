@@ -3,12 +3,12 @@
 use mathlib.Core.List.{List}
 use Prim.Native.Nat.{ℕ}
 use lib.ListN.{getD, take}
-use Rattle.sheet.specs.declared.Guard.{Guard}
-use Rattle.sheet.specs.declared.Location.{Location}
+use Rattle.guards.specs.declared.Guard.{Guard}
+use Rattle.automaton.specs.declared.Location.{Location}
 use Rattle.sheet.specs.declared.Sheet.{Sheet}
-use Rattle.sheet.specs.declared.Transition.{Transition}
-use Rattle.sheet.specs.Route.{noTransition}
-use Rattle.sheet.specs.WellFormed.{noLocation}
+use Rattle.automaton.specs.declared.Transition.{Transition}
+use Rattle.automaton.specs.Automaton.{noTransition}
+use Rattle.automaton.specs.Automaton.{noLocation}
 
 -- the invariants (paper: standing limits) of a location (paper: stage)
 unfoldable pub invariants : Sheet → ℕ → List Guard

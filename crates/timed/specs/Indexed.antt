@@ -6,11 +6,11 @@ use native.Mathlib.Omega.{arith}
 use borrow.Author.Tests.{lt-ltb, le-ltb, ltb-true}
 use lib.Dec.{ltb}
 use lib.ListN.{getD}
-use Rattle.sheet.specs.declared.Location.{Location}
+use Rattle.automaton.specs.declared.Location.{Location}
 use Rattle.sheet.specs.declared.Sheet.{Sheet}
-use Rattle.sheet.specs.declared.Transition.{Transition}
-use Rattle.sheet.specs.Route.{noTransition}
-use Rattle.sheet.specs.WellFormed.{noLocation}
+use Rattle.automaton.specs.declared.Transition.{Transition}
+use Rattle.automaton.specs.Automaton.{noTransition}
+use Rattle.automaton.specs.Automaton.{noLocation}
 use Rattle.timed.specs.Automaton.{transitionAt}
 
 -- i, or 0 where i is not below n

@@ -8,11 +8,12 @@ use native.Mathlib.Omega.{arith}
 use lib.Dec.{ltb}
 use lib.ListN.{length, getD, take, length-take, List·getD-eq-default}
 use borrow.Author.Tests.{ltb-true, ltb-false}
-use Rattle.sheet.specs.declared.Guard.{Guard}
+use Rattle.guards.specs.declared.Guard.{Guard}
 use Rattle.sheet.specs.declared.Sheet.{Sheet}
-use Rattle.sheet.specs.Bodies.{blankLocation, blankTransition}
-use Rattle.sheet.specs.Filled.{Filled}
-use Rattle.sheet.specs.WellFormed.{GuardRight, WellFormed}
+use Rattle.automaton.specs.Automaton.{blankLocation, blankTransition}
+use Rattle.cursor_laws.specs.Right.{Filled}
+use Rattle.guards.specs.Right.{GuardRight}
+use Rattle.sheet.specs.WellFormed.{WellFormed}
 use Rattle.timed.specs.Automaton.{invariants, guardsOf, transitionAt, routeOf}
 use Rattle.timed.specs.Steps.{Step, delay, guard, resets, staySteps, moveSteps, stepsFrom, stepsOf, delays}
 use Rattle.timed.specs.Visits.{steps-delays}

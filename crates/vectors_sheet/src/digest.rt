@@ -4,13 +4,13 @@
 // The numbers of a sheet are all its fields in the file's order, those of the places past a count
 // too. The numbers of the bodies are, for each kind from 0 to 5, the refusal's number and place (0
 // and 0 for none), the length of the part, and its bytes.
+use automaton::Location;
+use automaton::Transition;
 use expr::Expr;
 use expr::Range;
 use expr::Ranges;
-use sheet::Guard;
-use sheet::Location;
+use guards::Guard;
 use sheet::Sheet;
-use sheet::Transition;
 
 // The digest with a number that is handed over with 2,147,483,648 added.
 fn mixed(h: u64, x: u64) -> u64 {

@@ -7,7 +7,7 @@ mod digest;
 
 ghost use Prim.Native.Nat.{_<_};
 use libc::STDOUT_FILENO;
-use sheet::Reading;
+use reading::Reading;
 use sheet::Sheet;
 
 // Writes a space and a number.
@@ -49,7 +49,7 @@ fn print_reading(reading: Reading) {
 
 // Writes the line of a file.
 fn print_line(file: &[u8]) {
-    print_reading(sheet::read(file));
+    print_reading(reading::read(file));
     io::write_all(STDOUT_FILENO, b" bodies ");
     io::print_decimal(STDOUT_FILENO, digest::bodies(file));
     io::write_all(STDOUT_FILENO, b"\n");

@@ -18,7 +18,7 @@ use Rattle.dbm.specs.Size.{AtMost, Small}
 use Rattle.expr.specs.Limit.{Limit, none, sumW, tighterW, zeroW, saturated, atV}
 use Rattle.expr.specs.Three.{weightOf, limitOf}
 use Rattle.expr.specs.declared.weight.Weight.{Weight}
-use Rattle.sheet.specs.declared.Guard.{Guard}
+use Rattle.guards.specs.declared.Guard.{Guard}
 use Rattle.walk.specs.Tables.{zeroWeight, voidTable, rowOf, entryOf, sumC, tighterC, limitedEntry, limitedRow, limitedLine}
 use Rattle.walk.specs.Tables.{limitedTable, guardedTable, delayedRow, delayedTable, resetEntry, resetRow, resetLine, resetTable}
 use Rattle.walk.specs.Tables.{resetIf, resetsTable, guardTable, guardsTable}

@@ -8,9 +8,9 @@ use lib.IntN.{ℤ}
 use Rattle.dbm.specs.Matrix.{Matrix, start, Outcome, void, kept}
 use Rattle.expr.specs.Limit.{Limit, atV, zeroW}
 use Rattle.expr.specs.Three.{weightOf, limitOf}
-use Rattle.sheet.specs.declared.Guard.{Guard}
+use Rattle.guards.specs.declared.Guard.{Guard}
 use Rattle.sheet.specs.declared.Sheet.{Sheet}
-use Rattle.sheet.specs.declared.Transition.{Transition}
+use Rattle.automaton.specs.declared.Transition.{Transition}
 use Rattle.sheet.specs.WellFormed.{WellFormed}
 use Rattle.timed.specs.Automaton.{invariants, guardsOf, transitionAt, routeOf}
 use Rattle.timed.specs.Indexed.{locationC, transitionC, location-in, transition-in}

@@ -8,10 +8,10 @@ use lib.ListN.{getD, set, take}
 use Rattle.expr.specs.Limit.{sumW, tighterW, saturated, atV}
 use Rattle.expr.specs.Three.{weighed, weightOf, limitOf}
 use Rattle.expr.specs.declared.weight.Weight.{Weight}
-use Rattle.sheet.specs.declared.Guard.{Guard}
-use Rattle.sheet.specs.declared.Location.{Location}
+use Rattle.guards.specs.declared.Guard.{Guard}
+use Rattle.automaton.specs.declared.Location.{Location}
 use Rattle.sheet.specs.declared.Sheet.{Sheet}
-use Rattle.sheet.specs.declared.Transition.{Transition}
+use Rattle.automaton.specs.declared.Transition.{Transition}
 use Rattle.timed.specs.Indexed.{locationC, transitionC}
 
 abbrev pub Table : Type 0

@@ -1,11 +1,11 @@
 // The walk along a sheet's route at one valuation.
 use crate::matrix;
+use automaton::Location;
+use automaton::Transition;
 use expr::Valuation;
 use expr::Weight;
-use sheet::Guard;
-use sheet::Location;
+use guards::Guard;
 use sheet::Sheet;
-use sheet::Transition;
 ghost use mathlib.Core.Path.{_≡_};
 ghost use Prim.Native.Nat.{min};
 ghost use lib.ListN.{take};

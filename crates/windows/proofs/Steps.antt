@@ -19,10 +19,10 @@ use Rattle.search.specs.SearchLaws.{widths}
 use Rattle.expr.specs.Three.{affine, rangeList}
 use Rattle.search.specs.Valuations.{count}
 use Rattle.expr.specs.declared.range.Ranges.{Ranges}
-use Rattle.sheet.specs.declared.Reading.{Reading}
+use Rattle.reading.specs.declared.Reading.{Reading}
 use Rattle.sheet.specs.declared.Sheet.{Sheet}
-use Rattle.sheet.specs.Accepted.{Fine, reading-well-formed}
-use Rattle.sheet.specs.File.{Read, readAs, readOf}
+use Rattle.reading.specs.Accepted.{Fine, reading-well-formed}
+use Rattle.reading.specs.File.{Read, readAs, readOf}
 use Rattle.sheet.specs.WellFormed.{WellFormed}
 use Rattle.windows.specs.Coded.{count-few}
 use Rattle.windows.specs.Reply.{sheetReply, readReply, replyOf}

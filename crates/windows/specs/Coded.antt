@@ -23,7 +23,8 @@ use Rattle.expr.specs.declared.range.Ranges.{Ranges}
 use Rattle.integer.specs.Parts.{p, n, ≤-in}
 use Rattle.integer.specs.Split.{split, split-all}
 use Rattle.sheet.specs.declared.Sheet.{Sheet}
-use Rattle.sheet.specs.WellFormed.{WellFormed, RangeRight}
+use Rattle.sheet.specs.WellFormed.{WellFormed}
+use Rattle.parameters.specs.Right.{RangeRight}
 use Rattle.answers.specs.Numbers.{numbered, windowsAs, countsOf, noCounts}
 use Rattle.windows.specs.Reply.{listingReply, sheetReply}
 use Rattle.windows.specs.Work.{Shown, shownOf, refusedBy, listedC}

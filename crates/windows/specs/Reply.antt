@@ -13,7 +13,7 @@ use Rattle.coded.specs.Coded.{zoneOf}
 use Rattle.cutting.specs.Cutting.{Zone, Listing, listed, refused, zonesOf}
 use Rattle.cutting.specs.Kept.{keptOf, cutOf}
 use Rattle.expr.specs.Three.{rangeList}
-use Rattle.sheet.specs.File.{Read, readOf}
+use Rattle.reading.specs.File.{Read, readOf}
 use Rattle.sheet.specs.declared.Sheet.{Sheet}
 use Rattle.windows.specs.declared.table.Piece.{Piece}
 use Rattle.zones.specs.Zone.{zeroBound, zeroExpr}

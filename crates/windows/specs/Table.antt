@@ -14,7 +14,7 @@ use Rattle.cutting.specs.Cutting as cutting
 use Rattle.answers.specs.Numbers.{numbered}
 use Rattle.cutting.specs.Shape.{zones-shaped}
 use Rattle.sheet.specs.declared.Sheet.{Sheet}
-use Rattle.sheet.specs.File.{readOf}
+use Rattle.reading.specs.File.{readOf}
 use Rattle.windows.specs.Reply.{WindowsReply, answeredOf, answeredAs, refusedReply, listingReply, sheetReply, readReply, replyOf}
 use Rattle.windows.specs.Reply.{pieceIn, pieceOf, blankPiece, tableOf}
 use Rattle.windows.specs.Work.{Shown, shown, shownOf}

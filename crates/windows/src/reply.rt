@@ -101,7 +101,7 @@ pub(crate) fn work_for(file: &[u8], places: usize) -> Worked
     if places < 32 {
         return blank(Answer::Small);
     }
-    let reading = sheet::read(file);
+    let reading = reading::read(file);
     let checked = reading.checked;
     let s = reading.sheet;
     match checked {

@@ -13,7 +13,7 @@ use Rattle.contents.specs.declared.Refusal.{Refusal}
 use Rattle.contents.specs.declared.Refusal.the-variants.{Nothing, Size, Contents, Body, Route}
 use Rattle.contents.specs.Refusals.{numberOf}
 use Rattle.sheet.specs.declared.Sheet.{Sheet}
-use Rattle.sheet.specs.File.{readOf}
+use Rattle.reading.specs.File.{readOf}
 use Rattle.zones.specs.Zone.{pick}
 use Rattle.windows.specs.Reply.{answerNumber, blankWork, listingWork, sheetWork, readingWork, workOf}
 use Rattle.windows.specs.declared.reply.Answer.{Answer}

@@ -2,10 +2,10 @@
 use expr::Bound;
 use expr::Expr;
 use expr::Ranges;
-use sheet::Guard;
-use sheet::Location;
+use guards::Guard;
+use automaton::Location;
 use sheet::Sheet;
-use sheet::Transition;
+use automaton::Transition;
 use zones::Zone;
 use zones::Zones;
 ghost use mathlib.Core.Path.{_≡_};

@@ -1,5 +1,5 @@
 -- `body` meets its contract: code and definition are one composition. Assumes nothing.
-use Rattle.contents.specs.Contents.{bodyOf}
+use Rattle.contents.specs.Contents.{bodyOf, hasBody}
 use borrow.Author.Needs.{needs}
 use Rattle.contents.proofs.body.Statement.{statement}
 use Rattle.contents.proofs.body.Tie as tie
@@ -20,7 +20,7 @@ part-requires : tie.Need-part-requires
 part-requires c κs = search needs
 
 returns : tie.Need-returns
-unfolding bodyOf
+unfolding bodyOf hasBody
 returns c = cc
 
 pub body-spec : {M : Type 1} → statement M

@@ -10,15 +10,12 @@ take-word-requires c κs = search needs
 shifted-requires : tie.Need-shifted-requires
 shifted-requires c κs = search needs
 
-went-word-requires : tie.Need-went-word-requires
-went-word-requires c κs = search needs
-
 returns : tie.Need-returns
 unfolding signedTaken
 returns c =
-    let ok = c .before .before .before .take-word .ensures in
-    let h = rw ok at (c .before .before .if1 .taken) in
-    simp (c .went-word .ensures, c .before .shifted .ensures, ok, h)
+    let ok = c .before .before .take-word .ensures in
+    let h = rw ok at (c .before .if1 .taken) in
+    simp (c .shifted .ensures, ok, h)
 
 returns-2 : tie.Need-returns-2
 unfolding signedTaken
@@ -27,5 +24,4 @@ returns-2 c =
     simp (c .before .take-word .ensures, h)
 
 pub take-signed-spec : {M : Type 1} → statement M
-take-signed-spec =
-    tie.close (tie.spec take-word-requires shifted-requires went-word-requires returns returns-2)
+take-signed-spec = tie.close (tie.spec take-word-requires shifted-requires returns returns-2)

@@ -5,11 +5,11 @@ use borrow.Author.Needs.{needs}
 use Rattle.cursor.proofs.take_word.Statement.{statement}
 use Rattle.cursor.proofs.take_word.Tie as tie
 
-left-requires : tie.Need-left-requires
-left-requires c κs = search needs
+less-requires : tie.Need-less-requires
+less-requires c κs = search needs
 
-add-went-word : tie.Need-add-went-word
-add-went-word c = search needs
+add-t10 : tie.Need-add-t10
+add-t10 c = search needs
 
 byte-at-requires : tie.Need-byte-at-requires
 byte-at-requires c κs = search needs
@@ -23,29 +23,25 @@ byte-at-requires-2 c κs = search needs
 word-of-requires : tie.Need-word-of-requires
 word-of-requires c κs = search needs
 
-went-word-requires : tie.Need-went-word-requires
-went-word-requires c κs = search needs
-
 stop-requires : tie.Need-stop-requires
 stop-requires c κs = search needs
 
 returns : tie.Need-returns
 unfolding wordTaken
 returns c =
-    let h = rw (c .before .before .before .before .before .left .ensures) at (c .before .before .before .before .if2 .taken) in
+    let h = rw (c .before .before .before .before .less .ensures) at (c .before .before .before .if2 .taken) in
     simp (
-      c .went-word .ensures,
-      c .before .word-of .ensures,
-      c .before .before .byte-at2 .ensures,
-      c .before .before .before .byte-at .ensures,
-      c .before .before .before .before .before .before .if1 .taken,
+      c .word-of .ensures,
+      c .before .byte-at2 .ensures,
+      c .before .before .byte-at .ensures,
+      c .before .before .before .before .before .if1 .taken,
       le-leb _ _ h,
     )
 
 returns-2 : tie.Need-returns-2
 unfolding wordTaken
 returns-2 c =
-    let h = rw (c .before .before .left .ensures) at (c .before .if2 .left) in
+    let h = rw (c .before .before .less .ensures) at (c .before .if2 .left) in
     simp (c .stop .ensures, c .before .before .before .if1 .taken, lt-leb _ _ h)
 
 returns-3 : tie.Need-returns-3
@@ -56,13 +52,12 @@ pub take-word-spec : {M : Type 1} → statement M
 take-word-spec =
     tie.close
     (tie.spec
-    left-requires
-    add-went-word
+    less-requires
+    add-t10
     byte-at-requires
     add-byte-at
     byte-at-requires-2
     word-of-requires
-    went-word-requires
     stop-requires
     returns
     returns-2

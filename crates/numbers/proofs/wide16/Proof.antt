@@ -8,14 +8,14 @@ use Rattle.numbers.proofs.wide16.Tie as tie
 
 cast-result : tie.Need-cast-result
 cast-result c =
-    let f = c .fits .x in
-    let g : SFits w64 (c .args .x) = sfits-widen tt f in
+    let f = c .fits .short in
+    let g : SFits w64 (c .args .short) = sfits-widen tt f in
     simp toZ-ofZ g
 
 returns : tie.Need-returns
 returns c =
-    let f = c .fits .x in
-    let g : SFits w64 (c .args .x) = sfits-widen tt f in
+    let f = c .fits .short in
+    let g : SFits w64 (c .args .short) = sfits-widen tt f in
     simp toZ-ofZ
 
 pub wide16-spec : {M : Type 1} → statement M

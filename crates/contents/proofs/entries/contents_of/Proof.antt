@@ -5,9 +5,6 @@ use borrow.Author.Needs.{needs}
 use Rattle.contents.proofs.entries.contents_of.Statement.{statement}
 use Rattle.contents.proofs.entries.contents_of.Tie as tie
 
-went-requires : tie.Need-went-requires
-went-requires c κs = search needs
-
 byte-field-requires : tie.Need-byte-field-requires
 byte-field-requires c κs = search needs
 
@@ -47,11 +44,11 @@ cast-third c = search needs
 add-third : tie.Need-add-third
 add-third c = omega (arith, c .struct-known3 .given, c .before .before .struct-known2 .given, c .before .before .before .before .struct-known .given)
 
-cast-left : tie.Need-cast-left
-cast-left c = omega (arith, c .struct-known3 .given, c .before .before .struct-known2 .given, c .before .before .before .before .struct-known .given)
+cast-less : tie.Need-cast-less
+cast-less c = omega (arith, c .struct-known3 .given, c .before .before .struct-known2 .given, c .before .before .before .before .struct-known .given)
 
-left-requires : tie.Need-left-requires
-left-requires c κs = search needs
+less-requires : tie.Need-less-requires
+less-requires c κs = search needs
 
 cast-entry-field-3 : tie.Need-cast-entry-field-3
 cast-entry-field-3 c = omega (arith, c .before .struct-known3 .given, c .before .before .before .struct-known2 .given, c .before .before .before .before .before .struct-known .given)
@@ -67,20 +64,18 @@ returns c =
     let one = two .before .before in
     simp (
       c .entry-field4 .ensures,
-      c .before .left .ensures,
+      c .before .less .ensures,
       three .entry-field3 .ensures,
       two .entry-field2 .ensures,
       one .entry-field .ensures,
       one .before .byte-field2 .ensures,
       one .before .before .byte-field .ensures,
-      one .before .before .before .went .ensures,
     )
 
 pub contents-of-spec : {M : Type 1} → statement M
 contents-of-spec =
     tie.close
     (tie.spec
-    went-requires
     byte-field-requires
     byte-field-requires-2
     entry-field-requires
@@ -94,8 +89,8 @@ contents-of-spec =
     entry-field-requires-3
     cast-third
     add-third
-    cast-left
-    left-requires
+    cast-less
+    less-requires
     cast-entry-field-3
     entry-field-requires-4
     returns)

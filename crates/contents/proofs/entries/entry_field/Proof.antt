@@ -10,8 +10,8 @@ byte-field-requires c κs = search needs
 word-field-requires : tie.Need-word-field-requires
 word-field-requires c κs = search needs
 
-left-requires : tie.Need-left-requires
-left-requires c κs = search needs
+less-requires : tie.Need-less-requires
+less-requires c κs = search needs
 
 word-field-requires-2 : tie.Need-word-field-requires-2
 word-field-requires-2 c κs = search needs
@@ -23,4 +23,4 @@ returns c = cc
 pub entry-field-spec : {M : Type 1} → statement M
 entry-field-spec =
     tie.close
-    (tie.spec byte-field-requires word-field-requires left-requires word-field-requires-2 returns)
+    (tie.spec byte-field-requires word-field-requires less-requires word-field-requires-2 returns)

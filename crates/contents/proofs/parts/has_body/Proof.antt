@@ -1,11 +1,7 @@
--- `parts::has_body` meets its contract: code and definition are one composition. Assumes nothing.
-use Rattle.contents.specs.Contents.{hasBody}
+-- `parts::has_body` meets its contract: the tests on the way pick its case. Assumes nothing.
 use borrow.Author.Needs.{needs}
 use Rattle.contents.proofs.parts.has_body.Statement.{statement}
 use Rattle.contents.proofs.parts.has_body.Tie as tie
-
-contents-of-requires : tie.Need-contents-of-requires
-contents-of-requires c κs = search needs
 
 sized-requires : tie.Need-sized-requires
 sized-requires c κs = search needs
@@ -13,23 +9,20 @@ sized-requires c κs = search needs
 is-kind-requires : tie.Need-is-kind-requires
 is-kind-requires c κs = search needs
 
-both-requires : tie.Need-both-requires
-both-requires c κs = search needs
-
-both-requires-2 : tie.Need-both-requires-2
-both-requires-2 c κs = search needs
-
 returns : tie.Need-returns
-unfolding hasBody
-returns c = cc
+returns c =
+    let z = rw (c .before .before .before .sized .ensures) at (c .before .before .if1 .taken) in
+    simp (z, c .before .if2 .taken, c .is-kind .ensures)
+
+returns-2 : tie.Need-returns-2
+returns-2 c =
+    let z = rw (c .before .before .sized .ensures) at (c .before .if1 .taken) in
+    simp (z, c .if2 .left)
+
+returns-3 : tie.Need-returns-3
+returns-3 c =
+    let z = rw (c .before .sized .ensures) at (c .if1 .left) in
+    simp (z, c .if1 .left)
 
 pub has-body-spec : {M : Type 1} → statement M
-has-body-spec =
-    tie.close
-    (tie.spec
-    contents-of-requires
-    sized-requires
-    is-kind-requires
-    both-requires
-    both-requires-2
-    returns)
+has-body-spec = tie.close (tie.spec sized-requires is-kind-requires returns returns-2 returns-3)

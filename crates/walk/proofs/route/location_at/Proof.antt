@@ -1,6 +1,6 @@
 -- The index is below 16.
 use Prim.Native.Nat.{ℕ, _<_}
-use Rattle.sheet.specs.WellFormed.{noLocation}
+use Rattle.automaton.specs.Automaton.{noLocation}
 use Rattle.timed.specs.Indexed.{locationC, at-fits}
 use borrow.Author.Needs.{needs}
 use lib.Dec.{lit<}

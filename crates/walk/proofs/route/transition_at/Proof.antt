@@ -1,6 +1,6 @@
 -- The index is below 32.
 use Prim.Native.Nat.{ℕ, _<_}
-use Rattle.sheet.specs.Route.{noTransition}
+use Rattle.automaton.specs.Automaton.{noTransition}
 use Rattle.timed.specs.Indexed.{transitionC, at-fits}
 use borrow.Author.Needs.{needs}
 use lib.Dec.{lit<}

@@ -5,7 +5,7 @@ use Rattle.windows_route.proofs.route.location_at.Tie as tie
 use Prim.Native.Nat.{ℕ, _<_}
 use lib.Dec.{lit<}
 use lib.ListN.{getD}
-use Rattle.sheet.specs.WellFormed.{noLocation}
+use Rattle.automaton.specs.Automaton.{noLocation}
 use Rattle.timed.specs.Indexed.{locationC, at-fits}
 use mathlib.Core.Path.{ap, subst, sym}
 use native.Mathlib.Omega.{arith}

@@ -5,7 +5,7 @@ use Rattle.windows_route.proofs.route.transition_at.Tie as tie
 use Prim.Native.Nat.{ℕ, _<_}
 use lib.Dec.{lit<}
 use lib.ListN.{getD}
-use Rattle.sheet.specs.Route.{noTransition}
+use Rattle.automaton.specs.Automaton.{noTransition}
 use Rattle.timed.specs.Indexed.{transitionC, at-fits}
 use mathlib.Core.Path.{ap, subst, sym}
 use native.Mathlib.Omega.{arith}

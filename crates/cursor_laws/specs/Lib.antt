@@ -1,0 +1,5 @@
+pub mod Right
+pub mod Laws
+pub mod Numbers
+pub mod Signed
+pub mod FilledLaws

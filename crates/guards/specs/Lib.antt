@@ -1,0 +1,3 @@
+pub mod Guards
+pub mod Right
+pub mod GuardLaws

@@ -1,0 +1,3 @@
+pub mod Parameters
+pub mod Right
+pub mod ParameterLaws
