@@ -137,7 +137,7 @@ read-numbered s =
     let bodies = bodiesOf s contents in
     let link = linksOf (bodies .sheet .transition) (bodies .sheet .route) (bodies .sheet .moves) in
     met-cases (sized s) _ 2 0 (inl refl)
-    (met-cases (contents .spot .ok) _ 3 (contents .spot .at) (inr (inl refl))
-    (met-cases (bodies .spot .ok) _ 4 (bodies .spot .at) (inr (inr (inl refl)))
+    (met-cases (contents .cursor .ok) _ 3 (contents .cursor .at) (inr (inl refl))
+    (met-cases (bodies .cursor .ok) _ 4 (bodies .cursor .at) (inr (inr (inl refl)))
     (met-cases (link .ok) (record { answer = numbered 0 0; sheet = bodies .sheet }) 5 (contents .third + 1 + link .index) (inr (inr (inr refl)))
     (inl refl))))
