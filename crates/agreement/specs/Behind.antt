@@ -22,7 +22,7 @@ use Rattle.expr.specs.Three.{rangeList}
 use Rattle.reading.specs.Accepted.{Fine}
 use Rattle.reading.specs.File.{readOf}
 use Rattle.sheet.specs.declared.Sheet.{Sheet}
-use Rattle.sweep.specs.Reply.{blankReply, swept, outside, orOutside, sheetReply, readReply, replyOf}
+use Rattle.sweep.specs.Reply.{SweepReply, blankReply, swept, outside, orOutside, sheetReply, readReply, replyOf}
 use Rattle.sweep.specs.ReplyLaws.{outside-none}
 use Rattle.sweep.specs.Theorems.{sheetOf, numberAt}
 use Rattle.windows.specs.Reply as windows
@@ -72,13 +72,21 @@ lists-behind file n lists = by (ltb n 32) (eqb (readOf file .answer .number) 0) 
     by false false h k g = absurd (eqb-false _ 0 k g)
 
 -- ---- refusal 6 and the ranges
+six-reply : (file : List ℕ) (v : List ℤ) (k : ℕ) → Fine (readOf file) → outside 0 (rangeList (sheetOf file .ranges)) v ≡ some k
+    → replyOf file v ≡ blankReply (numbered 6 k)
+unfolding replyOf readReply sheetReply
+six-reply file v k f e = rw (f, e) refl
+
+six-number : (k : ℕ) → blankReply (numbered 6 k) .answer .number ≡ 6
+unfolding blankReply
+six-number k = refl
+
 pub six-outside : (file : List ℕ) (v : List ℤ) → Fine (readOf file) → InRange file v → Inside v (rangeList (sheetOf file .ranges))
-unfolding replyOf readReply sheetReply blankReply
 six-outside file v f i = by (outside 0 (rangeList (sheetOf file .ranges)) v) refl
   where
     by : (o : Option ℕ) → outside 0 (rangeList (sheetOf file .ranges)) v ≡ o → Inside v (rangeList (sheetOf file .ranges))
     by none e = outside-none 0 (rangeList (sheetOf file .ranges)) v e
-    by (some k) e = absurd (i (rw (f, e) refl))
+    by (some k) e = absurd (i (ap (λ (r : SweepReply). r .answer .number) (six-reply file v k f e) ∙ six-number k))
 
 -- ---- places of the table
 -- the zone that is read past the cutting's list
