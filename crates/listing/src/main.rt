@@ -5,8 +5,8 @@ mod text;
 mod zone;
 
 use libc::STDIN_FILENO;
-use windows::Answer;
-use windows::Counts;
+use answers::windows::Answer;
+use answers::windows::Counts;
 use windows::Piece;
 
 // The line of the counts. It answers whether all was written, as each function below does.
@@ -37,9 +37,9 @@ fn print_zones(table: [Piece; 40], pieces: usize, clocks: usize) -> bool {
 // The line of a refusal.
 fn print_refusal(answer: Answer) -> bool {
     text::word(b"refused")
-        && text::number(windows::number(answer))
+        && text::number(answers::windows::number(answer))
         && text::word(b" place")
-        && text::number(windows::place(answer))
+        && text::number(answers::windows::place(answer))
         && text::word(b"\n")
 }
 

@@ -2,10 +2,18 @@
 use mathlib.Core.List.{List, _++_}
 use Prim.Native.Nat.{ℕ}
 use lib.ListN.{drop}
-use Rattle.windows.specs.Reply.{workOf, tableOf}
+use Rattle.windows.specs.Reply.{Answered, answeredAs, answeredOf, replyOf, tableOf}
 use Rattle.windows.specs.declared.table.Piece.{Piece}
 use Rattle.tabled.specs.declared.Reply.{Reply}
 
+pub record Tabled : Type 0 where
+  pub answered : Answered
+  pub table : List Piece
+
+-- the code's record of it
+abbrev pub tabledAs : Reply → Tabled
+tabledAs r = record { answered = answeredAs (r .answer); table = r .table }
+
 -- the other places are as they were
-unfoldable pub windowsOn : List ℕ → List Piece → ℕ → Reply
-windowsOn file table n = record { answer = workOf file n .answer; table = tableOf (workOf file n) n ++ drop n table }
+unfoldable pub windowsOn : List ℕ → List Piece → ℕ → Tabled
+windowsOn file table n = record { answered = answeredOf (replyOf file n); table = tableOf (replyOf file n) n ++ drop n table }

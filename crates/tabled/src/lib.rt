@@ -1,9 +1,9 @@
 // Windows on a table by value, for programs: they have no table to lend of their own.
-use windows::Answer;
+use answers::windows::Answer;
 use windows::Piece;
 ghost use mathlib.Core.Path.{_≡_};
 ghost use Prim.Native.Nat.{_≤_, min};
-ghost use Rattle.tabled.specs.On.{windowsOn};
+ghost use Rattle.tabled.specs.On.{tabledAs, windowsOn};
 
 // What Windows answers, and the table after it.
 pub struct Reply {
@@ -14,7 +14,7 @@ pub struct Reply {
 // What Windows answers to a sheet file on the first n places of the table, and the whole table then: the other places are as they were.
 fn on_first(file: &[u8], table: [Piece; 40], n: usize) -> Reply
     requires { ⌜ n ≤ 40 ⌝ }
-    ensures { λ r. ⌜ r ≡ windowsOn (now (file .entry)) table n ⌝ }
+    ensures { λ r. ⌜ tabledAs r ≡ windowsOn (now (file .entry)) table n ⌝ }
 {
     let mut places = table;
     let answer = windows::windows(file, &mut places[..n]);
@@ -24,19 +24,9 @@ fn on_first(file: &[u8], table: [Piece; 40], n: usize) -> Reply
     }
 }
 
-// n, or most where n is more.
-fn at_most(n: usize, most: usize) -> usize
-    ensures { λ r. ⌜ r ≡ min n most ⌝ }
-{
-    if n < most {
-        return n;
-    }
-    most
-}
-
 // The same for every n: of more than 40 it is the whole table.
 pub fn windows(file: &[u8], table: [Piece; 40], n: usize) -> Reply
-    ensures { λ r. ⌜ r ≡ windowsOn (now (file .entry)) table (min n 40) ⌝ }
+    ensures { λ r. ⌜ tabledAs r ≡ windowsOn (now (file .entry)) table (min n 40) ⌝ }
 {
-    on_first(file, table, at_most(n, 40))
+    on_first(file, table, numbers::at_most(n, 40))
 }

@@ -7,8 +7,8 @@ mod digest;
 use expr::Bound;
 use expr::Expr;
 use libc::STDOUT_FILENO;
-use windows::Answer;
-use windows::Counts;
+use answers::windows::Answer;
+use answers::windows::Counts;
 use windows::Piece;
 ghost use Prim.Native.Nat.{_<_, _≤_};
 
@@ -65,9 +65,9 @@ fn counts_of(answer: Answer) -> Counts {
 
 // Writes what Windows answers.
 fn print_answer(answer: Answer) {
-    print_next_number(windows::number(answer));
+    print_next_number(answers::windows::number(answer));
     io::write_all(STDOUT_FILENO, b"/");
-    print_number(windows::place(answer));
+    print_number(answers::windows::place(answer));
     let counts = counts_of(answer);
     print_next_number(counts.pieces);
     print_next_number(counts.kept);

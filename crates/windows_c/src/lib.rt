@@ -1,11 +1,12 @@
 // How many pieces Windows lists, for the benchmark, which calls it from outside.
-use windows::Answer;
+use answers::windows::Answer;
 use windows::Piece;
 ghost use mathlib.Core.Path.{_≡_};
 ghost use lib.IntN.{pos, negℤ};
 ghost use Prim.Native.Nat.{_≤_};
-ghost use Rattle.windows.specs.Reply.{workOf};
-ghost use Rattle.windows_c.specs.Count.{piecesOf, countOf};
+ghost use Rattle.answers.specs.Numbers.{countsOf};
+ghost use Rattle.windows.specs.Reply.{answeredAs, answeredOf, replyOf};
+ghost use Rattle.windows_c.specs.Count.{countOf};
 
 // x as a signed number.
 fn signed(x: usize) -> i64
@@ -25,7 +26,7 @@ fn minus(x: usize) -> i64
 
 // How many pieces are listed; none with a refusal.
 fn pieces(answer: Answer) -> usize
-    ensures { λ r. ⌜ r ≡ piecesOf answer ⌝ }
+    ensures { λ r. ⌜ r ≡ countsOf answer .pieces ⌝ }
 {
     match answer {
         Answer::Listed(counts) => counts.pieces,
@@ -39,10 +40,10 @@ fn pieces(answer: Answer) -> usize
 
 // The number of pieces, or minus the refusal's number.
 fn count(answer: Answer) -> i64
-    requires { ⌜ piecesOf answer ≤ 32 ⌝ }
-    ensures { λ r. ⌜ r ≡ countOf answer ⌝ }
+    requires { ⌜ countsOf answer .pieces ≤ 32 ⌝ }
+    ensures { λ r. ⌜ r ≡ countOf (answeredAs answer) ⌝ }
 {
-    let number = windows::number(answer);
+    let number = answers::windows::number(answer);
     if number == 0 {
         return signed(pieces(answer));
     }
@@ -52,7 +53,7 @@ fn count(answer: Answer) -> i64
 // The number of pieces that Windows lists of a sheet file in a table of 32 places, or minus the number of the refusal.
 #[no_mangle]
 pub extern "C" fn windows_count(file: &[u8]) -> i64
-    ensures { λ r. ⌜ r ≡ countOf (workOf (now (file .entry)) 32 .answer) ⌝ }
+    ensures { λ r. ⌜ r ≡ countOf (answeredOf (replyOf (now (file .entry)) 32)) ⌝ }
 {
     let reply = tabled::windows(file, [Piece::BLANK; 40], 32);
     let answer = reply.answer;

@@ -1,5 +1,5 @@
 -- `tabled::on_first` meets its contract: a walk of its MIR, by hand. The table is copied into a local, which is an array in memory; its first n places are lent to `windows` for a lifetime that is made here, come back with the pieces, and are joined with the rest.
--- All that is known of `windows` is that it meets its contract: `workOf` and `tableOf` stay shut.
+-- All that is known of `windows` is that it meets its contract: `replyOf` and `tableOf` stay shut.
 -- Assumes nothing.
 use mathlib.Core.Path.{_≡_, refl, sym, _∙_, ap, subst}
 use mathlib.Core.List.{[], _∷_, _++_, List, map}
@@ -52,15 +52,15 @@ use denote.Exit.{yes}
 use Rattle.windows.specs.declared.table.Piece.{Piece}
 use Rattle.windows.proofs.table.Piece as Z
 use Rattle.windows.proofs.table.Piece.Laws as Z′
-use Rattle.windows.specs.Reply.{workOf, tableOf}
-use Rattle.windows.specs.declared.reply.Answer.{Answer}
-use Rattle.windows.proofs.reply.Answer as N
-use Rattle.windows.proofs.reply.Answer.Laws as N′
+use Rattle.windows.specs.Reply.{Answered, answeredAs, answeredOf, replyOf, tableOf}
+use Rattle.answers.specs.declared.windows.Answer.{Answer}
+use Rattle.answers.proofs.windows.Answer as N
+use Rattle.answers.proofs.windows.Answer.Laws as N′
 use Rattle.windows.proofs.windows as windows′
 use Rattle.windows.proofs.windows.Symbol as windows-def
 use Rattle.windows.proofs.windows.Symbol.{name as #windows}
 use Rattle.windows.proofs.windows.Met as windows-thm
-use Rattle.tabled.specs.On.{windowsOn}
+use Rattle.tabled.specs.On.{tabledAs, windowsOn}
 use Rattle.tabled.proofs.Places as places
 use Rattle.tabled.proofs.Reply as K
 use Rattle.tabled.proofs.Reply.Laws as K′
@@ -130,7 +130,7 @@ module _ {M : Type 1} (𝓤 : URA M) (H : Heap 𝓤) (A : Atoms 𝓤) (W : Given
   zs = drop n table
 
   abbrev items : List Piece
-  items = tableOf (workOf (f .now) n) n
+  items = tableOf (replyOf (f .now) n) n
 
   table-long : length table ≡ 40
   table-long = is-table .1 .0 .1
@@ -170,11 +170,11 @@ module _ {M : Type 1} (𝓤 : URA M) (H : Heap 𝓤) (A : Atoms 𝓤) (W : Given
   is-reply : (r : Answer) (l : List Piece) (v u : Val) → Is N.the-row r (v ∷ []) → Is (Array R 40) l (u ∷ []) → Is K.the-row (record { answer = r; table = l }) (vstruct (ofList (v ∷ u ∷ [])) ∷ [])
   is-reply r l v u is-r is-l = ((v ∷ [], (u ∷ [], tt)), (refl, (is-r, ((is-l .0, ((is-l .1 .0 .0, length-map l (Z.the-field .into) ∙ is-l .1 .0 .1), each-field l (is-l .0) (is-l .1 .1))), tt))))
 
-  same-reply : (r : Answer) → r ≡ workOf (f .now) n .answer → record { answer = r; table = items ++ zs } ≡ windowsOn (f .now) table n
+  same-reply : (r : Answer) → answeredAs r ≡ answeredOf (replyOf (f .now) n) → tabledAs (record { answer = r; table = items ++ zs }) ≡ windowsOn (f .now) table n
   unfolding windowsOn
-  same-reply r e = ap (λ (a : Answer). record { answer = a; table = items ++ zs }) e
+  same-reply r e = ap (λ (a : Answered). record { answered = a; table = items ++ zs }) e
 
-  exits : (r : Answer) (v u : Val) → r ≡ workOf (f .now) n .answer → Is N.the-row r (v ∷ []) → Is (Array R 40) (items ++ zs) (u ∷ [])
+  exits : (r : Answer) (v u : Val) → answeredAs r ≡ answeredOf (replyOf (f .now) n) → Is N.the-row r (v ∷ []) → Is (Array R 40) (items ++ zs) (u ∷ [])
       → ent 𝓤 (⋆ 𝓤 H A (‵ (flft κ q) ∷ [])) (Post (vstruct (ofList (v ∷ u ∷ []))))
   exits r v u e is-r is-l =
       qed W (‵ (flft κ q) ∷ []) ∵
@@ -208,12 +208,12 @@ module _ {M : Type 1} (𝓤 : URA M) (H : Heap 𝓤) (A : Atoms 𝓤) (W : Given
         calls-at ! fm (Windows 𝓤 H A at-mem run) known (to-windows (α ∷ []) l₄ γ) (and-then ! (load ! (from ! (stop !)) (look ! 16 refl)) (and-then ! (load ! (from ! (stop !)) (look ! 5 refl)) (no-more !))) (λ v.
         use1 W (later (some (λ (r : Answer). ((‵ (flft κ q) ⊛ (‵ (flft (α ∷ []) fullShare) ⊛ ‵ ftrue)) ⊛ ‵ (N.the-row .own r (v ∷ [])))
         ⊛ some (λ (ws : Ends (α ∷ []) l₄ γ). ‵ (lasts windows′.ended (κ, (α ∷ [], tt)) (f, (lent l₄ γ, tt)) ws)
-        ⊛ (raw (fact 𝓤 (r ≡ workOf (f .now) (length ys) .answer)) ⊛ raw (fact 𝓤 (ws .1 .0 ≡ tableOf (workOf (f .now) (length ys)) (length ys)))))))) (id⊢ 𝓤 _) $
+        ⊛ (raw (fact 𝓤 (answeredAs r ≡ answeredOf (replyOf (f .now) (length ys)))) ⊛ raw (fact 𝓤 (ws .1 .0 ≡ tableOf (replyOf (f .now) (length ys)) (length ys)))))))) (id⊢ 𝓤 _) $
         await ! tt $ pick ! (λ r. split ! $ move ! (1 ∷ []) $ pick ! (λ ws. split ! $ move ! (1 ∷ []) $ split ! $
-        heard ! (r ≡ workOf (f .now) (length ys) .answer) (λ is-answer. heard ! (ws .1 .0 ≡ tableOf (workOf (f .now) (length ys)) (length ys)) (λ same.
+        heard ! (answeredAs r ≡ answeredOf (replyOf (f .now) (length ys))) (λ is-answer. heard ! (ws .1 .0 ≡ tableOf (replyOf (f .now) (length ys)) (length ys)) (λ same.
         -- [what is said of the last list; the tokens and the answer; the lender's part; the other places; _8; …]
         fsplit ! $ forgo ! $ fsplit ! $ fsplit ! $
-        rewrite ! 0 (λ (l : List Piece). ‵ (finally R γ l)) (same ∙ ap (λ (m : ℕ). tableOf (workOf (f .now) m) m) lent-long) refl $
+        rewrite ! 0 (λ (l : List Piece). ‵ (finally R γ l)) (same ∙ ap (λ (m : ℕ). tableOf (replyOf (f .now) m) m) lent-long) refl $
         move ! (3 ∷ []) $ split ! $ split ! $ move ! (1 ∷ []) $ split ! $ lft-end ! tt $
         -- [the lifetime is over; true; the file's token; the answer; the last list; its length; true; the lender's part; the other places; _8; …]
         move ! (0 ∷ 7 ∷ 4 ∷ []) $ use3 W (later (‵ (Arr (mem R) (length ys) .lies items l₄ 0))) (slice-back 𝓤 H A W R (α ∷ []) γ items (length ys) l₄ 0) $ await ! tt $
@@ -232,7 +232,7 @@ module _ {M : Type 1} (𝓤 : URA M) (H : Heap 𝓤) (A : Atoms 𝓤) (W : Given
         returns ! (look ! 17 refl) $ forget ! 1 refl $ forget ! 2 refl $ forget ! 4 refl $ forget ! 6 refl $ forget ! 8 refl $ forget ! 11 refl $ forget ! 13 refl $ forget ! 15 refl $ forget ! 17 refl $
         move ! (17 ∷ 18 ∷ []) $ free1 ! $ move ! (15 ∷ 16 ∷ []) $ free1 ! $ move ! (13 ∷ 14 ∷ []) $ free1 ! $ move ! (11 ∷ 12 ∷ []) $ free1 ! $ move ! (1 ∷ 10 ∷ []) $ free1 ! $
         move ! (7 ∷ 8 ∷ []) $ free1 ! $ move ! (5 ∷ 6 ∷ []) $ free1 ! $ move ! (3 ∷ 4 ∷ []) $ free1 ! $ move ! (1 ∷ 2 ∷ []) $ free1 ! $ free0 ! $
-        by ! (exits r v u (is-answer ∙ ap (λ (m : ℕ). workOf (f .now) m .answer) lent-long) is-r is-all)))))))))))))))))))))
+        by ! (exits r v u (is-answer ∙ ap (λ (m : ℕ). answeredOf (replyOf (f .now) m)) lent-long) is-r is-all)))))))))))))))))))))
 
 module _ {M : Type 1} (𝓤 : URA M) (H : Heap 𝓤) (A : Atoms 𝓤) (W : Given 𝓤 H A) (at-mem : Memory → SProp 𝓤) (run : Routine → Fun 𝓤) where
   cut-walks : (C : Calls 𝓤 H) (Λ : Loops 𝓤 H) → FmC 𝓤 H (W .laws) C → Triple 𝓤 (C #windows) (Windows 𝓤 H A at-mem run)
