@@ -1,6 +1,6 @@
--- The timed automaton (paper 01, "The sheet file", Body 2 and Body 3): its clocks (paper: watches), its locations (paper: stages) with their
--- invariants (paper: standing limits), and its transitions (paper: moves). Each body is read from where the last ended up to its own end;
--- bytes left over there are wrong at the first of them (`finished`).
+-- The timed automaton (paper 01, "The sheet file", Body 2 and Body 3): its clocks (paper: watches), its locations (paper: stages) with
+-- their invariants (paper: standing limits), and its transitions (paper: moves). Each body is read from where the last ended up to its
+-- own end; bytes left over there are wrong at the first of them (`finished`).
 use Prim.Native.Nat.{ℕ, _^_}
 use mathlib.Core.List.{List, []}
 use mathlib.Core.Bool.{Bool, cond}
@@ -8,7 +8,6 @@ use lib.ListN.{set, replicate}
 use lib.Dec.{ltb}
 use Rattle.cursor.specs.declared.Cursor.{Cursor}
 use Rattle.cursor.specs.Cursor.{judged, byteField, belowField, finished, iterate}
-use Rattle.guards.specs.declared.GuardsAt.{GuardsAt}
 use Rattle.guards.specs.Guards.{blankGuards, guardsAt}
 use Rattle.automaton.specs.declared.Location.{Location}
 use Rattle.automaton.specs.declared.Transition.{Transition}

@@ -17,7 +17,9 @@ use Rattle.automaton.specs.declared.Location.{Location}
 use Rattle.automaton.specs.declared.Transition.{Transition}
 use Rattle.automaton.specs.declared.locations.LocationsAt.{LocationsAt}
 use Rattle.automaton.specs.declared.transitions.TransitionsAt.{TransitionsAt}
-use Rattle.automaton.specs.Automaton.{noLocation, blankLocation, blankLocations, locationStep, locationsRead, locationsAt, resetsRight, resetsField, transitionAt, noTransition, blankTransition, blankTransitions, transitionStep, transitionsRead, transitionsAt}
+use Rattle.automaton.specs.Automaton.{noLocation, blankLocation, blankLocations, locationStep, locationsRead, locationsAt}
+use Rattle.automaton.specs.Automaton.{resetsRight, resetsField, transitionAt, noTransition, blankTransition, blankTransitions}
+use Rattle.automaton.specs.Automaton.{transitionStep, transitionsRead, transitionsAt}
 use Rattle.automaton.specs.Right.{LocationRight, TransitionRight}
 
 module _ (s : List ℕ) (end : ℕ) where

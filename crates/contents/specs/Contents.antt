@@ -1,4 +1,5 @@
--- The contents of a sheet file, and the bodies' parts (paper 01, "The sheet file", first item, and rows 2 and 3 of "When no piece is given").
+-- The contents of a sheet file, and the bodies' parts (paper 01, "The sheet file", first item, and rows 2 and 3 of "When no piece is
+-- given").
 use Prim.Native.Nat.{ℕ, _+_, _-_}
 use mathlib.Core.List.{List, []}
 use mathlib.Core.Bool.{Bool, cond, _&&_}

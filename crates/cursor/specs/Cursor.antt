@@ -1,7 +1,8 @@
 -- Reading a file field by field (paper 01, "The sheet file", and row 4 of "When no piece is given").
 --
--- A `Cursor` says where reading stands. While it is ok, `at` is the next byte and `byte` or `word` the field read last. Once a field is wrong
--- it is stopped: `at` is then the place of the refusal, and every later step leaves it so. So the first wrong field in file order decides.
+-- A `Cursor` says where reading stands. While it is ok, `at` is the next byte and `byte` or `word` the field read last. Once a field is
+-- wrong it is stopped: `at` is then the place of the refusal, and every later step leaves it so. So the first wrong field in file order
+-- decides.
 use Prim.Native.Nat.{ℕ, zero, suc, _+_, _-_, _*_, _%_}
 use mathlib.Core.List.{List}
 use mathlib.Core.Bool.{Bool, true, false, cond, _&&_}

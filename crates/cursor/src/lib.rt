@@ -1,6 +1,6 @@
-// The fields of a file (paper 01, "The sheet file"), read by a cursor that stops at the first wrong one. Each function takes where reading
-// stands and returns where it stands then; a stopped cursor passes through. Every function is total, and its contract is an equation with a
-// definition of specs/Cursor.
+// The fields of a file (paper 01, "The sheet file"), read by a cursor that stops at the first wrong one. Each function takes where
+// reading stands and returns where it stands then; a stopped cursor passes through. Every function is total, and its contract is an
+// equation with a definition of specs/Cursor.
 ghost use mathlib.Core.Path.{_≡_};
 ghost use Prim.Native.Nat.{_+_, _*_};
 ghost use lib.ListN.{getD};

@@ -30,7 +30,9 @@ module _ {A B : Type 0} (n count : ℕ) (d blank : B) (R : B → Type 0) (ok : A
     pub each : ok x ≡ true → (k : ℕ) → k < i → k < count → R (getD (list x) k d)
     pub past : (k : ℕ) → count ≤ k → k < n → getD (list x) k d ≡ blank
 
-  stored : (l : List B) (i k : ℕ) (e : B) (b : Bool) → eqb k i ≡ b → i < length l → k < suc i → R e → (k < i → R (getD l k d)) → R (getD (set l i e) k d)
+  stored :
+      (l : List B) (i k : ℕ) (e : B) (b : Bool) → eqb k i ≡ b → i < length l → k < suc i → R e → (k < i → R (getD l k d)) →
+      R (getD (set l i e) k d)
   stored l i k e true q il ki re rest =
       let q′ = eqb-true k i q in
       rw (q′, getD-set-same l i e d il) re

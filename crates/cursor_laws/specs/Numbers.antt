@@ -70,10 +70,13 @@ pos-most x (suc y) m h = sub-most x (suc y) m h
 
 width-cases :
     (b c : Bool) (l h : ℕ) → ltb l 32768 ≡ b → ltb h 32768 ≡ c → l ≤ h → h - l ≤ 63 → (signed c h -ℤ signed b l) ≤ℤ pos 63
-width-cases true true l h e f le w = sub-most (suc (32768 - suc l)) (suc (32768 - suc h)) 63 (omega (arith, ltb-true l 32768 e, ltb-true h 32768 f))
-width-cases true false l h e f le w = record { le = le→leb (h - 32768 + suc (32768 - suc l)) 63 (omega (arith, ltb-true l 32768 e, ltb-false h 32768 f)) }
+width-cases true true l h e f le w =
+    sub-most (suc (32768 - suc l)) (suc (32768 - suc h)) 63 (omega (arith, ltb-true l 32768 e, ltb-true h 32768 f))
+width-cases true false l h e f le w =
+    record { le = le→leb (h - 32768 + suc (32768 - suc l)) 63 (omega (arith, ltb-true l 32768 e, ltb-false h 32768 f)) }
 width-cases false true l h e f le w = absurd (omega (arith, ltb-false l 32768 e, ltb-true h 32768 f))
-width-cases false false l h e f le w = pos-most (h - 32768) (l - 32768) 63 (omega (arith, ltb-false l 32768 e, ltb-false h 32768 f))
+width-cases false false l h e f le w =
+    pos-most (h - 32768) (l - 32768) 63 (omega (arith, ltb-false l 32768 e, ltb-false h 32768 f))
 
 pub number-width : (l h : ℕ) → l ≤ h → h - l ≤ 63 → (signedOf h -ℤ signedOf l) ≤ℤ pos 63
 unfolding signedOf

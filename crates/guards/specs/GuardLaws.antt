@@ -13,7 +13,8 @@ use Rattle.cursor.specs.Cursor.{byteField, signedField}
 use Rattle.cursor_laws.specs.Laws.{no, judged-right, byteField-right, signedField-right}
 use Rattle.guards.specs.declared.Guard.{Guard}
 use Rattle.guards.specs.declared.GuardsAt.{GuardsAt}
-use Rattle.guards.specs.Guards.{exprOf, boundOf, oneZero, rightField, coefficientField, guardAt, noGuard, blankGuard, blankGuards, guardStep, guardsAt}
+use Rattle.guards.specs.Guards.{exprOf, boundOf, oneZero, rightField, coefficientField, guardAt, noGuard, blankGuard, blankGuards}
+use Rattle.guards.specs.Guards.{guardStep, guardsAt}
 use Rattle.cursor_laws.specs.FilledLaws.{step, filled}
 use Rattle.cursor_laws.specs.Numbers.{small-number, zero-number}
 use Rattle.guards.specs.Right.{GuardRight, GuardsRight}
@@ -120,8 +121,9 @@ module _ (s : List ℕ) (end : ℕ) where
       let count = byteField s end 0 6 cursor in
       let start : GuardsAt = record { cursor = count; count = count .byte; guards = blankGuards } in
       let d =
-      filled {A = GuardsAt} {B = Guard} 6 (count .byte) noGuard blankGuard (GuardRight parameters clocks) (λ x. x .cursor .ok) (λ x. x .guards)
-      (λ x. x .count ≡ count .byte) (guardStep s end parameters clocks) start refl refl (λ o. byteField-right s end 0 6 cursor o .1 .1)
+      filled {A = GuardsAt} {B = Guard} 6 (count .byte) noGuard blankGuard (GuardRight parameters clocks) (λ x. x .cursor .ok)
+      (λ x. x .guards) (λ x. x .count ≡ count .byte) (guardStep s end parameters clocks) start refl refl
+      (λ o. byteField-right s end 0 6 cursor o .1 .1)
       (λ i x hi k.
       let next : GuardsAt =
       record {

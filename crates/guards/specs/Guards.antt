@@ -1,5 +1,5 @@
--- A guard (paper: limit) of 12 bytes, and a counted list of guards (paper 01, "The sheet file", last item, and "Body 2"). A `Cursor` and its
--- fields are those of crate cursor, specs/Cursor: the first wrong field stops it.
+-- A guard (paper: limit) of 12 bytes, and a counted list of guards (paper 01, "The sheet file", last item, and "Body 2"). A `Cursor`
+-- and its fields are those of crate cursor, specs/Cursor: the first wrong field stops it.
 use Prim.Native.Nat.{ℕ}
 use mathlib.Core.List.{List}
 use mathlib.Core.Bool.{Bool, false, not, cond}

@@ -1,12 +1,11 @@
--- Body 1 (paper 01, "The sheet file"): a count of parameters (paper: allowances), 0 to 3; for each, lowest and highest. It is read from where
--- the contents ended up to its own end; bytes left over there are wrong at the first of them (`finished`).
+-- Body 1 (paper 01, "The sheet file"): a count of parameters (paper: allowances), 0 to 3; for each, lowest and highest. It is read from
+-- where the contents ended up to its own end; bytes left over there are wrong at the first of them (`finished`).
 use Prim.Native.Nat.{ℕ, _-_}
 use mathlib.Core.List.{List}
 use mathlib.Core.Bool.{Bool, cond, _&&_}
 use lib.Dec.{ltb, leb}
 use lib.IntN.{pos}
 use Rattle.expr.specs.declared.range.Range.{Range}
-use Rattle.expr.specs.declared.range.Ranges.{Ranges}
 use Rattle.cursor.specs.declared.Cursor.{Cursor}
 use Rattle.cursor.specs.Cursor.{judged, byteField, numberField, signedOf, finished}
 use Rattle.parameters.specs.declared.RangeAt.{RangeAt}

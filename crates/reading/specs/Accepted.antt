@@ -114,7 +114,8 @@ read-well-formed s h =
     rw (a .1 .1, b .1 .1, d .1 .1) (bodies-right s contents (d .0) (d .1 .0))
 
 -- the same of a result of `read`, by its contract
-pub reading-well-formed : (s : List ℕ) (reading : Reading) → readAs reading ≡ readOf s → Fine (readAs reading) → WellFormed (reading .sheet)
+pub reading-well-formed :
+    (s : List ℕ) (reading : Reading) → readAs reading ≡ readOf s → Fine (readAs reading) → WellFormed (reading .sheet)
 reading-well-formed s reading e h =
     subst WellFormed (sym (ap (λ (x : Read). x .sheet) e)) (read-well-formed s (subst Fine e h))
 

@@ -5,16 +5,17 @@ use mathlib.Core.List.{List, [], _∷_, _++_}
 use mathlib.Core.Bool.{false}
 use lib.ListN.{set, take, replicate}
 use lib.IntN.{pos, negsuc}
-use Rattle.expr.specs.declared.number.Expr.{Expr}
-use Rattle.expr.specs.declared.bound.Bound.{Bound}
 use Rattle.answers.specs.Numbers.{numbered}
-use Rattle.cursor.specs.Cursor.{shifted, signedOf, judged, byteTaken, wordTaken, signedTaken, byteField, belowField, wordField, signedField, finished, iterate}
+use Rattle.cursor.specs.Cursor.{shifted, signedOf, judged, byteTaken, wordTaken, signedTaken, byteField, belowField, wordField}
+use Rattle.cursor.specs.Cursor.{signedField, finished, iterate}
 use Rattle.contents.specs.Contents.{sized, entryField, headOf, oneOf, firstOf, twoOf, secondOf, threeOf, thirdOf, fourOf, contentsOf}
 use Rattle.guards.specs.declared.Guard.{Guard}
 use Rattle.sheet.specs.declared.Sheet.{Sheet}
-use Rattle.guards.specs.Guards.{exprOf, boundOf, oneZero, rightField, coefficientField, guardAt, blankGuard, blankGuards, guardStep, guardsAt}
+use Rattle.guards.specs.Guards.{exprOf, boundOf, oneZero, rightField, coefficientField, guardAt, blankGuard, blankGuards, guardStep}
+use Rattle.guards.specs.Guards.{guardsAt}
 use Rattle.parameters.specs.Parameters.{blankRange, rangeOf, highestRight, highestField, rangeAt, parametersAt}
-use Rattle.automaton.specs.Automaton.{blankLocation, blankLocations, locationStep, locationsRead, locationsAt, resetsRight, resetsField, transitionAt, blankTransition, blankTransitions, transitionStep, transitionsRead, transitionsAt}
+use Rattle.automaton.specs.Automaton.{blankLocation, blankLocations, locationStep, locationsRead, locationsAt, resetsRight, resetsField}
+use Rattle.automaton.specs.Automaton.{transitionAt, blankTransition, blankTransitions, transitionStep, transitionsRead, transitionsAt}
 use Rattle.route.specs.Route.{routeStep, routeRead, routeAt, endsAt, linkStep, linksOf}
 use Rattle.reading.specs.File.{blankSheet, refusedBy, bodiesOf, judgedRoute, judgedBodies, readOf}
 
@@ -23,21 +24,22 @@ contentsA : List ℕ
 contentsA = 1 ∷ 4 ∷ 1 ∷ 22 ∷ 0 ∷ 5 ∷ 0 ∷ 2 ∷ 27 ∷ 0 ∷ 16 ∷ 0 ∷ 3 ∷ 43 ∷ 0 ∷ 17 ∷ 0 ∷ 4 ∷ 60 ∷ 0 ∷ 2 ∷ 0 ∷ []
 
 -- 1 - 0 ≤ p
-limitP : List ℕ
-limitP = 1 ∷ 0 ∷ 0 ∷ 0 ∷ 0 ∷ 0 ∷ 1 ∷ 0 ∷ 0 ∷ 0 ∷ 0 ∷ 0 ∷ []
+bytesP : List ℕ
+bytesP = 1 ∷ 0 ∷ 0 ∷ 0 ∷ 0 ∷ 0 ∷ 1 ∷ 0 ∷ 0 ∷ 0 ∷ 0 ∷ 0 ∷ []
 
 -- 0 - 1 ≤ -3
-limitThree : List ℕ
-limitThree = 0 ∷ 1 ∷ 0 ∷ 0 ∷ 253 ∷ 255 ∷ 0 ∷ 0 ∷ 0 ∷ 0 ∷ 0 ∷ 0 ∷ []
+bytesThree : List ℕ
+bytesThree = 0 ∷ 1 ∷ 0 ∷ 0 ∷ 253 ∷ 255 ∷ 0 ∷ 0 ∷ 0 ∷ 0 ∷ 0 ∷ 0 ∷ []
 
--- sheet A: p in 0..10; one watch; stage 0 standing 1 - 0 ≤ p; stage 1; move 0 from 0 to 1 with 0 - 1 ≤ -3, no resets; route 0
+-- sheet A: p in 0..10; one clock; location 0 with the invariant 1 - 0 ≤ p; location 1; transition 0 from 0 to 1 with the guard 0 - 1 ≤ -3,
+-- no resets; route 0
 pub sheetA : List ℕ
 sheetA =
     contentsA ++
     ((1 ∷ 0 ∷ 0 ∷ 10 ∷ 0 ∷ []) ++
-    ((1 ∷ 2 ∷ 1 ∷ []) ++ (limitP ++ (0 ∷ 1 ∷ 0 ∷ 1 ∷ 0 ∷ 1 ∷ [] ++ (limitThree ++ (1 ∷ 0 ∷ []))))))
+    ((1 ∷ 2 ∷ 1 ∷ []) ++ (bytesP ++ (0 ∷ 1 ∷ 0 ∷ 1 ∷ 0 ∷ 1 ∷ [] ++ (bytesThree ++ (1 ∷ 0 ∷ []))))))
 
--- the two limits as they are read
+-- the two guards as they are read
 guardP : Guard
 guardP =
     record {
@@ -83,13 +85,18 @@ pub record Examples : Type 0 where
   pub version-2 : readOf (set sheetA 0 2) .answer ≡ numbered 3 0
   pub last-byte-lost : readOf (take 61 sheetA) .answer ≡ numbered 3 20
   pub byte-left-over : readOf (set sheetA 22 0) .answer ≡ numbered 4 23
-  pub both-watches : readOf (set sheetA 31 1) .answer ≡ numbered 4 31
-  pub no-watch : readOf (set sheetA 30 0) .answer ≡ numbered 4 31
-  pub not-from-stage-0 : readOf (set sheetA 44 1) .answer ≡ numbered 5 61
-  pub no-such-move : readOf (set sheetA 61 1) .answer ≡ numbered 4 61
+  pub both-clocks : readOf (set sheetA 31 1) .answer ≡ numbered 4 31
+  pub no-clock : readOf (set sheetA 30 0) .answer ≡ numbered 4 31
+  pub not-from-location-0 : readOf (set sheetA 44 1) .answer ≡ numbered 5 61
+  pub no-such-transition : readOf (set sheetA 61 1) .answer ≡ numbered 4 61
 
 pub examples : Examples
-unfolding sheetA contentsA limitP limitThree guardP guardThree readA bare shifted judged byteTaken wordTaken signedTaken byteField wordField signedField finished iterate sized entryField headOf oneOf firstOf twoOf secondOf threeOf thirdOf fourOf contentsOf signedOf exprOf boundOf oneZero rightField coefficientField guardAt blankGuard blankGuards guardStep guardsAt rangeOf highestRight highestField rangeAt parametersAt blankLocation blankLocations locationStep locationsRead locationsAt belowField resetsRight resetsField transitionAt blankTransition blankTransitions transitionStep transitionsRead transitionsAt routeStep routeRead routeAt endsAt linkStep linksOf blankSheet refusedBy bodiesOf judgedRoute judgedBodies readOf
+unfolding sheetA contentsA bytesP bytesThree guardP guardThree readA bare shifted judged byteTaken wordTaken signedTaken byteField
+    wordField signedField finished iterate sized entryField headOf oneOf firstOf twoOf secondOf threeOf thirdOf fourOf contentsOf
+    signedOf exprOf boundOf oneZero rightField coefficientField guardAt blankGuard blankGuards guardStep guardsAt rangeOf
+    highestRight highestField rangeAt parametersAt blankLocation blankLocations locationStep locationsRead locationsAt belowField
+    resetsRight resetsField transitionAt blankTransition blankTransitions transitionStep transitionsRead transitionsAt routeStep
+    routeRead routeAt endsAt linkStep linksOf blankSheet refusedBy bodiesOf judgedRoute judgedBodies readOf
 examples =
     record {
       sheet-a = refl;
@@ -100,8 +107,8 @@ examples =
       version-2 = refl;
       last-byte-lost = refl;
       byte-left-over = refl;
-      both-watches = refl;
-      no-watch = refl;
-      not-from-stage-0 = refl;
-      no-such-move = refl;
+      both-clocks = refl;
+      no-clock = refl;
+      not-from-location-0 = refl;
+      no-such-transition = refl;
     }

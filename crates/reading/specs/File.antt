@@ -1,9 +1,9 @@
--- The whole file (paper 01, "The sheet file", and rows 2 to 5 of "When no piece is given"): checked 2 to 5 in order, the whole file for each.
+-- The whole file (paper 01, "The sheet file", and rows 2 to 5 of "When no piece is given"): checked 2 to 5 in order, the whole file for
+-- each.
 use Prim.Native.Nat.{ℕ, _+_}
 use mathlib.Core.List.{List}
 use mathlib.Core.Bool.{cond}
 use lib.ListN.{length, replicate}
-use Rattle.expr.specs.declared.range.Ranges.{Ranges}
 use Rattle.answers.specs.Numbers.{Numbered, numbered, checkedAs}
 use Rattle.contents.specs.declared.Contents.{Contents}
 use Rattle.cursor.specs.Cursor.{advanced}

@@ -1,5 +1,5 @@
--- The route (paper 01, "The sheet file", Body 4), a list of transition numbers, and refusal 5 ("When no piece is given"): the first move is
--- not from location 0 (paper: stage 0), or a move is not from where the last arrived.
+-- The route (paper 01, "The sheet file", Body 4), a list of transition numbers, and refusal 5 ("When no piece is given"): the first
+-- move is not from location 0 (paper: stage 0), or a move is not from where the last arrived.
 use Prim.Native.Nat.{ℕ, zero, suc}
 use mathlib.Core.List.{List}
 use mathlib.Core.Bool.{true, false, cond}

@@ -1,5 +1,5 @@
--- Body 4: what was read of it, if reading has not stopped, is right; and a route that was followed to its end links. From the definitions of
--- `Route`.
+-- Body 4: what was read of it, if reading has not stopped, is right; and a route that was followed to its end links. From the
+-- definitions of `Route`.
 use Prim.Native.Nat.{ℕ, zero, suc, _≤_, _<_}
 use mathlib.Core.Path.{_≡_, refl, ap, _∙_}
 use mathlib.Core.List.{List}
@@ -45,7 +45,8 @@ module _ (s : List ℕ) (end : ℕ) where
       (cursor .ok ≡ true) ×
       Filled 32 (routeAt s end transitions cursor .count) 0 0 (λ number. number < transitions) (routeAt s end transitions cursor .list)
   unfolding routeAt
-  routeAt-right transitions cursor h = routeRead-right transitions cursor (finished-ok s end (routeRead s end transitions cursor .cursor) h)
+  routeAt-right transitions cursor h =
+      routeRead-right transitions cursor (finished-ok s end (routeRead s end transitions cursor .cursor) h)
 
 below-suc : (P : ℕ → Type 0) (i k : ℕ) (b : Bool) → eqb k i ≡ b → k < suc i → P i → (k < i → P k) → P k
 below-suc P i k true e h p q = rw (eqb-true k i e) p

@@ -1,5 +1,5 @@
--- What holds of every sheet that `read` of crate reading gives (paper 01, "The sheet file"). Definitions only; that it holds is a theorem of
--- reading/specs/Accepted.
+-- What holds of every sheet that `read` of crate reading gives (paper 01, "The sheet file"). Definitions only; that it holds is a
+-- theorem of reading/specs/Accepted.
 use Prim.Native.Nat.{ℕ, _≤_, _<_}
 use mathlib.Core.Path.{_≡_}
 use lib.ListN.{getD}
@@ -19,7 +19,10 @@ pub record WellFormed (sheet : Sheet) : Type 0 where
   pub some-clock : 1 ≤ sheet .clocks
   pub clocks : sheet .clocks ≤ 4
   pub some-location : 1 ≤ sheet .locations
-  pub location : Filled 16 (sheet .locations) noLocation blankLocation (LocationRight (sheet .parameters) (sheet .clocks)) (sheet .location)
+  pub location :
+      Filled 16 (sheet .locations) noLocation blankLocation
+      (LocationRight (sheet .parameters) (sheet .clocks))
+      (sheet .location)
   pub transition :
       Filled 32 (sheet .transitions) noTransition blankTransition
       (TransitionRight (sheet .parameters) (sheet .clocks) (sheet .locations))

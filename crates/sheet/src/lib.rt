@@ -1,5 +1,5 @@
-// A sheet by value (paper 01, "The sheet file"), and its locations and transitions by number, where an index past the list's end stands for
-// the first place. What lies past a count is zero, so that a file has one sheet.
+// A sheet by value (paper 01, "The sheet file"), and its locations and transitions by number, where an index past the list's end stands
+// for the first place. What lies past a count is zero, so that a file has one sheet.
 //
 // Every function is total, and its contract is an equation with a definition of specs/Lookup.
 ghost use mathlib.Core.Path.{_≡_};

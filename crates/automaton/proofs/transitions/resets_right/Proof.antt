@@ -1,4 +1,5 @@
--- `transitions::resets_right` meets its contract: a shift of 1 is a power of 2, and from 8 clocks on every byte is below it. Assumes nothing.
+-- `transitions::resets_right` meets its contract: a shift of 1 is a power of 2, and from 8 clocks on every byte is below it. Assumes
+-- nothing.
 use borrow.Author.Tests.{lt-ltb}
 use mathlib.Core.Path.{sym}
 use native.Mathlib.Omega.{arith}

@@ -1,4 +1,5 @@
--- `transitions::transitions_read` meets its contract. The invariant: after i steps the transitions are what `iterate` gives. Assumes nothing.
+-- `transitions::transitions_read` meets its contract. The invariant: after i steps the transitions are what `iterate` gives. Assumes
+-- nothing.
 use Prim.Native.Nat.{_≤_, _-_}
 use mathlib.Core.Path.{_≡_, refl}
 use native.Mathlib.Omega.{arith}

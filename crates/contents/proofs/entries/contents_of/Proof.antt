@@ -1,4 +1,5 @@
--- `entries::contents_of` meets its contract: code and definition are one composition. Each length is below 65,536, so the sums fit. Assumes nothing.
+-- `entries::contents_of` meets its contract: code and definition are one composition. Each length is below 65,536, so the sums fit.
+-- Assumes nothing.
 use native.Mathlib.Omega.{arith}
 use Rattle.contents.specs.Contents.{contentsOf, headOf, oneOf, firstOf, twoOf, secondOf, threeOf, thirdOf, fourOf}
 use borrow.Author.Needs.{needs}
@@ -42,16 +43,22 @@ cast-third : tie.Need-cast-third
 cast-third c = search needs
 
 add-third : tie.Need-add-third
-add-third c = omega (arith, c .struct-known3 .given, c .before .before .struct-known2 .given, c .before .before .before .before .struct-known .given)
+add-third c =
+    let two = c .before .before in
+    omega (arith, c .struct-known3 .given, two .struct-known2 .given, two .before .before .struct-known .given)
 
 cast-less : tie.Need-cast-less
-cast-less c = omega (arith, c .struct-known3 .given, c .before .before .struct-known2 .given, c .before .before .before .before .struct-known .given)
+cast-less c =
+    let two = c .before .before in
+    omega (arith, c .struct-known3 .given, two .struct-known2 .given, two .before .before .struct-known .given)
 
 less-requires : tie.Need-less-requires
 less-requires c κs = search needs
 
 cast-entry-field-3 : tie.Need-cast-entry-field-3
-cast-entry-field-3 c = omega (arith, c .before .struct-known3 .given, c .before .before .before .struct-known2 .given, c .before .before .before .before .before .struct-known .given)
+cast-entry-field-3 c =
+    let two = c .before .before .before in
+    omega (arith, c .before .struct-known3 .given, two .struct-known2 .given, two .before .before .struct-known .given)
 
 entry-field-requires-4 : tie.Need-entry-field-requires-4
 entry-field-requires-4 c κs = search needs

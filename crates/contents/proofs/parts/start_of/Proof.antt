@@ -24,11 +24,15 @@ returns-2 c = simp (ne-eqb _ _ (c .before .before .if1 .left), eq-eqb _ _ (c .be
 
 returns-3 : tie.Need-returns-3
 unfolding startOf
-returns-3 c = simp (ne-eqb _ _ (c .before .before .before .if1 .left), ne-eqb _ _ (c .before .before .if2 .left), eq-eqb _ _ (c .before .if3 .taken))
+returns-3 c =
+    let two = c .before .before in
+    simp (ne-eqb _ _ (two .before .if1 .left), ne-eqb _ _ (two .if2 .left), eq-eqb _ _ (c .before .if3 .taken))
 
 returns-4 : tie.Need-returns-4
 unfolding startOf
-returns-4 c = simp (ne-eqb _ _ (c .before .before .before .if1 .left), ne-eqb _ _ (c .before .before .if2 .left), ne-eqb _ _ (c .before .if3 .left))
+returns-4 c =
+    let two = c .before .before in
+    simp (ne-eqb _ _ (two .before .if1 .left), ne-eqb _ _ (two .if2 .left), ne-eqb _ _ (c .before .if3 .left))
 
 pub start-of-spec : {M : Type 1} → statement M
 start-of-spec =
