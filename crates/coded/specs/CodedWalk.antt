@@ -22,7 +22,8 @@ use Rattle.sheet.specs.declared.Sheet.{Sheet}
 use Rattle.automaton.specs.declared.Transition.{Transition}
 use Rattle.sheet.specs.WellFormed.{WellFormed}
 use Rattle.timed.specs.Automaton.{invariants, guardsOf, routeOf, transitionAt}
-use Rattle.timed.specs.Indexed.{locationC, transitionC, location-in, transition-in}
+use Rattle.sheet.specs.Lookup.{locationC, transitionC}
+use Rattle.timed.specs.Indexed.{location-in, transition-in}
 use Rattle.timed.specs.Right.{AllOf, StepRight, filled-all, steps-right}
 use Rattle.timed.specs.Steps.{Step, delay, guard, resets, staySteps, moveSteps, stepsFrom, stepsOf, moves}
 use Rattle.timed.specs.Visits.{Visits, steps-visits, steps-moves}

@@ -12,7 +12,7 @@ use Rattle.guards.specs.declared.Guard.{Guard}
 use Rattle.automaton.specs.declared.Location.{Location}
 use Rattle.sheet.specs.declared.Sheet.{Sheet}
 use Rattle.automaton.specs.declared.Transition.{Transition}
-use Rattle.timed.specs.Indexed.{locationC, transitionC}
+use Rattle.sheet.specs.Lookup.{locationC, transitionC}
 use Rattle.split.specs.Guarded.{guardedC}
 use Rattle.zones.specs.Zone.{zeroBound, zeroExpr, blankZone}
 use Rattle.parts.specs.Parts.{withBounds}

@@ -6,16 +6,6 @@ ghost use mathlib.Core.Path.{_≡_};
 ghost use Prim.Native.Nat.{min};
 ghost use Rattle.coded.specs.Walked.{delayedZone, resetsZone, delayedAll, resetsAll};
 
-// n, or most where n is more.
-fn at_most(n: usize, most: usize) -> usize
-    ensures { λ r. ⌜ r ≡ min n most ⌝ }
-{
-    if n < most {
-        return n;
-    }
-    most
-}
-
 // A zone after a wait.
 fn delayed_zone(z: Zone, clocks: usize) -> Zone
     ensures { λ r. ⌜ r ≡ delayedZone clocks z ⌝ }
@@ -48,7 +38,7 @@ fn resets_zone(z: Zone, clocks: usize, bits: u8) -> Zone
 pub fn delayed_all(zones: Zones, clocks: usize) -> Zones
     ensures { λ r. ⌜ r ≡ delayedAll clocks zones ⌝ }
 {
-    let n = at_most(zones.count, 32);
+    let n = numbers::at_most(zones.count, 32);
     let mut next = zones;
     let mut i = 0;
     while i < n {
@@ -63,7 +53,7 @@ pub fn delayed_all(zones: Zones, clocks: usize) -> Zones
 pub fn resets_all(zones: Zones, clocks: usize, bits: u8) -> Zones
     ensures { λ r. ⌜ r ≡ resetsAll clocks bits zones ⌝ }
 {
-    let n = at_most(zones.count, 32);
+    let n = numbers::at_most(zones.count, 32);
     let mut next = zones;
     let mut i = 0;
     while i < n {

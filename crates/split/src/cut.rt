@@ -12,16 +12,6 @@ ghost use Prim.Native.Nat.{min};
 ghost use Rattle.split.specs.Guarded.{cutC, ruleC, guardedC};
 ghost use Rattle.split.specs.Trees.{startC, endedC, Live, Ran};
 
-// n, or most where n is more.
-fn at_most(n: usize, most: usize) -> usize
-    ensures { λ r. ⌜ r ≡ min n most ⌝ }
-{
-    if n < most {
-        return n;
-    }
-    most
-}
-
 // The part where it stops.
 fn run(b: Ranges, r: Rule, p: Part) -> Part
     requires { ⌜ Live p ⌝ }
@@ -124,7 +114,7 @@ pub fn cut_by(b: Ranges, clocks: usize, g: Guard, zones: Zones) -> Zones
     if 4 < g.right {
         return zones;
     }
-    let n = at_most(zones.count, 32);
+    let n = numbers::at_most(zones.count, 32);
     let mut out = list::none_at(zones.visit);
     let mut i = 0;
     while i < n {

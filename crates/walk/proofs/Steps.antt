@@ -16,7 +16,7 @@ use Rattle.automaton.specs.declared.Location.{Location}
 use Rattle.sheet.specs.declared.Sheet.{Sheet}
 use Rattle.automaton.specs.declared.Transition.{Transition}
 use Rattle.walk.specs.Tables.{Table, zeroWeight, voidTable, entryOf, rowOf, isVoid, sumC, tighterC, limitedEntry, limitedTable, guardedTable, guardTable, guardsTable, stayTable, moveTable, walkTable}
-use Rattle.timed.specs.Indexed.{locationC, transitionC}
+use Rattle.sheet.specs.Lookup.{locationC, transitionC}
 
 pub list5 : {A : Type 0} {a b c d e a′ b′ c′ d′ e′ : A} → a ≡ a′ → b ≡ b′ → c ≡ c′ → d ≡ d′ → e ≡ e′
     → _≡_ {A = List A} (a ∷ b ∷ c ∷ d ∷ e ∷ []) (a′ ∷ b′ ∷ c′ ∷ d′ ∷ e′ ∷ [])

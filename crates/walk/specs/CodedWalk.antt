@@ -13,7 +13,8 @@ use Rattle.sheet.specs.declared.Sheet.{Sheet}
 use Rattle.automaton.specs.declared.Transition.{Transition}
 use Rattle.sheet.specs.WellFormed.{WellFormed}
 use Rattle.timed.specs.Automaton.{invariants, guardsOf, transitionAt, routeOf}
-use Rattle.timed.specs.Indexed.{locationC, transitionC, location-in, transition-in}
+use Rattle.sheet.specs.Lookup.{locationC, transitionC}
+use Rattle.timed.specs.Indexed.{location-in, transition-in}
 use Rattle.timed.specs.Right.{AllOf, StepRight, filled-all, steps-right, route-delays}
 use Rattle.timed.specs.Steps.{Step, delay, guard, resets, staySteps, moveSteps, stepsFrom, stepsOf, delays}
 use Rattle.walk.specs.Tables.{Table, startTable, voidTable, guardedTable, delayedTable, guardTable, guardsTable, resetsTable}

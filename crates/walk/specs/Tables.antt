@@ -12,7 +12,7 @@ use Rattle.guards.specs.declared.Guard.{Guard}
 use Rattle.automaton.specs.declared.Location.{Location}
 use Rattle.sheet.specs.declared.Sheet.{Sheet}
 use Rattle.automaton.specs.declared.Transition.{Transition}
-use Rattle.timed.specs.Indexed.{locationC, transitionC}
+use Rattle.sheet.specs.Lookup.{locationC, transitionC}
 
 abbrev pub Table : Type 0
 Table = List (List Weight)

@@ -11,7 +11,6 @@ ghost use Prim.Native.Nat.{min};
 ghost use lib.ListN.{take};
 ghost use Rattle.expr.specs.Three.{point};
 ghost use Rattle.walk.specs.Tables.{guardTable, guardsTable, stayTable, moveTable, sweepTable};
-ghost use Rattle.timed.specs.Indexed.{at, locationC, transitionC};
 
 // The matrix after a guard (paper: limit) with v put in.
 fn guard(m: [[Weight; 5]; 5], clocks: usize, v: Valuation, g: Guard) -> [[Weight; 5]; 5]
@@ -21,16 +20,6 @@ fn guard(m: [[Weight; 5]; 5], clocks: usize, v: Valuation, g: Guard) -> [[Weight
     let j = g.right as usize;
     let bound = g.bound;
     matrix::guarded(m, clocks, i, j, bound.at(v))
-}
-
-// n, or most where n is more.
-fn at_most(n: usize, most: usize) -> usize
-    ensures { λ r. ⌜ r ≡ min n most ⌝ }
-{
-    if n < most {
-        return n;
-    }
-    most
 }
 
 // The matrix after the first count guards, in order.
@@ -43,7 +32,7 @@ fn guards_of(
 ) -> [[Weight; 5]; 5]
     ensures { λ r. ⌜ r ≡ guardsTable m clocks (point v) (take count guards) ⌝ }
 {
-    let n = at_most(count, 6);
+    let n = numbers::at_most(count, 6);
     let mut now = m;
     let mut i = 0;
     while i < n {
@@ -72,53 +61,20 @@ fn moved(m: [[Weight; 5]; 5], clocks: usize, v: Valuation, t: Transition) -> [[W
     matrix::resets(limited, clocks, t.resets)
 }
 
-// i, or 0 where i is not below n.
-fn below(i: usize, n: usize) -> usize
-    ensures { λ r. ⌜ r ≡ at n i ⌝ }
-{
-    if i < n {
-        return i;
-    }
-    0
-}
-
-// The location with the number l.
-fn location_at(s: Sheet, l: usize) -> Location
-    ensures { λ r. ⌜ r ≡ locationC s l ⌝ }
-{
-    let i = below(l, 16);
-    s.location[i]
-}
-
-// The transition with the number n.
-fn transition_at(s: Sheet, n: usize) -> Transition
-    ensures { λ r. ⌜ r ≡ transitionC s n ⌝ }
-{
-    let i = below(n, 32);
-    s.transition[i]
-}
-
-// x as a wider number.
-fn wide(x: u8) -> usize
-    ensures { λ r. ⌜ r ≡ x ⌝ }
-{
-    x as usize
-}
-
 // What is left of all zero after the whole route.
 pub fn walk(s: Sheet, v: Valuation) -> [[Weight; 5]; 5]
     ensures { λ r. ⌜ r ≡ sweepTable s (point v) ⌝ }
 {
-    let n = at_most(s.moves, 32);
+    let n = numbers::at_most(s.moves, 32);
     let mut m = matrix::start();
     let mut l = 0;
     let mut k = 0;
     while k < n {
-        let t = transition_at(s, wide(s.route[k]));
-        let next = moved(stay(m, s.clocks, v, location_at(s, l)), s.clocks, v, t);
+        let t = sheet::transition_at(s, numbers::index(s.route[k]));
+        let next = moved(stay(m, s.clocks, v, sheet::location_at(s, l)), s.clocks, v, t);
         m = next;
         l = t.to;
         k += 1;
     }
-    stay(m, s.clocks, v, location_at(s, l))
+    stay(m, s.clocks, v, sheet::location_at(s, l))
 }

@@ -12,7 +12,7 @@ use Rattle.guards.specs.declared.Guard.{Guard}
 use Rattle.automaton.specs.declared.Location.{Location}
 use Rattle.sheet.specs.declared.Sheet.{Sheet}
 use Rattle.automaton.specs.declared.Transition.{Transition}
-use Rattle.timed.specs.Indexed.{locationC, transitionC}
+use Rattle.sheet.specs.Lookup.{locationC, transitionC}
 use Rattle.split.specs.Guarded.{guardedC}
 use Rattle.coded.specs.Walked.{atVisit, guardsAll, stayAll, moveAll, walkAll}
 use Rattle.zones.specs.declared.zone.Zones.{Zones}

@@ -11,18 +11,7 @@ use zones::Zones;
 ghost use mathlib.Core.Path.{_≡_};
 ghost use Prim.Native.Nat.{min, suc, _<_};
 ghost use lib.ListN.{take};
-ghost use Rattle.timed.specs.Indexed.{at, locationC, transitionC};
 ghost use Rattle.coded.specs.Walked.{atVisit, guardsAll, stayAll, moveAll, startAll, zonesAll};
-
-// n, or most where n is more.
-fn at_most(n: usize, most: usize) -> usize
-    ensures { λ r. ⌜ r ≡ min n most ⌝ }
-{
-    if n < most {
-        return n;
-    }
-    most
-}
 
 // The zones at a visit, unless they were refused before.
 fn at_visit(zones: Zones, visit: usize) -> Zones
@@ -40,7 +29,7 @@ fn at_visit(zones: Zones, visit: usize) -> Zones
 fn guards_of(b: Ranges, clocks: usize, zones: Zones, count: usize, guards: [Guard; 6]) -> Zones
     ensures { λ r. ⌜ r ≡ guardsAll b clocks (take count guards) zones ⌝ }
 {
-    let n = at_most(count, 6);
+    let n = numbers::at_most(count, 6);
     let mut now = zones;
     let mut i = 0;
     while i < n {
@@ -76,39 +65,6 @@ fn moved(b: Ranges, clocks: usize, visit: usize, t: Transition, zones: Zones) ->
     at_visit(delay::resets_all(limited, clocks, t.resets), visit + 1)
 }
 
-// i, or 0 where i is not below n.
-fn below(i: usize, n: usize) -> usize
-    ensures { λ r. ⌜ r ≡ at n i ⌝ }
-{
-    if i < n {
-        return i;
-    }
-    0
-}
-
-// The location with the number l.
-fn location_at(s: Sheet, l: usize) -> Location
-    ensures { λ r. ⌜ r ≡ locationC s l ⌝ }
-{
-    let i = below(l, 16);
-    s.location[i]
-}
-
-// The transition with the number n.
-fn transition_at(s: Sheet, n: usize) -> Transition
-    ensures { λ r. ⌜ r ≡ transitionC s n ⌝ }
-{
-    let i = below(n, 32);
-    s.transition[i]
-}
-
-// x as a wider number.
-fn wide(x: u8) -> usize
-    ensures { λ r. ⌜ r ≡ x ⌝ }
-{
-    x as usize
-}
-
 // One zone without inequalities, all entries zero, not strict.
 fn start() -> Zones
     ensures { λ r. ⌜ r ≡ startAll ⌝ }
@@ -133,22 +89,22 @@ pub fn walk(s: Sheet) -> Zones
     ensures { λ r. ⌜ r ≡ zonesAll s ⌝ }
 {
     let b = s.ranges;
-    let n = at_most(s.moves, 32);
+    let n = numbers::at_most(s.moves, 32);
     let mut zones = start();
     let mut l = 0;
     let mut k = 0;
     while k < n {
-        let t = transition_at(s, wide(s.route[k]));
+        let t = sheet::transition_at(s, numbers::index(s.route[k]));
         let next = moved(
             b,
             s.clocks,
             k,
             t,
-            stay(b, s.clocks, location_at(s, l), zones),
+            stay(b, s.clocks, sheet::location_at(s, l), zones),
         );
         zones = next;
         l = t.to;
         k += 1;
     }
-    stay(b, s.clocks, location_at(s, l), zones)
+    stay(b, s.clocks, sheet::location_at(s, l), zones)
 }

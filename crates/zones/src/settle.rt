@@ -34,21 +34,11 @@ fn opposite(e: Expr) -> Expr
     }
 }
 
-// n, or most where n is more.
-fn at_most(n: usize, most: usize) -> usize
-    ensures { λ r. ⌜ r ≡ min n most ⌝ }
-{
-    if n < most {
-        return n;
-    }
-    most
-}
-
 // The zone's inequalities and one more.
 fn system(zone: Zone, e: Expr) -> System
     ensures { λ r. ⌜ exprs r ≡ map affine (take (zone .count) (zone .ineqs) ++ (e ∷ [])) ⌝ }
 {
-    let n = at_most(zone.count, 24);
+    let n = numbers::at_most(zone.count, 24);
     let mut list = [Expr::ZERO; 25];
     let mut i = 0;
     while i < n {

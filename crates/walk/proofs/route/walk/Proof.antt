@@ -2,7 +2,7 @@
 use Prim.Native.Nat.{ℕ, _≤_, _-_}
 use Rattle.expr.specs.Three.{point}
 use Rattle.walk.specs.Tables.{Table, walkTable, sweepTable}
-use Rattle.timed.specs.Indexed.{transitionC}
+use Rattle.sheet.specs.Lookup.{transitionC}
 use borrow.Author.Needs.{needs}
 use lib.ListN.{length, take, drop}
 use mathlib.Core.Path.{_≡_, refl, ap, _∙_}
@@ -32,11 +32,11 @@ loop-holds c =
     let h = size-is _ (a .t1 .moves) 32 (a .t1 .route) (c .before .at-most .ensures) l in
     (h .0, h .1, ap (λ (m : Table). walkTable (a .t1) (point (a .v)) 0 (take (a .t1 .moves) (a .t1 .route)) m) (c .start .ensures))
 
-element-copy-out-wide : tie.Need-element-copy-out-wide Inv-loop μ-loop
-element-copy-out-wide c = omega arith
+element-copy-out-index : tie.Need-element-copy-out-index Inv-loop μ-loop
+element-copy-out-index c = omega arith
 
-wide-requires : tie.Need-wide-requires Inv-loop μ-loop
-wide-requires c κs = search needs
+index-requires : tie.Need-index-requires Inv-loop μ-loop
+index-requires c κs = search needs
 
 transition-at-requires : tie.Need-transition-at-requires Inv-loop μ-loop
 transition-at-requires c κs = search needs
@@ -64,7 +64,7 @@ loop-again c =
       v .0,
       v .1,
       walk-turn (a .t1) (point (a .v)) (i .k) (i .l) (i .m) _ _ _ _ _ (omega arith) (v .2)
-          (c .before .before .before .transition-at .ensures ∙ ap (λ (n : ℕ). transitionC (a .t1) n) (c .before .before .before .before .wide .ensures))
+          (c .before .before .before .transition-at .ensures ∙ ap (λ (n : ℕ). transitionC (a .t1) n) (c .before .before .before .before .index .ensures))
           (c .before .before .location-at .ensures) (c .before .stay .ensures) (c .moved .ensures),
     )
 
@@ -89,8 +89,8 @@ walk-spec =
     at-most-requires
     start-requires
     loop-holds
-    element-copy-out-wide
-    wide-requires
+    element-copy-out-index
+    index-requires
     transition-at-requires
     location-at-requires
     stay-requires

@@ -3,7 +3,7 @@ use Rattle.windows_route.proofs.route.walk.Statement.{statement}
 use Rattle.windows_route.proofs.route.walk.Tie as tie
 use Prim.Native.Nat.{ℕ, _≤_, _-_}
 use lib.ListN.{length, take, drop}
-use Rattle.timed.specs.Indexed.{transitionC}
+use Rattle.sheet.specs.Lookup.{transitionC}
 use Rattle.coded.specs.Walked.{walkAll, zonesAll}
 use Rattle.zones.specs.declared.zone.Zones.{Zones}
 use mathlib.Core.Path.{_≡_, refl, ap, _∙_}
@@ -31,11 +31,11 @@ loop-holds c =
     let h = size-is _ (s .moves) 32 (s .route) (c .before .at-most .ensures) l in
     (h .0, h .1, ap (λ (z : Zones). walkAll s 0 0 (take (s .moves) (s .route)) z) (c .start .ensures))
 
-element-copy-out-wide : tie.Need-element-copy-out-wide Inv-loop μ-loop
-element-copy-out-wide c = omega (arith, c .loop-test .taken, c .before .loop .inv .0)
+element-copy-out-index : tie.Need-element-copy-out-index Inv-loop μ-loop
+element-copy-out-index c = omega (arith, c .loop-test .taken, c .before .loop .inv .0)
 
-wide-requires : tie.Need-wide-requires Inv-loop μ-loop
-wide-requires c κs = search needs
+index-requires : tie.Need-index-requires Inv-loop μ-loop
+index-requires c κs = search needs
 
 transition-at-requires : tie.Need-transition-at-requires Inv-loop μ-loop
 transition-at-requires c κs = search needs
@@ -63,7 +63,7 @@ loop-again c =
       v .0,
       v .1,
       walk-turn s (i .k) (i .l) (i .zones) (c .before .stay .result) (c .moved .result) _ (c .before .before .location-at .result) (c .before .before .before .transition-at .result) (omega (arith, c .before .before .before .before .before .before .loop-test .taken, v .1)) (v .2)
-          (c .before .before .before .transition-at .ensures ∙ ap (λ (n : ℕ). transitionC s n) (c .before .before .before .before .wide .ensures)) (c .before .before .location-at .ensures) (c .before .stay .ensures) (c .moved .ensures),
+          (c .before .before .before .transition-at .ensures ∙ ap (λ (n : ℕ). transitionC s n) (c .before .before .before .before .index .ensures)) (c .before .before .location-at .ensures) (c .before .stay .ensures) (c .moved .ensures),
     )
 
 location-at-requires-2 : tie.Need-location-at-requires-2 Inv-loop μ-loop
@@ -87,8 +87,8 @@ walk-spec =
     at-most-requires
     start-requires
     loop-holds
-    element-copy-out-wide
-    wide-requires
+    element-copy-out-index
+    index-requires
     transition-at-requires
     location-at-requires
     stay-requires
