@@ -46,8 +46,7 @@ answered-inside file v (inr e) g = omega arith
 
 counted-those : (file : List ℕ) → Fine (readOf file) → (v : List ℤ) → List·Memᴰ v (valuationsOf file) ↔ InRange file v
 counted-those file f v =
-    let rs = rangeList (sheetOf file .ranges) in
-    (
+    let rs = rangeList (sheetOf file .ranges) in (
       λ m. answered-inside file v (sweep-right .right file v f (valuations-inside rs v m) .answered),
       λ i. valuations-all rs v (six-outside file v f i),
     )

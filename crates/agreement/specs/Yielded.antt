@@ -64,9 +64,11 @@ module _ (r : SheetRow) (lists : answeredOf (windowsOf (r .file) 32) ≡ record 
   ran : IsRun (r .file) (point v) → IsRun (r .file) (point v) × Run (sheetOf (r .file)) (point v)
   ran e =
       let b = lists-behind (r .file) 32 listed .1 in
-      let g = six-outside (r .file) (point v) (b .fine) (answered-inside (r .file) (point v) (inl e)) in
-      (e, some-run (sheetOf (r .file)) (point v) 0 0 (entryAt (sweep.replyOf (r .file) (point v)) 0 0)
-      (sweep-right .right (r .file) (point v) (b .fine) g .entries-tightest e 0 0 (omega arith) (omega arith)))
+      let g = six-outside (r .file) (point v) (b .fine) (answered-inside (r .file) (point v) (inl e)) in (
+        e,
+        some-run (sheetOf (r .file)) (point v) 0 0 (entryAt (sweep.replyOf (r .file) (point v)) 0 0)
+            (sweep-right .right (r .file) (point v) (b .fine) g .entries-tightest e 0 0 (omega arith) (omega arith)),
+      )
 
   none-ran : IsVoid (r .file) (point v) → IsVoid (r .file) (point v) × (Run (sheetOf (r .file)) (point v) → ⊥)
   none-ran e =

@@ -4,9 +4,9 @@
 mod text;
 mod zone;
 
-use libc::STDIN_FILENO;
 use answers::windows::Answer;
 use answers::windows::Counts;
+use libc::STDIN_FILENO;
 use windows::Piece;
 
 // The line of the counts. It answers whether all was written, as each function below does.

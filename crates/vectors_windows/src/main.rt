@@ -4,11 +4,11 @@
 // that it must write come from reference/.
 mod digest;
 
+use answers::windows::Answer;
+use answers::windows::Counts;
 use expr::Bound;
 use expr::Expr;
 use libc::STDOUT_FILENO;
-use answers::windows::Answer;
-use answers::windows::Counts;
 use windows::Piece;
 ghost use Prim.Native.Nat.{_<_, _≤_};
 

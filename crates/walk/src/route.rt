@@ -71,7 +71,12 @@ pub fn walk(s: Sheet, v: Valuation) -> [[Weight; 5]; 5]
     let mut k = 0;
     while k < n {
         let t = sheet::transition_at(s, numbers::index(s.route[k]));
-        let next = moved(stay(m, s.clocks, v, sheet::location_at(s, l)), s.clocks, v, t);
+        let next = moved(
+            stay(m, s.clocks, v, sheet::location_at(s, l)),
+            s.clocks,
+            v,
+            t,
+        );
         m = next;
         l = t.to;
         k += 1;

@@ -1,11 +1,11 @@
 // The zones of a sheet along its route.
+use automaton::Location;
+use automaton::Transition;
 use expr::Bound;
 use expr::Expr;
 use expr::Ranges;
 use guards::Guard;
-use automaton::Location;
 use sheet::Sheet;
-use automaton::Transition;
 use zones::Zone;
 use zones::Zones;
 ghost use mathlib.Core.Path.{_≡_};
