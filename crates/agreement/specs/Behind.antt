@@ -19,7 +19,7 @@ use Rattle.cutting.specs.Numbered.{SevenToNine, zones-numbered}
 use Rattle.cutting.specs.Shape.{zones-shaped}
 use Rattle.expr.specs.Ranges.{Inside}
 use Rattle.expr.specs.Three.{rangeList}
-use Rattle.reading.specs.Accepted.{Fine}
+use Rattle.reading.specs.File.{Fine}
 use Rattle.reading.specs.File.{readOf}
 use Rattle.sheet.specs.declared.Sheet.{Sheet}
 use Rattle.sweep.specs.Reply.{SweepReply, blankReply, swept, outside, orOutside, sheetReply, readReply, replyOf}

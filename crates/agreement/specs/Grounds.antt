@@ -11,7 +11,7 @@ use Rattle.answers.specs.Numbers.{Numbered, numbered}
 use Rattle.cutting.specs.Cutting.{Listing, listed, refused, zonesOf}
 use Rattle.cutting.specs.Cutting as cutting
 use Rattle.cutting.specs.Numbered.{SevenToNine, zones-numbered}
-use Rattle.reading.specs.Accepted.{Fine}
+use Rattle.reading.specs.File.{Fine}
 use Rattle.reading.specs.Accepted.{TwoToFive, read-numbered}
 use Rattle.reading.specs.File.{readOf}
 use Rattle.sheet.specs.declared.Sheet.{Sheet}

@@ -10,9 +10,11 @@ use Rattle.answers.specs.declared.windows.Counts.{Counts}
 use Rattle.cutting.specs.Kept.{Counted}
 use Rattle.expr.specs.Three.{rangeList}
 use Rattle.search.specs.Once.{valuations-once}
-use Rattle.search.specs.SearchLaws.{widths, valuations-inside, valuations-all}
+use Rattle.search.specs.Valuations.{widths}
+use Rattle.search.specs.SearchLaws.{valuations-inside, valuations-all}
 use Rattle.search.specs.Valuations.{valuations}
-use Rattle.reading.specs.Accepted.{Fine, read-well-formed}
+use Rattle.reading.specs.File.{Fine}
+use Rattle.reading.specs.Accepted.{read-well-formed}
 use Rattle.reading.specs.File.{readOf}
 use Rattle.soundness.specs.Counts.{kept-counts-runs, cut-counts-the-rest, kept-and-cut}
 use Rattle.sweep.specs.Theorems.{sheetOf, IsRun, IsVoid, numberAt, sweep-right}

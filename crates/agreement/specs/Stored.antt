@@ -8,12 +8,13 @@ use native.Mathlib.Omega.{arith}
 use lib.Dec.{ltb, eqb}
 use lib.ListN.{length, getD, take, replicate}
 use Rattle.answers.specs.Numbers.{numbered}
-use Rattle.coded.specs.Coded.{zoneOf, taken, entry-at}
+use Rattle.coded.specs.Records.{zoneOf}
+use Rattle.coded.specs.Coded.{taken, entry-at}
 use Rattle.constrain.specs.Rules.{entryC}
 use Rattle.cutting.specs.Cutting.{Listing, listed, refused, zonesOf}
 use Rattle.cutting.specs.Cutting as cutting
 use Rattle.cutting.specs.Shape.{Shaped, zones-shaped}
-use Rattle.dbm.specs.Entries.{Outside}
+use Rattle.dbm.specs.Matrix.{Outside}
 use Rattle.expr.specs.Affine.{Affine}
 use Rattle.expr.specs.Limit.{Limit}
 use Rattle.expr.specs.Three.{exprOf, boundOf}

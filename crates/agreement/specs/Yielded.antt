@@ -15,7 +15,7 @@ use Rattle.search.specs.Interval.{interval}
 use Rattle.expr.specs.Ranges.{In}
 use Rattle.search.specs.IntervalLaws.{interval-exact}
 use Rattle.expr.specs.Limit.{Limit, none, limit, atV, sumW, marked, sumB, tighterW, asked, tighterB}
-use Rattle.search.specs.SearchLaws.{widths}
+use Rattle.search.specs.Valuations.{widths}
 use Rattle.expr.specs.Three.{point}
 use Rattle.search.specs.Valuations.{span, width, before, valuations, satisfies, firstIn, countIn, first, count}
 use Rattle.expr.specs.declared.number.Valuation.{Valuation}
@@ -32,9 +32,9 @@ use Rattle.cursor.specs.Cursor.{signedOf}
 use Rattle.guards.specs.Guards.{exprOf, boundOf, oneZero, rightField, coefficientField, guardAt, blankGuard, blankGuards, guardStep, guardsAt}
 use Rattle.route.specs.Route.{endsAt, linkStep, linksOf}
 use Rattle.sheet.specs.declared.Sheet.{Sheet}
-use Rattle.walk.specs.Coded.{row}
+use Rattle.walk.specs.Records.{row}
 use Rattle.agreement.specs.Cases.{SheetRow, IntervalRow, countsIn, SheetYields, IntervalYields, at, rowA, rowStrict, rowPQ, rowQP, rowFree, rowNone, rowBack, rowDown, rowUp, rowTouch, rowApart, rowNever, ListedCases}
-use Rattle.coded.specs.Coded.{rowOf, boundsOf, zoneOf, zonesIn}
+use Rattle.coded.specs.Records.{rowOf, boundsOf, zoneOf, zonesIn}
 use Rattle.answers.specs.Numbers.{numbered}
 use Rattle.concrete.specs.Walk.{step, walk, sweepAlong, sweepAt}
 use Rattle.integer.specs.Floor.{floorZ}

@@ -1,6 +1,5 @@
--- The code's records of what the cutting lists: of a matrix its 25 entries in row order, of a zone its inequalities and blank places up to 24, of
--- a listing its zones and blank places up to 32. The laws that read and write them. CodedGuard and CodedWalk say with these that what the code
--- does (Guarded, Walked) is the cutting.
+-- Laws that read and write the code's records of what the cutting lists (Records). CodedGuard and CodedWalk say with these that what the code does
+-- (Guarded, Walked) is the cutting.
 use mathlib.Core.Path.{_≡_, refl, sym, ap, _∙_}
 use mathlib.Core.List.{List, [], _∷_, _++_, map}
 use mathlib.Core.Bool.{Bool, true, false, cond}
@@ -19,34 +18,9 @@ use Rattle.expr.specs.declared.bound.Bound.{Bound}
 use Rattle.dbm.specs.Entries.{up-to-4}
 use Rattle.zones.specs.Zone.{zeroBound, zeroExpr, blankZone}
 use Rattle.constrain.specs.Rules.{entryC}
+use Rattle.coded.specs.Records.{rowOf, boundsOf, zoneOf, zonesIn, coded}
 use Rattle.zones.specs.declared.zone.Zone.{Zone}
 use Rattle.zones.specs.declared.zone.Zones.{Zones}
-
--- row k of a matrix
-unfoldable pub rowOf : Bounds → ℕ → List Bound
-rowOf m k = boundOf (m k 0) ∷ boundOf (m k 1) ∷ boundOf (m k 2) ∷ boundOf (m k 3) ∷ boundOf (m k 4) ∷ []
-
--- a matrix: rows 0 to 4
-unfoldable pub boundsOf : Bounds → List Bound
-boundsOf m = rowOf m 0 ++ rowOf m 1 ++ rowOf m 2 ++ rowOf m 3 ++ rowOf m 4
-
--- a zone
-unfoldable pub zoneOf : cutting.Zone → Zone
-zoneOf z =
-    record {
-      count = length (z .ineqs);
-      ineqs = map exprOf (z .ineqs) ++ replicate (24 - length (z .ineqs)) zeroExpr;
-      bounds = boundsOf (z .bounds);
-    }
-
--- zones in order
-unfoldable pub zonesIn : List cutting.Zone → List Zone
-zonesIn zs = map zoneOf zs ++ replicate (32 - length zs) blankZone
-
--- a listing, at a visit; a refusal has a visit of its own
-unfoldable pub coded : ℕ → Listing → Zones
-coded visit (listed zs) = record { refusal = 0; visit = visit; count = length zs; list = zonesIn zs }
-coded visit (refused n k) = record { refusal = n; visit = k; count = 0; list = replicate 32 blankZone }
 
 -- ---- a list and blanks up to n
 pub length-more : {A : Type 0} (l : List A) (a : A) → length (l ++ (a ∷ [])) ≡ suc (length l)

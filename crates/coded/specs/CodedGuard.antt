@@ -18,7 +18,8 @@ use Rattle.expr.specs.declared.number.Expr.{Expr}
 use Rattle.expr.specs.declared.range.Ranges.{Ranges}
 use Rattle.guards.specs.declared.Guard.{Guard}
 use Rattle.timed.specs.Right.{AllOf}
-use Rattle.coded.specs.Coded.{boundsOf, zoneOf, zonesIn, coded, one-more, length-more, taken}
+use Rattle.coded.specs.Records.{boundsOf, zoneOf, zonesIn, coded}
+use Rattle.coded.specs.Coded.{one-more, length-more, taken}
 use Rattle.coded.specs.CodedTests.{pad-first, NarrowM, opposite-coded, never-is}
 use Rattle.coded.specs.CodedTree.{treeOf, Good, Same, guard-same}
 use Rattle.split.specs.Guarded.{ruleC, cutC, cutAll, guardedC}

@@ -15,8 +15,9 @@ use Rattle.search.specs.Valuations.{satisfies, count}
 use Rattle.expr.specs.declared.bound.Bound.{Bound}
 use Rattle.expr.specs.declared.number.Expr.{Expr}
 use Rattle.expr.specs.declared.range.Ranges.{Ranges}
-use Rattle.coded.specs.Coded.{zoneOf, zonesIn, taken, entry-at}
-use Rattle.coded.specs.CodedTests.{pad-at, pad-satisfies, pad-count}
+use Rattle.coded.specs.Records.{zoneOf, zonesIn}
+use Rattle.coded.specs.Coded.{taken, entry-at}
+use Rattle.coded.specs.CodedTests.{pad-at, pad-satisfies, pad-count, inside-length}
 use Rattle.zones.specs.Zone.{zeroExpr, blankZone}
 use Rattle.constrain.specs.Rules.{entryC}
 use Rattle.zones.specs.declared.zone.Zone.{Zone}
@@ -33,30 +34,17 @@ unfolding zoneOf
 ineqs-coded z = taken exprOf zeroExpr (24 - length (z .ineqs)) (z .ineqs)
 
 -- it holds the same valuations
-holds-three : (z : cutting.Zone) (p q r : ℤ) → satisfies (map affine (take (zoneOf z .count) (zoneOf z .ineqs))) (p ∷ q ∷ r ∷ []) ≡ holds (p ∷ q ∷ r ∷ []) z
-holds-three z p q r = ap (λ (l : List Expr). satisfies (map affine l) (p ∷ q ∷ r ∷ [])) (ineqs-coded z) ∙ pad-satisfies (z .ineqs) p q r
-
 pub holds-coded : (b : Ranges) (z : cutting.Zone) (v : List ℤ) → Inside v (rangeList b)
     → satisfies (map affine (take (zoneOf z .count) (zoneOf z .ineqs))) v ≡ holds v z
-holds-coded b z [] h = absurd h
-holds-coded b z (p ∷ []) h = absurd (h .1)
-holds-coded b z (p ∷ q ∷ []) h = absurd (h .1 .1)
-holds-coded b z (p ∷ q ∷ r ∷ []) h = holds-three z p q r
-holds-coded b z (p ∷ q ∷ r ∷ x ∷ v) h = absurd (h .1 .1 .1)
+holds-coded b z v h =
+    ap (λ (l : List Expr). satisfies (map affine l) v) (ineqs-coded z) ∙ pad-satisfies (z .ineqs) v (inside-length v (rangeList b) h)
 
 -- its entries are the same at each
-entry-three : (z : cutting.Zone) (p q r : ℤ) (i j : ℕ) → i ≤ 4 → j ≤ 4
-    → atV (p ∷ q ∷ r ∷ []) (limitOf (entryC (zoneOf z .bounds) i j)) ≡ at (p ∷ q ∷ r ∷ []) (z .bounds) i j
-unfolding zoneOf at
-entry-three z p q r i j hi hj = ap (λ (b : Bound). atV (p ∷ q ∷ r ∷ []) (limitOf b)) (entry-at (z .bounds) i j hi hj) ∙ pad-at (z .bounds i j) p q r
-
 pub entry-coded : (b : Ranges) (z : cutting.Zone) (v : List ℤ) → Inside v (rangeList b) → (i j : ℕ) → i ≤ 4 → j ≤ 4
     → atV v (limitOf (entryC (zoneOf z .bounds) i j)) ≡ at v (z .bounds) i j
-entry-coded b z [] h = absurd h
-entry-coded b z (p ∷ []) h = absurd (h .1)
-entry-coded b z (p ∷ q ∷ []) h = absurd (h .1 .1)
-entry-coded b z (p ∷ q ∷ r ∷ []) h = entry-three z p q r
-entry-coded b z (p ∷ q ∷ r ∷ x ∷ v) h = absurd (h .1 .1 .1)
+unfolding zoneOf at
+entry-coded b z v h i j hi hj =
+    ap (λ (e : Bound). atV v (limitOf e)) (entry-at (z .bounds) i j hi hj) ∙ pad-at (z .bounds i j) v (inside-length v (rangeList b) h)
 
 -- it holds as many of the ranges
 pub count-coded : (b : Ranges) (z : cutting.Zone) → count (rangeList b) (map affine (take (zoneOf z .count) (zoneOf z .ineqs))) ≡ count (rangeList b) (z .ineqs)

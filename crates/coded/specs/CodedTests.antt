@@ -37,38 +37,59 @@ padB b = limitOf (boundOf b)
 zero-step : (q x : ℤ) → x ≡ pos 0 → (pos 0 *ℤ q) +ℤ x ≡ pos 0
 zero-step q x e = ap (λ (y : ℤ). y +ℤ x) (zero-*ℤ q) ∙ +ℤ-idl x ∙ e
 
-third : (cs : List ℤ) (r : ℤ) → (getD cs 0 (pos 0) *ℤ r) +ℤ pos 0 ≡ dot cs (r ∷ [])
-unfolding dot
-third [] r = zero-step r (pos 0) refl
-third (c ∷ []) r = refl
-third (c ∷ d ∷ cs) r = refl
+-- coefficients filled up with zeros
+padL : ℕ → List ℤ → List ℤ
+padL zero cs = []
+padL (suc n) [] = pos 0 ∷ padL n []
+padL (suc n) (c ∷ cs) = c ∷ padL n cs
 
-second : (cs : List ℤ) (q r : ℤ) → (getD cs 0 (pos 0) *ℤ q) +ℤ ((getD cs 1 (pos 0) *ℤ r) +ℤ pos 0) ≡ dot cs (q ∷ r ∷ [])
-unfolding dot
-second [] q r = zero-step q ((pos 0 *ℤ r) +ℤ pos 0) (third [] r)
-second (c ∷ cs) q r = ap (λ (x : ℤ). (c *ℤ q) +ℤ x) (third cs r)
+dot-none : (n : ℕ) (v : List ℤ) → dot (padL n []) v ≡ pos 0
+unfolding dot padL
+dot-none zero v = refl
+dot-none (suc n) [] = refl
+dot-none (suc n) (x ∷ v) = zero-step x (dot (padL n []) v) (dot-none n v)
 
-three : (cs : List ℤ) (p q r : ℤ)
-    → (getD cs 0 (pos 0) *ℤ p) +ℤ ((getD cs 1 (pos 0) *ℤ q) +ℤ ((getD cs 2 (pos 0) *ℤ r) +ℤ pos 0)) ≡ dot cs (p ∷ q ∷ r ∷ [])
-unfolding dot
-three [] p q r = zero-step p ((pos 0 *ℤ q) +ℤ ((pos 0 *ℤ r) +ℤ pos 0)) (second [] q r)
-three (c ∷ cs) p q r = ap (λ (x : ℤ). (c *ℤ p) +ℤ x) (second cs q r)
+dot-pad : (n : ℕ) (cs v : List ℤ) → length v ≡ n → dot (padL n cs) v ≡ dot cs v
+unfolding dot padL
+dot-pad zero [] [] h = refl
+dot-pad zero (c ∷ cs) [] h = refl
+dot-pad zero cs (x ∷ v) h = absurd (omega arith)
+dot-pad (suc n) [] v h = dot-none (suc n) v
+dot-pad (suc n) (c ∷ cs) [] h = refl
+dot-pad (suc n) (c ∷ cs) (x ∷ v) h = ap (λ (y : ℤ). (c *ℤ x) +ℤ y) (dot-pad n cs v (omega arith))
 
-pub pad-value : (e : Affine) (p q r : ℤ) → value (pad e) (p ∷ q ∷ r ∷ []) ≡ value e (p ∷ q ∷ r ∷ [])
-unfolding value dot
-pad-value e p q r = ap (λ (x : ℤ). e .constant +ℤ x) (three (e .coefs) p q r)
+pad-coefs : (e : Affine) → pad e .coefs ≡ padL 3 (e .coefs)
+unfolding padL
+pad-coefs e = by (e .coefs)
+  where
+    by : (cs : List ℤ) → (getD cs 0 (pos 0) ∷ getD cs 1 (pos 0) ∷ getD cs 2 (pos 0) ∷ []) ≡ padL 3 cs
+    by [] = refl
+    by (a ∷ []) = refl
+    by (a ∷ b ∷ []) = refl
+    by (a ∷ b ∷ c ∷ cs) = refl
 
-pub pad-at : (b : Limit Affine) (p q r : ℤ) → atV (p ∷ q ∷ r ∷ []) (padB b) ≡ atV (p ∷ q ∷ r ∷ []) b
+pub pad-value : (e : Affine) (v : List ℤ) → length v ≡ 3 → value (pad e) v ≡ value e v
+unfolding value
+pad-value e v h = ap (λ (x : ℤ). e .constant +ℤ x) (ap (λ (l : List ℤ). dot l v) (pad-coefs e) ∙ dot-pad 3 (e .coefs) v h)
+
+pub pad-at : (b : Limit Affine) (v : List ℤ) → length v ≡ 3 → atV v (padB b) ≡ atV v b
 unfolding atV
-pad-at none p q r = refl
-pad-at (limit s e) p q r = ap (limit s) (pad-value e p q r)
+pad-at none v h = refl
+pad-at (limit s e) v h = ap (limit s) (pad-value e v h)
 
-pub pad-satisfies : (es : List Affine) (p q r : ℤ) → satisfies (map affine (map exprOf es)) (p ∷ q ∷ r ∷ []) ≡ satisfies es (p ∷ q ∷ r ∷ [])
+pub pad-satisfies : (es : List Affine) (v : List ℤ) → length v ≡ 3 → satisfies (map affine (map exprOf es)) v ≡ satisfies es v
 unfolding satisfies
-pad-satisfies [] p q r = refl
-pad-satisfies (e ∷ es) p q r = rw (pad-value e p q r, pad-satisfies es p q r) refl
+pad-satisfies [] v h = refl
+pad-satisfies (e ∷ es) v h = rw (pad-value e v h, pad-satisfies es v h) refl
 
--- ---- the valuations of three ranges
+-- a valuation in ranges has as many numbers
+pub inside-length : (v : List ℤ) (rs : List Range) → Inside v rs → length v ≡ length rs
+inside-length [] [] i = refl
+inside-length [] (r ∷ rs) i = absurd i
+inside-length (x ∷ v) [] i = absurd i
+inside-length (x ∷ v) (r ∷ rs) i = ap suc (inside-length v rs (i .1))
+
+-- ---- the valuations of ranges
 first-same : (t u : List ℤ → Bool) (vs : List (List ℤ)) → ((v : List ℤ) → List·Memᴰ v vs → t v ≡ u v) → firstIn t vs ≡ firstIn u vs
 unfolding firstIn
 first-same t u [] h = refl
@@ -79,16 +100,9 @@ unfolding countIn
 count-same t u [] h = refl
 count-same t u (v ∷ vs) h = rw (h v (List·Memᴰ·head refl), count-same t u vs (λ x i. h x (List·Memᴰ·tail i))) refl
 
-inside-three : (es : List Affine) (a b c : Range) (v : List ℤ) → Inside v (a ∷ b ∷ c ∷ []) → satisfies (map affine (map exprOf es)) v ≡ satisfies es v
-inside-three es a b c [] i = absurd i
-inside-three es a b c (x ∷ []) i = absurd (i .1)
-inside-three es a b c (x ∷ y ∷ []) i = absurd (i .1 .1)
-inside-three es a b c (x ∷ y ∷ z ∷ []) i = pad-satisfies es x y z
-inside-three es a b c (x ∷ y ∷ z ∷ u ∷ v) i = absurd (i .1 .1 .1)
-
 module _ (b : Ranges) (es : List Affine) where
   at-valuations : (v : List ℤ) → List·Memᴰ v (valuations (rangeList b)) → satisfies (map affine (map exprOf es)) v ≡ satisfies es v
-  at-valuations v i = inside-three es (b .p) (b .q) (b .r) v (valuations-inside (rangeList b) v i)
+  at-valuations v i = pad-satisfies es v (inside-length v (rangeList b) (valuations-inside (rangeList b) v i))
 
   pub pad-first : first (rangeList b) (map affine (map exprOf es)) ≡ first (rangeList b) es
   unfolding first

@@ -17,7 +17,8 @@ use Rattle.expr.specs.declared.bound.BoundSum.{BoundSum}
 use Rattle.expr.specs.declared.bound.Test.{Test}
 use Rattle.expr.specs.declared.bound.Test.the-variants.{No}
 use Rattle.dbm.specs.Entries.{up-to-4}
-use Rattle.coded.specs.Coded.{boundsOf, entry-at, getD-at, set-entry}
+use Rattle.coded.specs.Records.{boundsOf}
+use Rattle.coded.specs.Coded.{entry-at, getD-at, set-entry}
 use Rattle.coded.specs.CodedTests.{padB, NarrowB, NarrowJ, NarrowM, limit-narrow, zero-narrow, sum-narrow, pad-sum, pad-test, limit-pad, InLimit, Asked, tighter-asked}
 use Rattle.zones.specs.Zone.{pick, zeroBound}
 use Rattle.split.specs.Trees.{TreeC, cutT, keepT, wideT, askT, testedC, pushC, tightC, treeAt}

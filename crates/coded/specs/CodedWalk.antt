@@ -27,7 +27,7 @@ use Rattle.timed.specs.Indexed.{location-in, transition-in}
 use Rattle.timed.specs.Right.{AllOf, StepRight, filled-all, steps-right}
 use Rattle.timed.specs.Steps.{Step, delay, guard, resets, staySteps, moveSteps, stepsFrom, stepsOf, moves}
 use Rattle.timed.specs.Visits.{Visits, steps-visits, steps-moves}
-use Rattle.coded.specs.Coded.{rowOf, boundsOf, zoneOf, zonesIn, coded}
+use Rattle.coded.specs.Records.{rowOf, boundsOf, zoneOf, zonesIn, coded}
 use Rattle.coded.specs.CodedGuard.{NarrowZone, Sound, guard-sound, guard-coded}
 use Rattle.coded.specs.CodedTests.{NarrowB, NarrowM, zero-narrow}
 use Rattle.split.specs.Guarded.{guardedC}

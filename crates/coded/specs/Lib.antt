@@ -6,4 +6,5 @@ pub mod CodedRead
 pub mod CodedTests
 pub mod CodedTree
 pub mod CodedWalk
+pub mod Records
 pub mod Walked

@@ -6,7 +6,7 @@ use mathlib.Core.List.{List}
 use Prim.Native.Nat.{ℕ, _≤_}
 use lib.IntN.{ℤ}
 use Rattle.dbm.specs.Matrix.{Matrix, void, kept}
-use Rattle.dbm.specs.Entries.{Outside}
+use Rattle.dbm.specs.Matrix.{Outside}
 use Rattle.expr.specs.Limit.{Limit, zeroW}
 use Rattle.sheet.specs.declared.Sheet.{Sheet}
 use Rattle.sheet.specs.WellFormed.{WellFormed}

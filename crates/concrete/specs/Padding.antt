@@ -4,7 +4,8 @@ use mathlib.Core.List.{List, [], _∷_}
 use Prim.Native.Nat.{ℕ}
 use lib.IntN.{ℤ}
 use Rattle.dbm.specs.Matrix.{Matrix, start, Outcome, void, kept}
-use Rattle.dbm.specs.Entries.{Outside, delayed-outside, resets-outside}
+use Rattle.dbm.specs.Matrix.{Outside}
+use Rattle.dbm.specs.Entries.{delayed-outside, resets-outside}
 use Rattle.dbm.specs.Guard.{guarded-outside}
 use Rattle.expr.specs.Limit.{Limit, none, atV}
 use Rattle.expr.specs.Three.{limitOf}

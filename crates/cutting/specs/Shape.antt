@@ -9,7 +9,8 @@ use borrow.Author.Tests.{ltb-true, eqb-true}
 use lib.Dec.{eqb, ltb}
 use lib.ListN.{length, length-append}
 use Rattle.dbm.specs.Matrix.{delayed, resetsM}
-use Rattle.dbm.specs.Entries.{Outside, delayed-outside, resets-outside}
+use Rattle.dbm.specs.Matrix.{Outside}
+use Rattle.dbm.specs.Entries.{delayed-outside, resets-outside}
 use Rattle.expr.specs.Affine.{Affine, opposite, Judged, fine, wide}
 use Rattle.expr.specs.Limit.{Limit, none, sumB, tighterB, Question, yes′, no′, ask, wide′}
 use Rattle.expr.specs.Three.{limitOf, rangeList}

@@ -8,7 +8,7 @@ use native.Mathlib.Omega.{arith}
 use lib.Dec.{T, leb, ltb, eqb, le→leb, leb→le, eqb→eq, eqb-refl, lt→ltb}
 use lib.IntN.{ℤ}
 use Rattle.expr.specs.Limit.{Limit, sumW, tighterW}
-use Rattle.dbm.specs.Matrix.{Matrix, inside, delayed, resetAt, resetM, resetsM, tighterOf, limitedM, put, _⊑_}
+use Rattle.dbm.specs.Matrix.{Outside, Matrix, inside, delayed, resetAt, resetM, resetsM, tighterOf, limitedM, put, _⊑_}
 use Rattle.dbm.specs.Weights.{⊑-refl, tighter-⊑}
 
 -- ---- the tests
@@ -60,10 +60,6 @@ up-to-4 P a b c d e (suc (suc zero)) h = c
 up-to-4 P a b c d e (suc (suc (suc zero))) h = d
 up-to-4 P a b c d e (suc (suc (suc (suc zero)))) h = e
 up-to-4 P a b c d e (suc (suc (suc (suc (suc i))))) h = absurd (omega arith)
-
--- an index past w
-abbrev pub Outside : ℕ → ℕ → ℕ → Type 0
-Outside w i j = (w < i) ⊎ (w < j)
 
 pub inside-no : (w i j : ℕ) → Outside w i j → inside w i j ≡ false
 inside-no w i j (inl h) = rw (leb-no i w h) refl

@@ -8,7 +8,8 @@ use lib.IntN.{ℤ, _-ℤ_}
 use Rattle.expr.specs.Limit.{Limit, sumW, tighterW, zeroW}
 use Rattle.dbm.specs.Matrix.{Matrix, limitedM, Outcome, void, kept, guarded, keeps, State, Meets, _⊑_, Closed, After}
 use Rattle.dbm.specs.Weights.{⊑-refl, ⊑-≡, ⊑-trans, sum-mono, sum-assoc, sum-comm, sum-zero, zero-sum, keeps-⊑, keeps-via, keeps-≡, keeps-zero, no-difference}
-use Rattle.dbm.specs.Entries.{Outside, limited-inside, limited-outside, tighterOf-⊑, tighterOf-which, tighterOf-no}
+use Rattle.dbm.specs.Matrix.{Outside}
+use Rattle.dbm.specs.Entries.{limited-inside, limited-outside, tighterOf-⊑, tighterOf-which, tighterOf-no}
 
 -- the guard's way from clock k to clock l
 abbrev pub way : ℕ → ℕ → Limit ℤ → Matrix (Limit ℤ) → Matrix (Limit ℤ)

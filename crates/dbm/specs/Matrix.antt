@@ -2,9 +2,9 @@
 -- "Cutting the ranges", do to one at a single valuation, and which states meet one.
 -- Clock 0 is always 0, and the others are clocks 1 to w. Entry (i, j) bounds clock i - clock j.
 use mathlib.Core.Path.{_≡_}
-use mathlib.Core.Logic.{_↔_}
+use mathlib.Core.Logic.{_↔_, _⊎_}
 use mathlib.Core.Bool.{Bool, true, false, _&&_, cond}
-use Prim.Native.Nat.{ℕ, zero, suc, _/_, _%_, _^_, _≤_}
+use Prim.Native.Nat.{ℕ, zero, suc, _/_, _%_, _^_, _≤_, _<_}
 use lib.Dec.{leb, ltb, eqb}
 use lib.IntN.{ℤ, pos, _+ℤ_, _-ℤ_, _*ℤ_}
 use lib.Signed.{_≤ℤ_, _<ℤ_}
@@ -134,3 +134,7 @@ scaleW N (limit s c) = limit s (pos N *ℤ c)
 
 unfoldable pub scaled : ℕ → Matrix (Limit ℤ) → Matrix (Limit ℤ)
 scaled N m i j = scaleW N (m i j)
+
+-- an index past w
+abbrev pub Outside : ℕ → ℕ → ℕ → Type 0
+Outside w i j = (w < i) ⊎ (w < j)

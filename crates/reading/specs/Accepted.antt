@@ -16,7 +16,7 @@ use Rattle.answers.specs.Numbers.{numbered}
 use Rattle.parameters.specs.Parameters.{parametersAt}
 use Rattle.automaton.specs.Automaton.{locationsAt, transitionsAt}
 use Rattle.route.specs.Route.{routeAt, linksOf}
-use Rattle.reading.specs.File.{blankSheet, Read, readAs, refusedBy, bodiesOf, judgedRoute, judgedBodies, readOf}
+use Rattle.reading.specs.File.{Fine, blankSheet, Read, readAs, refusedBy, bodiesOf, judgedRoute, judgedBodies, readOf}
 use Rattle.sheet.specs.WellFormed.{WellFormed}
 use Rattle.parameters.specs.ParameterLaws.{parametersAt-right}
 use Rattle.automaton.specs.AutomatonLaws.{locationsAt-right, transitionsAt-right}
@@ -49,10 +49,6 @@ bodies-right s contents h l =
       route = h4 .1;
       links = links-right (three .list) (four .list) (four .count) l (h4 .1 .few);
     }
-
--- a file that is not refused
-abbrev pub Fine : Read → Type 0
-Fine x = x .answer .number ≡ 0
 
 -- it came by the first way
 accepted-cases :

@@ -1,5 +1,6 @@
 -- The whole file (paper 01, "The sheet file", and rows 2 to 5 of "When no piece is given"): checked 2 to 5 in order, the whole file for
 -- each.
+use mathlib.Core.Path.{_≡_}
 use Prim.Native.Nat.{ℕ, _+_}
 use mathlib.Core.List.{List}
 use mathlib.Core.Bool.{cond}
@@ -84,3 +85,7 @@ readOf s =
     (judgedBodies (contentsOf s .third) (bodiesOf s (contentsOf s)))
     (refusedBy 3 (contentsOf s .cursor .at)))
     (refusedBy 2 0)
+
+-- a file that is not refused
+abbrev pub Fine : Read → Type 0
+Fine x = x .answer .number ≡ 0

@@ -15,7 +15,7 @@ use Rattle.integer.specs.Order.{zts, leZ-true, leZ-false}
 use Rattle.integer.specs.Parts.{p, n, zs, +-parts, -parts}
 use Rattle.integer.specs.Split.{split, split-all}
 use Rattle.expr.specs.Affine.{Affine, value}
-use Rattle.search.specs.Valuations.{span, width, before, valuations, satisfies, pickO, pickN, firstIn, countIn, first, count}
+use Rattle.search.specs.Valuations.{span, width, before, valuations, satisfies, pickO, pickN, firstIn, countIn, first, count, widths}
 use Rattle.search.specs.Interval.{fix, narrowed}
 use Rattle.expr.specs.Ranges.{In, Inside}
 use Rattle.search.specs.IntervalLaws.{fix-value, narrowed-in, narrowed-keeps, narrowed-last}
@@ -250,11 +250,6 @@ valuations-all (r ∷ rs) [] h = absurd h
 valuations-all (r ∷ rs) (x ∷ v) h =
     let t : (r .low ≤ℤ x) × (x <ℤ (r .low +ℤ pos (width r))) = width-in r x .0 (h .0) in
     before-all (span (r .low) (width r)) (valuations rs) (span-all (width r) (r .low) (t .0) (t .1)) (valuations-all rs v (h .1))
-
--- how many there are: the product of the widths
-unfoldable pub widths : List Range → ℕ
-widths [] = 1
-widths (r ∷ rs) = width r * widths rs
 
 pub span-length : (n : ℕ) (x : ℤ) → length (span x n) ≡ n
 unfolding span

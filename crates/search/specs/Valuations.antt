@@ -2,7 +2,7 @@
 use mathlib.Core.List.{List, [], _∷_, _++_, map}
 use mathlib.Core.Bool.{Bool, true, false, _&&_}
 use mathlib.Core.Option.{Option, none, some}
-use Prim.Native.Nat.{ℕ, zero, suc}
+use Prim.Native.Nat.{ℕ, zero, suc, _*_}
 use lib.IntN.{ℤ, pos, _+ℤ_, _-ℤ_}
 use lib.Signed.{leZ}
 use Rattle.integer.specs.Parts.{p}
@@ -58,3 +58,8 @@ first rs es = firstIn (satisfies es) (valuations rs)
 -- how many valuations of the ranges meet the inequalities
 unfoldable pub count : List Range → List Affine → ℕ
 count rs es = countIn (satisfies es) (valuations rs)
+
+-- how many there are: the product of the widths
+unfoldable pub widths : List Range → ℕ
+widths [] = 1
+widths (r ∷ rs) = width r * widths rs

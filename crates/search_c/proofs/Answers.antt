@@ -13,7 +13,8 @@ use mir.Val.{SFits, toZ, ofZ}
 use mir.ValLaws.{toZ-ofZ}
 use Rattle.integer.specs.Parts.{p, n, zs, +-parts, -parts, fits-in}
 use Rattle.expr.specs.Affine.{Affine}
-use Rattle.search.specs.SearchLaws.{widths, valuations-length}
+use Rattle.search.specs.Valuations.{widths}
+use Rattle.search.specs.SearchLaws.{valuations-length}
 use Rattle.search.specs.System.{exprs, firstOf}
 use Rattle.expr.specs.Three.{rangeList}
 use Rattle.search.specs.Valuations.{first, count, countIn, pickN, satisfies, valuations, width}

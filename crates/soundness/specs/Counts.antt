@@ -7,7 +7,8 @@ use native.Mathlib.Omega.{arith}
 use lib.IntN.{ℤ}
 use lib.ListN.{length}
 use Rattle.dbm.specs.Matrix.{Outcome, void, kept}
-use Rattle.search.specs.SearchLaws.{valuations-inside, valuations-length, widths}
+use Rattle.search.specs.SearchLaws.{valuations-inside, valuations-length}
+use Rattle.search.specs.Valuations.{widths}
 use Rattle.expr.specs.Three.{rangeList}
 use Rattle.search.specs.Valuations.{valuations, satisfies, countIn, count, pickN}
 use Rattle.expr.specs.declared.range.Range.{Range}

@@ -9,20 +9,23 @@ use native.Mathlib.Omega.{arith}
 use lib.Dec.{eqb}
 use lib.IntN.{ℤ}
 use lib.ListN.{getD}
-use Rattle.dbm.specs.Entries.{Outside, up-to-4}
+use Rattle.dbm.specs.Matrix.{Outside}
+use Rattle.dbm.specs.Entries.{up-to-4}
 use Rattle.dbm.specs.Matrix.{Matrix, Outcome, void, kept}
 use Rattle.expr.specs.Limit.{Limit, zeroW}
 use Rattle.expr.specs.Ranges.{Inside}
 use Rattle.expr.specs.Three.{weighed, rangeList}
-use Rattle.reading.specs.Accepted.{Fine, read-well-formed}
+use Rattle.reading.specs.File.{Fine}
+use Rattle.reading.specs.Accepted.{read-well-formed}
 use Rattle.reading.specs.File.{readOf}
 use Rattle.sheet.specs.declared.Sheet.{Sheet}
-use Rattle.walk.specs.Coded.{row, in-row, weighed-of}
+use Rattle.walk.specs.Records.{row}
+use Rattle.walk.specs.Coded.{in-row, weighed-of}
 use Rattle.concrete.specs.Padding.{padded}
 use Rattle.concrete.specs.Proofs.{void-iff-no-run, entries-tightest}
 use Rattle.sweep.specs.Reply.{SweepReply, rowRecord, zeroRows, blankReply, swept, outside, orOutside, sheetReply, readReply, replyOf}
 use Rattle.sweep.specs.ReplyLaws.{inside-none}
-use Rattle.walk.specs.Tables.{zeroWeight}
+use Rattle.walk.specs.Records.{zeroWeight}
 use Rattle.concrete.specs.Walk.{sweepAt}
 use Rattle.timed.specs.Runs.{Run, Tightest}
 

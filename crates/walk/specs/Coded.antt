@@ -12,11 +12,9 @@ use Rattle.dbm.specs.Matrix.{Matrix, Outcome, void, kept}
 use Rattle.expr.specs.Limit.{Limit, none, limit, sumW, tighterW, zeroW, saturated}
 use Rattle.expr.specs.Three.{weighed, weightOf}
 use Rattle.expr.specs.declared.weight.Weight.{Weight}
-use Rattle.walk.specs.Tables.{Table, zeroWeight, voidTable, rowOf, entryOf, isVoid, sumC, tighterC}
-
--- row i
-unfoldable pub row : Matrix (Limit ℤ) → ℕ → List Weight
-row f i = weightOf (f i 0) ∷ weightOf (f i 1) ∷ weightOf (f i 2) ∷ weightOf (f i 3) ∷ weightOf (f i 4) ∷ []
+use Rattle.walk.specs.Tables.{Table, voidTable, rowOf, entryOf, isVoid, sumC, tighterC}
+use Rattle.walk.specs.Records.{zeroWeight}
+use Rattle.walk.specs.Records.{row}
 
 -- rows 0 to 4
 unfoldable pub table : Matrix (Limit ℤ) → Table

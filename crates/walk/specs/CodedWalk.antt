@@ -21,7 +21,8 @@ use Rattle.walk.specs.Tables.{Table, startTable, voidTable, guardedTable
 use Rattle.walk.specs.Tables.{stayTable, moveTable, walkTable, sweepTable}
 use Rattle.concrete.specs.Walk.{andThen, step, walk, sweepAlong, sweepAt}
 use Rattle.concrete.specs.Sizes.{Thousands, Visited, guard-size, start-visited, after, after-delays, step-visited, visited-within}
-use Rattle.walk.specs.Coded.{row, table, coded}
+use Rattle.walk.specs.Records.{row}
+use Rattle.walk.specs.Coded.{table, coded}
 use Rattle.walk.specs.CodedSteps.{delayed-coded, delayed-void, guarded-coded, guarded-void, resets-coded, resets-void}
 
 -- ---- the code's steps on tables, as one function, and in order

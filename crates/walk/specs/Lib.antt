@@ -2,4 +2,5 @@
 pub mod Coded
 pub mod CodedSteps
 pub mod CodedWalk
+pub mod Records
 pub mod Tables

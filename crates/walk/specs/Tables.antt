@@ -13,15 +13,10 @@ use Rattle.automaton.specs.declared.Location.{Location}
 use Rattle.sheet.specs.declared.Sheet.{Sheet}
 use Rattle.automaton.specs.declared.Transition.{Transition}
 use Rattle.sheet.specs.Lookup.{locationC, transitionC}
+use Rattle.walk.specs.Records.{zeroWeight, zeroRow}
 
 abbrev pub Table : Type 0
 Table = List (List Weight)
-
-abbrev pub zeroWeight : Weight
-zeroWeight = record { none = false; strict = false; value = pos 0 }
-
-abbrev pub zeroRow : List Weight
-zeroRow = zeroWeight ∷ zeroWeight ∷ zeroWeight ∷ zeroWeight ∷ zeroWeight ∷ []
 
 abbrev pub startTable : Table
 startTable = zeroRow ∷ zeroRow ∷ zeroRow ∷ zeroRow ∷ zeroRow ∷ []

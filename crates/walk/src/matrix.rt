@@ -3,7 +3,8 @@ use expr::Weight;
 ghost use mathlib.Core.Path.{_≡_};
 ghost use lib.ListN.{getD, set};
 ghost use Prim.Native.Nat.{_<_};
-ghost use Rattle.walk.specs.Tables.{voidTable, startTable, isVoid, limitedEntry, limitedRow, limitedLine, limitedTable, guardedTable, delayedRow, delayedTable, zeroWeight, resetEntry, resetRow, resetLine, resetTable, resetIf, resetsTable};
+ghost use Rattle.walk.specs.Tables.{voidTable, startTable, isVoid, limitedEntry, limitedRow, limitedLine, limitedTable, guardedTable, delayedRow, delayedTable, resetEntry, resetRow, resetLine, resetTable, resetIf, resetsTable};
+ghost use Rattle.walk.specs.Records.{zeroWeight};
 
 // All entries zero, not strict.
 pub(crate) fn start() -> [[Weight; 5]; 5]

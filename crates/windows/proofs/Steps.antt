@@ -14,14 +14,15 @@ use Rattle.answers.specs.declared.file.Refusal.{Refusal}
 use Rattle.answers.specs.declared.file.Refusal.the-variants.{Size, Contents, Body, Route}
 use Rattle.answers.specs.declared.windows.Answer.{Answer}
 use Rattle.answers.specs.declared.windows.Answer.the-variants as answer
-use Rattle.coded.specs.Coded.{zonesIn}
-use Rattle.search.specs.SearchLaws.{widths}
+use Rattle.coded.specs.Records.{zonesIn}
+use Rattle.search.specs.Valuations.{widths}
 use Rattle.expr.specs.Three.{affine, rangeList}
 use Rattle.search.specs.Valuations.{count}
 use Rattle.expr.specs.declared.range.Ranges.{Ranges}
 use Rattle.reading.specs.declared.Reading.{Reading}
 use Rattle.sheet.specs.declared.Sheet.{Sheet}
-use Rattle.reading.specs.Accepted.{Fine, reading-well-formed}
+use Rattle.reading.specs.File.{Fine}
+use Rattle.reading.specs.Accepted.{reading-well-formed}
 use Rattle.reading.specs.File.{Read, readAs, readOf}
 use Rattle.sheet.specs.WellFormed.{WellFormed}
 use Rattle.windows.specs.Coded.{count-few}

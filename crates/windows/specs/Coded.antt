@@ -14,7 +14,8 @@ use lib.Signed.{_≤ℤ_}
 use Rattle.cutting.specs.Kept.{keptOf, cutOf}
 use Rattle.cutting.specs.Cutting.{Listing, listed, refused, zonesOf}
 use Rattle.cutting.specs.Numbered.{SevenToNine, zones-numbered}
-use Rattle.search.specs.SearchLaws.{widths, valuations-length}
+use Rattle.search.specs.Valuations.{widths}
+use Rattle.search.specs.SearchLaws.{valuations-length}
 use Rattle.expr.specs.Affine.{Affine}
 use Rattle.expr.specs.Three.{rangeList}
 use Rattle.search.specs.Valuations.{width, valuations, satisfies, pickN, countIn, count}
@@ -28,7 +29,7 @@ use Rattle.parameters.specs.Right.{RangeRight}
 use Rattle.answers.specs.Numbers.{numbered, windowsAs, countsOf, noCounts}
 use Rattle.windows.specs.Reply.{listingReply, sheetReply}
 use Rattle.windows.specs.Work.{Shown, shownOf, refusedBy, listedC}
-use Rattle.coded.specs.Coded.{coded, zonesIn}
+use Rattle.coded.specs.Records.{coded, zonesIn}
 use Rattle.coded.specs.CodedRead.{keptC, kept-in}
 use Rattle.coded.specs.CodedWalk.{zones-coded}
 use Rattle.coded.specs.Walked.{zonesAll}

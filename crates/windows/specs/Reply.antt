@@ -9,7 +9,7 @@ use lib.ListN.{length, replicate}
 use Rattle.answers.specs.Numbers.{Numbered, numbered, windowsAs, countsOf, noCounts}
 use Rattle.answers.specs.declared.windows.Answer.{Answer}
 use Rattle.answers.specs.declared.windows.Counts.{Counts}
-use Rattle.coded.specs.Coded.{zoneOf}
+use Rattle.coded.specs.Records.{zoneOf}
 use Rattle.cutting.specs.Cutting.{Zone, Listing, listed, refused, zonesOf}
 use Rattle.cutting.specs.Kept.{keptOf, cutOf}
 use Rattle.expr.specs.Three.{rangeList}

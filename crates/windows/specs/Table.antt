@@ -8,7 +8,8 @@ use borrow.Author.Tests.{lt-ltb, le-ltb, ltb-true, ltb-false}
 use lib.Dec.{ltb, eqb}
 use lib.ListN.{length, getD, take, replicate, length-append, length-map, length-take, length-replicate, List·getD-append}
 use lib.Seq.{getD-append-seam, getD-take, ext-getD}
-use Rattle.coded.specs.Coded.{zoneOf, zonesIn, taken}
+use Rattle.coded.specs.Records.{zoneOf, zonesIn}
+use Rattle.coded.specs.Coded.{taken}
 use Rattle.cutting.specs.Cutting.{Listing, listed, refused, zonesOf}
 use Rattle.cutting.specs.Cutting as cutting
 use Rattle.answers.specs.Numbers.{numbered}

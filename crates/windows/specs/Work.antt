@@ -8,7 +8,7 @@ use Rattle.answers.specs.Numbers.{Numbered, numbered, windowsAs, countsOf}
 use Rattle.answers.specs.declared.windows.Answer.{Answer}
 use Rattle.answers.specs.declared.windows.Answer.the-variants as answer
 use Rattle.answers.specs.declared.windows.Counts.{Counts}
-use Rattle.coded.specs.Coded.{zonesIn}
+use Rattle.coded.specs.Records.{zonesIn}
 use Rattle.coded.specs.CodedRead.{keptC}
 use Rattle.expr.specs.Three.{rangeList}
 use Rattle.expr.specs.declared.range.Ranges.{Ranges}

@@ -9,7 +9,7 @@ use zones::Zones;
 ghost use mathlib.Core.Path.{_≡_};
 ghost use Prim.Native.Nat.{_≤_};
 ghost use lib.ListN.{take};
-ghost use Rattle.search.specs.SearchLaws.{widths};
+ghost use Rattle.search.specs.Valuations.{widths};
 ghost use Rattle.expr.specs.Three.{rangeList};
 ghost use Rattle.sheet.specs.WellFormed.{WellFormed};
 ghost use Rattle.windows.specs.Reply.{sheetReply, replyOf};

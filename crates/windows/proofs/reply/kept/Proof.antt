@@ -5,7 +5,7 @@ use borrow.Author.Needs.{needs}
 use Prim.Native.Nat.{ℕ, _≤_, _-_, _+_, _*_}
 use lib.ListN.{length, take, drop, length-map}
 use Rattle.coded.specs.CodedRead.{keptC}
-use Rattle.search.specs.SearchLaws.{widths}
+use Rattle.search.specs.Valuations.{widths}
 use Rattle.expr.specs.Three.{rangeList}
 use mathlib.Core.Path.{_≡_, refl}
 use native.Mathlib.Omega.{arith}
