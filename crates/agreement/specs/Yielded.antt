@@ -32,7 +32,7 @@ use Rattle.cursor.specs.Cursor.{signedOf}
 use Rattle.guards.specs.Guards.{exprOf, boundOf, oneZero, rightField, coefficientField, guardAt, blankGuard, blankGuards, guardStep, guardsAt}
 use Rattle.route.specs.Route.{endsAt, linkStep, linksOf}
 use Rattle.sheet.specs.declared.Sheet.{Sheet}
-use Rattle.walk.specs.Records.{row}
+use Rattle.weights.specs.Records.{row}
 use Rattle.agreement.specs.Cases.{SheetRow, IntervalRow, countsIn, SheetYields, IntervalYields, at, rowA, rowStrict, rowPQ, rowQP, rowFree, rowNone, rowBack, rowDown, rowUp, rowTouch, rowApart, rowNever, ListedCases}
 use Rattle.coded.specs.Records.{rowOf, boundsOf, zoneOf, zonesIn}
 use Rattle.answers.specs.Numbers.{numbered}

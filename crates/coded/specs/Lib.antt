@@ -1,5 +1,5 @@
--- Walked is the whole route on the code's records. CodedWalk says that this is the cutting, on the records of Coded; CodedRead reads those
--- back; CodedTests, CodedTree and CodedGuard serve it.
+-- What is read first: Records, the code's records of zones. Walked is the whole route on them, and CodedWalk says that this is the cutting;
+-- CodedRead reads the records back; Coded, CodedTests, CodedTree and CodedGuard serve it.
 pub mod Coded
 pub mod CodedGuard
 pub mod CodedRead

@@ -1,11 +1,8 @@
--- The contents of a sheet file, and the bodies' parts (paper 01, "The sheet file", first item, and rows 2 and 3 of "When no piece is
--- given").
+-- The contents of a sheet file (paper 01, "The sheet file", first item, and rows 2 and 3 of "When no piece is given").
 use Prim.Native.Nat.{ℕ, _+_, _-_}
-use mathlib.Core.List.{List, []}
-use mathlib.Core.Bool.{Bool, cond, _&&_}
-use lib.ListN.{length, take, drop}
-use lib.Dec.{eqb}
-use Rattle.answers.specs.Numbers.{Numbered, numbered}
+use mathlib.Core.List.{List}
+use mathlib.Core.Bool.{Bool}
+use lib.ListN.{length}
 use Rattle.cursor.specs.declared.Cursor.{Cursor}
 use Rattle.contents.specs.declared.Contents.{Contents}
 use Rattle.cursor.specs.Cursor.{within, advanced, byteField, wordField}
@@ -57,37 +54,3 @@ fourOf s = entryField s 4 (thirdOf s) (length s - thirdOf s) (threeOf s)
 -- the contents: where reading them ended, and the ends of bodies 1, 2 and 3
 unfoldable pub contentsOf : List ℕ → Contents
 contentsOf s = record { cursor = fourOf s; first = firstOf s; second = secondOf s; third = thirdOf s }
-
--- the kinds that a file has
-unfoldable pub isKind : ℕ → Bool
-isKind kind = within 1 kind 4
-
--- where the body of a kind starts
-unfoldable pub startOf : Contents → ℕ → ℕ
-startOf contents kind =
-    cond (eqb kind 1) 22 (cond (eqb kind 2) (contents .first) (cond (eqb kind 3) (contents .second) (contents .third)))
-
--- where the body of a kind ends
-unfoldable pub endOf : List ℕ → Contents → ℕ → ℕ
-endOf s contents kind =
-    cond (eqb kind 1) (contents .first) (cond (eqb kind 2) (contents .second) (cond (eqb kind 3) (contents .third) (length s)))
-
--- the file is refused by neither 2 nor 3, and the kind is one of its four
-unfoldable pub hasBody : List ℕ → ℕ → Bool
-hasBody s kind = sized s && (contentsOf s .cursor .ok && isKind kind)
-
--- the body handed out for a kind: that part of the bytes, or an empty part
-unfoldable pub bodyOf : List ℕ → ℕ → List ℕ
-bodyOf s kind =
-    cond (hasBody s kind)
-    (take (endOf s (contentsOf s) kind - startOf (contentsOf s) kind) (drop (startOf (contentsOf s) kind) s))
-    []
-
--- its refusal: the file's comes before the kind's; 0 for a body
-unfoldable pub bodyRefusal : List ℕ → ℕ → Numbered
-bodyRefusal s kind =
-    cond (sized s)
-    (cond (contentsOf s .cursor .ok)
-    (cond (isKind kind) (numbered 0 0) (numbered 3 0))
-    (numbered 3 (contentsOf s .cursor .at)))
-    (numbered 2 0)

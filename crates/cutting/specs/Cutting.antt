@@ -38,6 +38,8 @@ pub record Zone : Type 0 where
 -- ---- one guard (paper: limit) on one matrix: what the rules ask, in order, knowing nothing of inequalities
 
 -- the part is cut; it stays, with a matrix; a number leaves the range (refusal 9); or an expression is asked ≥ 0
+-- Example: 1 - 0 ≤ p on the start's matrix after a wait asks -p - 1 (is p + (0, 1) tighter than zero?). If yes, it is `cut`; if no, p beats the none at
+-- (1, 0) with no test, and the entries follow: -p - 1 is asked again for (0, 0), and so on to `keep`.
 pub data Tree : Type 0 where
   cut : Tree
   keep : Bounds → Tree

@@ -1,3 +1,4 @@
+-- What is read first: File, the whole file. Accepted shows what holds of every sheet that is read; Examples are files of the paper, byte by byte.
 pub mod File
 pub mod Accepted
 pub mod Examples

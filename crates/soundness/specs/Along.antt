@@ -63,11 +63,6 @@ module _ (s : Sheet) (route : List ℕ) (zs : List Zone) (q : zonesAlong s route
   pub along-found : found v zs ≡ listOf (sweepAlong s route v)
   along-found = found-along s route v i zs q
 
-  -- what is found is Sweep's matrix
-  pub along-found-one : (m : Matrix (Limit ℤ)) → found v zs ≡ m ∷ [] → sweepAlong s route v ≡ kept m
-  along-found-one m e =
-      one-kept (sweepAlong s route v) m (subst (λ (l : List (Matrix (Limit ℤ))). List·Memᴰ m l) (sym e ∙ along-found) (List·Memᴰ·head refl))
-
   -- a zone that holds v has, with v put in, Sweep's matrix
   pub along-agree : (h : HeldBy v zs) → sweepAlong s route v ≡ kept (at v (h .zone .bounds))
   along-agree h =

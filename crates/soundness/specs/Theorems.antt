@@ -3,31 +3,23 @@
 -- tightest bounds.
 use mathlib.Core.Path.{_≡_}
 use mathlib.Core.Logic.{_↔_}
-use mathlib.Core.List.{List, [], _∷_}
-use mathlib.Core.Bool.{true}
-use Prim.Native.Nat.{ℕ, _≤_, _<_}
+use mathlib.Core.List.{List}
+use Prim.Native.Nat.{ℕ, _≤_}
 use lib.IntN.{ℤ}
-use lib.ListN.{length, getD}
-use Rattle.dbm.specs.Matrix.{Matrix, kept}
-use Rattle.expr.specs.Limit.{Limit}
+use Rattle.dbm.specs.Matrix.{kept}
 use Rattle.sheet.specs.declared.Sheet.{Sheet}
 use Rattle.sheet.specs.WellFormed.{WellFormed}
-use Rattle.concrete.specs.Proofs.{entries-tightest}
 use Rattle.concrete.specs.Walk.{sweepAt}
 use Rattle.timed.specs.Automaton.{routeOf}
 use Rattle.timed.specs.Runs.{Run, Tightest}
-use Rattle.soundness.specs.Along.{along-found, along-found-one, along-agree, along-tightest, along-held}
+use Rattle.soundness.specs.Along.{along-agree, along-tightest, along-held}
 use Rattle.cutting.specs.Cutting.{Zone, listed, zonesOf}
-use Rattle.cutting.specs.Held.{HeldBy, InRanges, holds, at, found, listOf}
+use Rattle.cutting.specs.Held.{HeldBy, InRanges, at}
 
 -- ---- the statements
 -- a zone holds v exactly if a run follows the route under v
 abbrev pub HeldIffRun : Type 0
 HeldIffRun = (s : Sheet) → WellFormed s → (zs : List Zone) → zonesOf s ≡ listed zs → (v : List ℤ) → InRanges s v → HeldBy v zs ↔ Run s v
-
--- the zones that hold v, with v put in, are what Sweep leaves
-abbrev pub FoundSweep : Type 0
-FoundSweep = (s : Sheet) (zs : List Zone) → zonesOf s ≡ listed zs → (v : List ℤ) → InRanges s v → found v zs ≡ listOf (sweepAt s v)
 
 -- a zone that holds v has, with v put in, Sweep's matrix
 abbrev pub MatricesAgree : Type 0
@@ -41,18 +33,7 @@ ZonesTightest =
     (s : Sheet) → WellFormed s → (zs : List Zone) → zonesOf s ≡ listed zs → (v : List ℤ) → InRanges s v → (h : HeldBy v zs)
     → (i j : ℕ) → i ≤ s .clocks → j ≤ s .clocks → Tightest s v i j (at v (h .zone .bounds) i j)
 
--- the same over what was found
-abbrev pub EntriesAgree : Type 0
-EntriesAgree =
-    (s : Sheet) → WellFormed s → (zs : List Zone) → zonesOf s ≡ listed zs → (v : List ℤ) → InRanges s v
-    → (m : Matrix (Limit ℤ)) → found v zs ≡ m ∷ []
-    → (sweepAt s v ≡ kept m) × ((i j : ℕ) → i ≤ s .clocks → j ≤ s .clocks → Tightest s v i j (m i j))
-
 -- ---- the proofs
-pub found-is-sweep : FoundSweep
-unfolding zonesOf sweepAt
-found-is-sweep s zs q v i = along-found s (routeOf s) zs q v i
-
 pub matrices-agree : MatricesAgree
 unfolding zonesOf sweepAt
 matrices-agree s zs q v i h = along-agree s (routeOf s) zs q v i h
@@ -60,11 +41,6 @@ matrices-agree s zs q v i h = along-agree s (routeOf s) zs q v i h
 pub zones-tightest : ZonesTightest
 unfolding zonesOf
 zones-tightest s f zs q v i h = along-tightest s (routeOf s) zs q v i f h
-
-pub entries-agree : EntriesAgree
-unfolding zonesOf sweepAt
-entries-agree s f zs q v i m e =
-    (along-found-one s (routeOf s) zs q v i m e, entries-tightest s f v m (along-found-one s (routeOf s) zs q v i m e))
 
 pub held-iff-run : HeldIffRun
 unfolding zonesOf

@@ -28,7 +28,7 @@ use Rattle.reading.specs.File.{Read, readAs, readOf}
 use Rattle.sweep.specs.Faithful.{sheet-faithful}
 use Rattle.sweep.specs.Reply.{SweepReply, blankReply, inRange, outside, orOutside, sheetReply, readReply, replyOf}
 use Rattle.sweep.specs.TableReply.{placedBy, placedOf, sweptTable, sheetTable}
-use Rattle.walk.specs.Tables.{sweepTable}
+use Rattle.walk.specs.Walked.{sweepTable}
 use Rattle.sweep.specs.declared.reply.Placed.{Placed}
 use Rattle.sweep.specs.declared.reply.Placed.the-variants.{Inside, Outside}
 

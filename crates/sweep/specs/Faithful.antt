@@ -22,7 +22,7 @@ use Rattle.sweep.specs.Reply.{swept, outside, orOutside, sheetReply}
 use Rattle.sweep.specs.ReplyLaws.{outside-none}
 use Rattle.concrete.specs.Sizes.{Thousands, start-visited, walk-visited}
 use Rattle.sweep.specs.TableReply.{sweptTable, sheetTable}
-use Rattle.walk.specs.Tables.{sweepTable}
+use Rattle.walk.specs.Walked.{sweepTable}
 use Rattle.concrete.specs.Walk.{sweepAlong, sweepAt}
 use Rattle.timed.specs.Automaton.{routeOf}
 use Rattle.timed.specs.Right.{steps-right}

@@ -16,8 +16,8 @@ use Rattle.expr.specs.declared.range.Range.{Range}
 use Rattle.expr.specs.declared.weight.Weight.{Weight}
 use Rattle.reading.specs.File.{Read, readOf}
 use Rattle.sheet.specs.declared.Sheet.{Sheet}
-use Rattle.walk.specs.Records.{row}
-use Rattle.walk.specs.Records.{zeroRow}
+use Rattle.weights.specs.Records.{row}
+use Rattle.weights.specs.Records.{zeroRow}
 use Rattle.concrete.specs.Walk.{sweepAt}
 use Rattle.sweep.specs.declared.reply.Reply.{Reply}
 use Rattle.sweep.specs.declared.reply.Row.{Row}

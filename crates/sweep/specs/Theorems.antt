@@ -19,13 +19,13 @@ use Rattle.reading.specs.File.{Fine}
 use Rattle.reading.specs.Accepted.{read-well-formed}
 use Rattle.reading.specs.File.{readOf}
 use Rattle.sheet.specs.declared.Sheet.{Sheet}
-use Rattle.walk.specs.Records.{row}
+use Rattle.weights.specs.Records.{row}
 use Rattle.walk.specs.Coded.{in-row, weighed-of}
 use Rattle.concrete.specs.Padding.{padded}
 use Rattle.concrete.specs.Proofs.{void-iff-no-run, entries-tightest}
 use Rattle.sweep.specs.Reply.{SweepReply, rowRecord, zeroRows, blankReply, swept, outside, orOutside, sheetReply, readReply, replyOf}
 use Rattle.sweep.specs.ReplyLaws.{inside-none}
-use Rattle.walk.specs.Records.{zeroWeight}
+use Rattle.weights.specs.Records.{zeroWeight}
 use Rattle.concrete.specs.Walk.{sweepAt}
 use Rattle.timed.specs.Runs.{Run, Tightest}
 

@@ -49,7 +49,7 @@ pub(crate) fn blank(answer: Answer) -> Reply
 fn swept(m: [[Weight; 5]; 5]) -> Reply
     ensures { λ r. ⌜ replyAs r ≡ sweptTable m ⌝ }
 {
-    if walk::is_void(m) {
+    if weights::is_void(m) {
         return blank(Answer::Void);
     }
     Reply {

@@ -155,10 +155,10 @@ fn with_part(h: u64, part: &[u8]) -> u64 {
 
 // The digest with the body of a kind: why it is refused, and its part.
 fn with_body(h: u64, file: &[u8], kind: u8) -> u64 {
-    let checked = contents::body_refusal(file, kind);
+    let checked = body::body_refusal(file, kind);
     let number = with_count(h, answers::file::number(checked));
     let place = with_count(number, answers::file::place(checked));
-    with_part(place, contents::body(file, kind))
+    with_part(place, body::body(file, kind))
 }
 
 // The digest of the bodies of the kinds 0 to 5.

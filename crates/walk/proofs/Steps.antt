@@ -15,58 +15,10 @@ use Rattle.guards.specs.declared.Guard.{Guard}
 use Rattle.automaton.specs.declared.Location.{Location}
 use Rattle.sheet.specs.declared.Sheet.{Sheet}
 use Rattle.automaton.specs.declared.Transition.{Transition}
-use Rattle.walk.specs.Tables.{Table, voidTable, entryOf, rowOf, isVoid, sumC, tighterC, limitedEntry, limitedTable, guardedTable, guardTable, guardsTable, stayTable, moveTable, walkTable}
-use Rattle.walk.specs.Records.{zeroWeight}
+use Rattle.weights.specs.Tables.{Table, voidTable, entryOf, rowOf, isVoid, sumC, tighterC, limitedEntry, limitedTable, guardedTable}
+use Rattle.walk.specs.Walked.{guardTable, guardsTable, stayTable, moveTable, walkTable}
+use Rattle.weights.specs.Records.{zeroWeight}
 use Rattle.sheet.specs.Lookup.{locationC, transitionC}
-
-pub list5 : {A : Type 0} {a b c d e a′ b′ c′ d′ e′ : A} → a ≡ a′ → b ≡ b′ → c ≡ c′ → d ≡ d′ → e ≡ e′
-    → _≡_ {A = List A} (a ∷ b ∷ c ∷ d ∷ e ∷ []) (a′ ∷ b′ ∷ c′ ∷ d′ ∷ e′ ∷ [])
-list5 p q r s t = λ i. p i ∷ q i ∷ r i ∷ s i ∷ t i ∷ []
-
-module _ (past : Bool) (was s add via : Weight) (t : Bool) (h : past ≡ false) (ev : via ≡ sumC s add) (et : t ≡ tighterC via was) where
-  pub entry-via : t ≡ true → via ≡ limitedEntry past was s add
-  unfolding limitedEntry
-  entry-via ht =
-      let k : tighterC (sumC s add) was ≡ true = sym (ap (λ (x : Weight). tighterC x was) ev) ∙ sym et ∙ ht in
-      rw (h, k) ev
-
-  pub entry-was : t ≡ false → was ≡ limitedEntry past was s add
-  unfolding limitedEntry
-  entry-was ht =
-      let k : tighterC (sumC s add) was ≡ false = sym (ap (λ (x : Weight). tighterC x was) ev) ∙ sym et ∙ ht in
-      rw (h, k) refl
-
--- ---- the rules for a guard
-module _ (m : Table) (clocks i j : ℕ) (e : Weight) where
-  pub guard-past-i : 4 < i → m ≡ guardedTable m clocks i j e
-  unfolding guardedTable
-  guard-past-i h = rw (lt-ltb 4 i h) refl
-
-  pub guard-past-j : i ≤ 4 → 4 < j → m ≡ guardedTable m clocks i j e
-  unfolding guardedTable
-  guard-past-j h k = rw (le-ltb 4 i h, lt-ltb 4 j k) refl
-
-  module _ (hi : i ≤ 4) (hj : j ≤ 4) (v : Bool) (ev : v ≡ isVoid m) where
-    pub guard-void : v ≡ true → m ≡ guardedTable m clocks i j e
-    unfolding guardedTable
-    guard-void h = rw (le-ltb 4 i hi, le-ltb 4 j hj, sym ev ∙ h) refl
-
-    module _ (hv : v ≡ false) (s : Weight) (t : Bool) (es : s ≡ sumC e (entryOf m j i)) (et : t ≡ tighterC s zeroWeight) where
-      cut : (b : Bool) → t ≡ b → tighterC (sumC e (entryOf m j i)) zeroWeight ≡ b
-      cut b h = sym (ap (λ (x : Weight). tighterC x zeroWeight) es) ∙ sym et ∙ h
-
-      pub guard-cut : t ≡ true → voidTable ≡ guardedTable m clocks i j e
-      unfolding guardedTable
-      guard-cut h = rw (le-ltb 4 i hi, le-ltb 4 j hj, sym ev ∙ hv, cut true h) refl
-
-      module _ (ht : t ≡ false) (u : Bool) (eu : u ≡ tighterC e (entryOf m i j)) where
-        pub guard-limited : u ≡ true → limitedTable m clocks i j e ≡ guardedTable m clocks i j e
-        unfolding guardedTable
-        guard-limited h = rw (le-ltb 4 i hi, le-ltb 4 j hj, sym ev ∙ hv, cut false ht, sym eu ∙ h) refl
-
-        pub guard-stays : u ≡ false → m ≡ guardedTable m clocks i j e
-        unfolding guardedTable
-        guard-stays h = rw (le-ltb 4 i hi, le-ltb 4 j hj, sym ev ∙ hv, cut false ht, sym eu ∙ h) refl
 
 -- ---- the loop over guards: what is left of the list takes the matrix to where the whole list takes it
 pub size-is : {A : Type 0} (n k most : ℕ) (xs : List A) → n ≡ min k most → length xs ≡ most → (n ≤ most) × (n ≡ length (take k xs))

@@ -12,9 +12,9 @@ use Rattle.dbm.specs.Matrix.{Matrix, Outcome, void, kept}
 use Rattle.expr.specs.Limit.{Limit, none, limit, sumW, tighterW, zeroW, saturated}
 use Rattle.expr.specs.Three.{weighed, weightOf}
 use Rattle.expr.specs.declared.weight.Weight.{Weight}
-use Rattle.walk.specs.Tables.{Table, voidTable, rowOf, entryOf, isVoid, sumC, tighterC}
-use Rattle.walk.specs.Records.{zeroWeight}
-use Rattle.walk.specs.Records.{row}
+use Rattle.weights.specs.Tables.{Table, voidTable, rowOf, entryOf, isVoid, sumC, tighterC}
+use Rattle.weights.specs.Records.{zeroWeight}
+use Rattle.weights.specs.Records.{row}
 
 -- rows 0 to 4
 unfoldable pub table : Matrix (Limit ℤ) → Table

@@ -19,12 +19,13 @@ use Rattle.expr.specs.Limit.{Limit, none, sumW, tighterW, zeroW, saturated, atV
 use Rattle.expr.specs.Three.{weightOf, limitOf}
 use Rattle.expr.specs.declared.weight.Weight.{Weight}
 use Rattle.guards.specs.declared.Guard.{Guard}
-use Rattle.walk.specs.Records.{zeroWeight}
-use Rattle.walk.specs.Tables.{voidTable, rowOf, entryOf, sumC, tighterC, limitedEntry, limitedRow, limitedLine}
-use Rattle.walk.specs.Tables.{limitedTable, guardedTable, delayedRow, delayedTable, resetEntry, resetRow, resetLine, resetTable}
-use Rattle.walk.specs.Tables.{resetIf, resetsTable, guardTable, guardsTable}
+use Rattle.weights.specs.Records.{zeroWeight}
+use Rattle.weights.specs.Tables.{voidTable, rowOf, entryOf, sumC, tighterC, limitedEntry, limitedRow, limitedLine}
+use Rattle.weights.specs.Tables.{limitedTable, guardedTable, delayedRow, delayedTable, resetEntry, resetRow, resetLine, resetTable}
+use Rattle.weights.specs.Tables.{resetIf, resetsTable}
+use Rattle.walk.specs.Walked.{guardTable, guardsTable}
 use Rattle.concrete.specs.Sizes.{loop-exact, way-exact}
-use Rattle.walk.specs.Records.{row}
+use Rattle.weights.specs.Records.{row}
 use Rattle.walk.specs.Coded.{table, coded, tighter-of, sum-of, cond-of, row-at, in-row, entry-at, table-not-void, row-of}
 use Rattle.walk.specs.Coded.{table-of, row-same}
 

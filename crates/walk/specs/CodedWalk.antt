@@ -17,11 +17,12 @@ use Rattle.sheet.specs.Lookup.{locationC, transitionC}
 use Rattle.timed.specs.Indexed.{location-in, transition-in}
 use Rattle.timed.specs.Right.{AllOf, StepRight, filled-all, steps-right, route-delays}
 use Rattle.timed.specs.Steps.{Step, delay, guard, resets, staySteps, moveSteps, stepsFrom, stepsOf, delays}
-use Rattle.walk.specs.Tables.{Table, startTable, voidTable, guardedTable, delayedTable, guardTable, guardsTable, resetsTable}
-use Rattle.walk.specs.Tables.{stayTable, moveTable, walkTable, sweepTable}
+use Rattle.weights.specs.Tables.{Table, startTable, voidTable, guardedTable, delayedTable, resetsTable}
+use Rattle.walk.specs.Walked.{guardTable, guardsTable}
+use Rattle.walk.specs.Walked.{stayTable, moveTable, walkTable, sweepTable}
 use Rattle.concrete.specs.Walk.{andThen, step, walk, sweepAlong, sweepAt}
 use Rattle.concrete.specs.Sizes.{Thousands, Visited, guard-size, start-visited, after, after-delays, step-visited, visited-within}
-use Rattle.walk.specs.Records.{row}
+use Rattle.weights.specs.Records.{row}
 use Rattle.walk.specs.Coded.{table, coded}
 use Rattle.walk.specs.CodedSteps.{delayed-coded, delayed-void, guarded-coded, guarded-void, resets-coded, resets-void}
 

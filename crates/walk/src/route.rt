@@ -1,5 +1,4 @@
 // The walk along a sheet's route at one valuation.
-use crate::matrix;
 use automaton::Location;
 use automaton::Transition;
 use expr::Valuation;
@@ -10,7 +9,8 @@ ghost use mathlib.Core.Path.{_≡_};
 ghost use Prim.Native.Nat.{min};
 ghost use lib.ListN.{take};
 ghost use Rattle.expr.specs.Three.{point};
-ghost use Rattle.walk.specs.Tables.{guardTable, guardsTable, stayTable, moveTable, sweepTable};
+ghost use Rattle.weights.specs.Tables.{startTable};
+ghost use Rattle.walk.specs.Walked.{guardTable, guardsTable, stayTable, moveTable, sweepTable};
 
 // The matrix after a guard (paper: limit) with v put in.
 fn guard(m: [[Weight; 5]; 5], clocks: usize, v: Valuation, g: Guard) -> [[Weight; 5]; 5]
@@ -19,7 +19,7 @@ fn guard(m: [[Weight; 5]; 5], clocks: usize, v: Valuation, g: Guard) -> [[Weight
     let i = g.left as usize;
     let j = g.right as usize;
     let bound = g.bound;
-    matrix::guarded(m, clocks, i, j, bound.at(v))
+    weights::guarded(m, clocks, i, j, bound.at(v))
 }
 
 // The matrix after the first count guards, in order.
@@ -49,7 +49,7 @@ fn stay(m: [[Weight; 5]; 5], clocks: usize, v: Valuation, here: Location) -> [[W
     ensures { λ r. ⌜ r ≡ stayTable m clocks (point v) here ⌝ }
 {
     let guards = here.guards;
-    guards_of(matrix::delayed(m, clocks), clocks, v, here.count, guards)
+    guards_of(weights::delayed(m, clocks), clocks, v, here.count, guards)
 }
 
 // The matrix after a transition (paper: move): its guards, then its resets.
@@ -58,7 +58,14 @@ fn moved(m: [[Weight; 5]; 5], clocks: usize, v: Valuation, t: Transition) -> [[W
 {
     let guards = t.guards;
     let limited = guards_of(m, clocks, v, t.count, guards);
-    matrix::resets(limited, clocks, t.resets)
+    weights::resets(limited, clocks, t.resets)
+}
+
+// All entries zero, not strict.
+fn start() -> [[Weight; 5]; 5]
+    ensures { λ r. ⌜ r ≡ startTable ⌝ }
+{
+    [[Weight::ZERO; 5]; 5]
 }
 
 // What is left of all zero after the whole route.
@@ -66,7 +73,7 @@ pub fn walk(s: Sheet, v: Valuation) -> [[Weight; 5]; 5]
     ensures { λ r. ⌜ r ≡ sweepTable s (point v) ⌝ }
 {
     let n = numbers::at_most(s.moves, 32);
-    let mut m = matrix::start();
+    let mut m = start();
     let mut l = 0;
     let mut k = 0;
     while k < n {

@@ -1,6 +1,7 @@
 -- The guard's weight is that of `guardTable`.
 use Rattle.expr.specs.declared.weight.Weight.{Weight}
-use Rattle.walk.specs.Tables.{guardTable, guardedTable}
+use Rattle.walk.specs.Walked.{guardTable}
+use Rattle.weights.specs.Tables.{guardedTable}
 use borrow.Author.Needs.{needs}
 use mathlib.Core.Path.{_∙_, ap}
 use Rattle.walk.proofs.route.guard.Statement.{statement}

@@ -1,5 +1,6 @@
 -- The guards, then the resets, as in `moveTable`.
-use Rattle.walk.specs.Tables.{Table, moveTable, resetsTable}
+use Rattle.weights.specs.Tables.{Table, resetsTable}
+use Rattle.walk.specs.Walked.{moveTable}
 use borrow.Author.Needs.{needs}
 use mathlib.Core.Path.{ap, _∙_}
 use Rattle.walk.proofs.route.moved.Statement.{statement}

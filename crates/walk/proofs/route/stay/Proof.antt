@@ -1,6 +1,7 @@
 -- A wait, then the invariants, as in `stayTable`.
 use Rattle.expr.specs.Three.{point}
-use Rattle.walk.specs.Tables.{Table, stayTable, guardsTable}
+use Rattle.weights.specs.Tables.{Table}
+use Rattle.walk.specs.Walked.{stayTable, guardsTable}
 use borrow.Author.Needs.{needs}
 use lib.ListN.{take}
 use mathlib.Core.Path.{ap, _∙_}

@@ -1,7 +1,8 @@
 -- The loop's invariant: what is left of the route takes the matrix to where the whole route takes it.
 use Prim.Native.Nat.{ℕ, _≤_, _-_}
 use Rattle.expr.specs.Three.{point}
-use Rattle.walk.specs.Tables.{Table, walkTable, sweepTable}
+use Rattle.weights.specs.Tables.{Table}
+use Rattle.walk.specs.Walked.{walkTable, sweepTable}
 use Rattle.sheet.specs.Lookup.{transitionC}
 use borrow.Author.Needs.{needs}
 use lib.ListN.{length, take, drop}

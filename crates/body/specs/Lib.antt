@@ -1,0 +1,2 @@
+-- Body: the part that is handed out, and its refusal.
+pub mod Body

@@ -1,0 +1,37 @@
+-- What the code does along a route, step by step, with its matrices as lists of rows. CodedWalk says that this is concrete/Walk.
+use mathlib.Core.List.{List, [], _∷_}
+use Prim.Native.Nat.{ℕ}
+use lib.IntN.{ℤ}
+use lib.ListN.{take}
+use Rattle.automaton.specs.declared.Location.{Location}
+use Rattle.automaton.specs.declared.Transition.{Transition}
+use Rattle.expr.specs.Limit.{atV}
+use Rattle.expr.specs.Three.{weightOf, limitOf}
+use Rattle.guards.specs.declared.Guard.{Guard}
+use Rattle.sheet.specs.Lookup.{locationC, transitionC}
+use Rattle.sheet.specs.declared.Sheet.{Sheet}
+use Rattle.weights.specs.Tables.{Table, startTable, guardedTable, delayedTable, resetsTable}
+
+-- a guard with v put in
+unfoldable pub guardTable : Table → ℕ → List ℤ → Guard → Table
+guardTable m clocks v g = guardedTable m clocks (g .left) (g .right) (weightOf (atV v (limitOf (g .bound))))
+
+-- guards in file order
+unfoldable pub guardsTable : Table → ℕ → List ℤ → List Guard → Table
+guardsTable m clocks v [] = m
+guardsTable m clocks v (g ∷ gs) = guardsTable (guardTable m clocks v g) clocks v gs
+
+unfoldable pub stayTable : Table → ℕ → List ℤ → Location → Table
+stayTable m clocks v here = guardsTable (delayedTable m clocks) clocks v (take (here .count) (here .guards))
+
+unfoldable pub moveTable : Table → ℕ → List ℤ → Transition → Table
+moveTable m clocks v t = resetsTable (guardsTable m clocks v (take (t .count) (t .guards))) clocks (t .resets)
+
+unfoldable pub walkTable : Sheet → List ℤ → ℕ → List ℕ → Table → Table
+walkTable s v l [] m = stayTable m (s .clocks) v (locationC s l)
+walkTable s v l (n ∷ ns) m =
+    walkTable s v (transitionC s n .to) ns (moveTable (stayTable m (s .clocks) v (locationC s l)) (s .clocks) v (transitionC s n))
+
+-- the whole route
+unfoldable pub sweepTable : Sheet → List ℤ → Table
+sweepTable s v = walkTable s v 0 (take (s .moves) (s .route)) startTable
