@@ -1,4 +1,4 @@
-/* Calls Sweep as the drawing program does: a sheet file and up to three numbers, one for each allowance.
+/* Calls Sweep as the drawing program does: a sheet file and as many numbers as it has allowances, none to three.
  *
  *     examples/build && target/examples/sweep SHEET [P [Q [R]]]
  */
@@ -11,6 +11,9 @@
 
 /* One byte more than a sheet may have, so that a longer file is refused and not cut. */
 enum { MOST = 4097 };
+
+/* The byte of a sheet that has the count of its allowances. */
+enum { ALLOWANCES = 22 };
 
 static const char *meaning(int64_t answer) {
     switch (answer) {
@@ -60,6 +63,12 @@ int main(int count, char **words) {
     }
     fclose(file);
     int64_t answer = sweep_sheet(sheet, length, at[0], at[1], at[2]);
+    int is_sheet = answer == SWEEP_RUN || answer == SWEEP_VOID || answer == SWEEP_OUTSIDE;
+    if (is_sheet && count - 2 != sheet[ALLOWANCES]) {
+        fprintf(stderr, "%s: %s: numbers given: %d; expected one for each allowance: %d\n", words[0], words[1], count - 2,
+                sheet[ALLOWANCES]);
+        return 2;
+    }
     printf("%lld %s\n", (long long)answer, meaning(answer));
     return answer == SWEEP_RUN || answer == SWEEP_VOID ? 0 : 1;
 }

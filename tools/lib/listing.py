@@ -3,10 +3,13 @@
 import re
 from typing import NamedTuple
 
-REFUSED = re.compile(r"refused (\d+) place (\d+)")
-COUNTS = re.compile(r"pieces (\d+) kept (\d+) cut (\d+)")
-INEQUALITY = re.compile(r"ineq (-?\d+) (-?\d+) (-?\d+) (-?\d+)")
-BOUND = re.compile(r"bound (\d) (\d) (?:(none)|(le|lt) (-?\d+) (-?\d+) (-?\d+) (-?\d+))")
+from faults import plain
+
+COUNT, NUMBER = "([0-9]{1,9})", "(-?[0-9]{1,9})"  # no number of a listing is longer
+REFUSED = re.compile(f"refused {COUNT} place {COUNT}")
+COUNTS = re.compile(f"pieces {COUNT} kept {COUNT} cut {COUNT}")
+INEQUALITY = re.compile(f"ineq {NUMBER} {NUMBER} {NUMBER} {NUMBER}")
+BOUND = re.compile(f"bound ([0-9]) ([0-9]) (?:(none)|(le|lt) {NUMBER} {NUMBER} {NUMBER} {NUMBER})")
 
 
 class ListingError(Exception):
@@ -72,7 +75,7 @@ class Lines:
         return found
 
     def error(self, expected):
-        what = f"found '{self.lines[self.at]}'" if self.at < len(self.lines) else "the listing ends"
+        what = f"found '{plain(self.lines[self.at][:60])}'" if self.at < len(self.lines) else "the listing ends"
         return ListingError(f"line {self.at + 1}: {what}; expected {expected}")
 
     def done(self):

@@ -1,8 +1,8 @@
 """Pieces as a picture: one colour a piece, settings without a run hatched. svg.py and png.py draw its shapes.
 
 One allowance gives a strip, two give a chart, three a chart for each value of the third, none a line of text.
-Each setting is a cell. The panel is hatched first and the pieces are laid over it, each with a rectangle for
-every row of its cells.
+Each setting is a cell. The panel is hatched first and the regions are laid over it, each with a rectangle for
+every row of its cells. A region is a piece, or all settings with a run.
 """
 
 import textwrap
@@ -10,7 +10,7 @@ from typing import NamedTuple
 
 import settings
 from shapes import CUT, NONE, Box, Cells, Grid, Picture, Tick, Words
-from wording import inequality_words, plural
+from wording import inequalities_words, plural
 
 # Okabe and Ito's colours, which people with any colour vision can tell apart, and an indigo
 PALETTE = ("#56B4E9", "#E69F00", "#009E73", "#F0E442", "#0072B2", "#D55E00", "#CC79A7", "#332288")
@@ -25,6 +25,7 @@ NUMBERS = 22  # the height of the numbers below a panel
 NAME = 18  # the height of an allowance's name at its axis
 GAP = 14  # between panels
 HEAD = 20  # the height of a panel's own title
+LONGEST_TITLE, LONGEST_HEADING = 40, 110
 NO_BREAK = "\u00a0"
 
 
@@ -45,8 +46,17 @@ class Scale(NamedTuple):
         return range(self.low + -self.low % step, self.high + 1, step)
 
 
+class Region(NamedTuple):
+    """What gets one colour: its label in the charts, its words in the legend, and its settings as rows (value of the
+    second allowance, of the third, low and high of the first)."""
+
+    label: str
+    words: str
+    rows: list
+
+
 class Panel(NamedTuple):
-    """One chart: where it stands, the room for its name across, its axes, and the cells of each piece as rows
+    """One chart: where it stands, the room for its name across, its axes, and the cells of each region as rows
     (value up, low, high across)."""
 
     x: int
@@ -57,26 +67,42 @@ class Panel(NamedTuple):
     rows: list
 
 
-def draw(found, ranges, names, title):
-    """The whole picture."""
-    counts = [settings.count(piece, ranges) for piece in found.pieces]
-    heading = (f"{title}: {plural(len(found.pieces), 'piece')}, {plural(found.kept, 'setting')} with a run, "
-               f"{found.cut:,} without")
+def piece_regions(windows, ranges, names):
+    """A region for each piece."""
+    return [Region(str(window.number), key_text(window, names), list(settings.rows(window.where, ranges)))
+            for window in windows]
+
+
+def draw(regions, cut, ranges, names, heading):
+    """The whole picture: the regions, so many settings without a run, and what it is called."""
+    heading = shortened(heading, LONGEST_HEADING)
     if not ranges:
-        line = f"{title}: the only setting has {'a run (piece 0)' if found.kept else 'no run'}"
-        width, height = 2 * MARGIN + LETTER * len(line), 2 * MARGIN + LINE
-        return Picture(width, height, line, [Words(MARGIN, MARGIN + 12, line)])
-    parts, width, bottom = charts(found, ranges, names)
+        width, height = 2 * MARGIN + 9 * len(heading), 2 * MARGIN + LINE
+        return Picture(width, height, heading, [Words(MARGIN, MARGIN + 12, heading, heading=True)])
+    parts, width, bottom = charts(regions, ranges, names)
     width = max(width, LEAST_WIDTH, 2 * MARGIN + 9 * len(heading))
-    key, height = legend(found, counts, names, bottom + GAP, width)
+    key, height = legend(regions, cut, bottom + GAP, width)
     top = Words(MARGIN, MARGIN + 10, heading, heading=True)
     return Picture(width, height, heading, [top, *parts, *key])
+
+
+def heading_words(title, found, ranges):
+    """What the picture of a listing is called."""
+    title = shortened(title, LONGEST_TITLE)
+    if not ranges:
+        return f"{title}: the only setting has {'a run (piece 0)' if found.kept else 'no run'}"
+    return (f"{title}: {plural(len(found.pieces), 'piece')}, {plural(found.kept, 'setting')} with a run, "
+            f"{found.cut:,} without")
+
+
+def shortened(text, length):
+    return text if len(text) <= length else text[:length - 1] + "…"
 
 
 # Charts
 
 
-def charts(found, ranges, names):
+def charts(regions, ranges, names):
     """All panels, the width they take, and where they end."""
     across, up = scales(ranges, names)
     titles = panel_titles(ranges, names)
@@ -84,17 +110,19 @@ def charts(found, ranges, names):
     left = MARGIN + (NAME + LETTER * number_width(up) + 8 if len(ranges) > 1 else 0)
     top = MARGIN + LINE + GAP
     room = max(across.length(), *(LETTER * len(title) for title in titles.values()))
-    step_x, step_y = room + GAP, up.length() + head + (GAP if head else 0)
+    gap = max(GAP, LETTER * number_width(across) + 6)  # the numbers of neighbours do not touch
+    step_x, step_y = room + gap, up.length() + head + (GAP if head else 0)
     columns = columns_for(len(titles), step_x)
-    by_slice = rows_by_slice(found, ranges)
+    by_slice = [slices_of(region) for region in regions]
+    labels = [region.label for region in regions]
     parts = []
     for k, (value, title) in enumerate(titles.items()):
         x, y = left + k % columns * step_x, top + k // columns * step_y + head
         panel = Panel(x, y, room, across, up, [slices.get(value, []) for slices in by_slice])
-        parts += chart(panel, k % columns == 0 and len(ranges) > 1, k + columns >= len(titles))
+        parts += chart(panel, labels, k % columns == 0 and len(ranges) > 1, k + columns >= len(titles))
         parts += [Words(x, y - 6, title)] if title else []
     bottom = top + -(-len(titles) // columns) * step_y + NUMBERS + NAME
-    return parts, left + columns * step_x - GAP + MARGIN, bottom
+    return parts, left + columns * step_x - gap + MARGIN, bottom
 
 
 def panel_titles(ranges, names):
@@ -126,24 +154,22 @@ def columns_for(count, pitch):
     return -(-count // rows)
 
 
-def rows_by_slice(found, ranges):
-    """For each piece, by the value of the third allowance: its rows (value up, low, high across)."""
-    pieces = []
-    for piece in found.pieces:
-        slices = {}
-        for q, r, low, high in settings.rows(piece, ranges):
-            slices.setdefault(r, []).append((q, low, high))
-        pieces.append(slices)
-    return pieces
+def slices_of(region):
+    """By the value of the third allowance, the rows of a region (value up, low, high across)."""
+    slices = {}
+    for q, r, low, high in region.rows:
+        slices.setdefault(r, []).append((q, low, high))
+    return slices
 
 
-def chart(panel, numbers_up, numbers_across):
-    """One panel: the hatched box, the pieces with their numbers, lines between cells, and the axes."""
+def chart(panel, labels, numbers_up, numbers_across):
+    """One panel: the hatched box, the regions with their labels, lines between cells, and the axes."""
     box = panel.x, panel.y, panel.across.length(), panel.up.length()
     parts = [Box(*box, CUT, role="cut")]
     parts += [cells(panel, number, rows) for number, rows in enumerate(panel.rows) if rows]
     parts += cell_lines(panel)
-    parts += [part for number, rows in enumerate(panel.rows) for part in label(panel, number, rows)]
+    for number, (text, rows) in enumerate(zip(labels, panel.rows)):
+        parts += label(panel, number, text, rows) if text else []
     parts.append(Box(*box, NONE, edge=True))
     if numbers_across:
         parts += axis_across(panel)
@@ -153,7 +179,7 @@ def chart(panel, numbers_up, numbers_across):
 
 
 def cells(panel, number, rows):
-    """The cells of one piece."""
+    """The cells of one region."""
     return Cells(number, colour(number), tuple(row_place(panel, row) for row in rows))
 
 
@@ -174,9 +200,9 @@ def cell_lines(panel):
     return [Grid(panel.x, panel.y, right, bottom, across, down)] if across or down else []
 
 
-def label(panel, number, rows):
-    """The piece's number, as near to its middle as there is room for it, or nothing."""
-    wide = -(-(LETTER * len(str(number)) + 4) // panel.across.cell)
+def label(panel, number, text, rows):
+    """The region's label, as near to its middle as there is room for it, or nothing."""
+    wide = -(-(LETTER * len(text) + 4) // panel.across.cell)
     tall = -(-14 // panel.up.cell)
     places = [place for k in range(len(rows) - tall + 1) for place in [label_place(rows[k:k + tall], wide)] if place]
     if not places:
@@ -186,7 +212,7 @@ def label(panel, number, rows):
                                  key=lambda place: (place[0] - x) ** 2 + (place[1] - y) ** 2)
     at_x = panel.x + (value_across - panel.across.low + 0.5) * panel.across.cell
     at_y = panel.y + (panel.up.high - value_up + 0.5) * panel.up.cell + 4
-    return [Words(at_x, at_y, str(number), "middle", ink(number))]
+    return [Words(at_x, at_y, text, "middle", ink(number))]
 
 
 def label_place(rows, wide):
@@ -240,12 +266,11 @@ def fitted(name, room):
 # Legend and colours
 
 
-def legend(found, counts, names, top, width):
-    """What the colours mean, a line or more for each piece, and where that ends."""
-    entries = [(colour(number), key_text(number, piece, count, names))
-               for number, (piece, count) in enumerate(zip(found.pieces, counts))]
-    if found.cut:
-        entries.append((CUT, f"no run, {plural(found.cut, 'setting')}"))
+def legend(regions, cut, top, width):
+    """What the colours mean, a line or more for each region, and where that ends."""
+    entries = [(colour(number), region.words) for number, region in enumerate(regions)]
+    if cut:
+        entries.append((CUT, f"no run, {plural(cut, 'setting')}"))
     parts = []
     y = top
     for fill, text in entries:
@@ -257,14 +282,14 @@ def legend(found, counts, names, top, width):
     return parts, y + MARGIN
 
 
-def key_text(number, piece, count, names):
+def key_text(window, names):
     """A piece with its inequalities, which are not parted at the end of a line."""
-    conditions = (inequality_words(e, names.allowance).replace(" ", NO_BREAK) for e in piece.inequalities)
-    return f"piece {number}, {plural(count, 'setting')}: {', '.join(conditions) or 'all settings'}"
+    conditions = [words.replace(" ", NO_BREAK) for words in inequalities_words(window.where, names.allowance)]
+    return f"piece {window.number}, {plural(window.settings, 'setting')}: {', '.join(conditions) or 'all settings'}"
 
 
 def colour(number):
-    """The colour of a piece: the palette, and then the palette mixed with white or black."""
+    """The colour of a region: the palette, and then the palette mixed with white or black."""
     grey, part = SHADES[number // len(PALETTE) % len(SHADES)]
     mixed = (round(c * (1 - part) + grey * part) for c in channels(PALETTE[number % len(PALETTE)]))
     return "#" + "".join(f"{c:02x}" for c in mixed)
@@ -275,6 +300,6 @@ def channels(code):
 
 
 def ink(number):
-    """Black or white, whichever is easier to read on the piece's colour."""
+    """Black or white, whichever is easier to read on the region's colour."""
     red, green, blue = channels(colour(number))
     return "#000000" if 299 * red + 587 * green + 114 * blue > 110_000 else "#ffffff"

@@ -1,94 +1,173 @@
-"""What is printed of a listing: the pieces in words, one setting, or a refusal."""
+"""What the command says of an answer, as lines of text."""
 
-import listing
 import refusals
 import settings
 import wording
-from inputs import Fault
+from beginnings import limit_of, stage_of
+from sheet_text import limit_words
+from windows import grouped
+from wording import listed, plural, setting_words
+
+AT_END = "at the end of the route, in minutes"
 
 
-def read_listing(text, name, sheet):
-    """The listing in a text, if it can be one of the sheet."""
-    try:
-        found = listing.parse(text, sheet.watches)
-    except listing.ListingError as why:
-        raise Fault(f"{name}: {why}") from why
-    judge_counts(found, name, sheet)
-    return found
+def counts_line(found):
+    return f"{plural(len(found.pieces), 'piece')}: {plural(found.kept, 'setting')} with a run, {found.cut:,} without"
 
 
-def judge_counts(found, name, sheet):
-    """A listing of another sheet is told by its counts."""
-    everything = settings.count_all(sheet.ranges)
-    if found.kept + found.cut != everything:
-        raise Fault(f"{name}: kept and cut make {found.kept + found.cut} settings; "
-                    f"expected {everything}, as many as the sheet's ranges hold: is it the listing of this sheet?")
-    held = sum(settings.count(piece, sheet.ranges) for piece in found.pieces)
-    if held != found.kept:
-        raise Fault(f"{name}: the pieces hold {held} settings of the sheet's ranges; "
-                    f"expected {found.kept}, as the listing says: is it the listing of this sheet?")
+# Pieces
 
 
-def refusal_text(refusal):
-    """A refusal in words."""
-    number, place = refusal
-    return f"refused {number} place {place}: {refusals.meaning(number, place)}\n"
+def pieces_lines(windows, found, names):
+    """All pieces in words, those with the same bounds together."""
+    lines = [counts_line(found)]
+    for group in grouped(windows):
+        lines += ["", *group_lines(group, names)]
+        lines += [f"  {AT_END}", *bounds_lines(group[0].piece, names, wording.with_names(names.allowance))]
+    return lines
 
 
-def visit_text(place, sheet, names):
+def group_lines(group, names):
+    """Which pieces a group has, and where each holds."""
+    if len(group) == 1:
+        return [window_words(group[0]), *where_lines(group[0], names, "  ")]
+    total = sum(window.settings for window in group)
+    lines = [f"pieces {listed(str(window.number) for window in group)}, {plural(total, 'setting')}, the same bounds"]
+    for window in group:
+        lines += [f"  {window_words(window)}", *where_lines(window, names, "    ")]
+    return lines
+
+
+def window_words(window):
+    return f"piece {window.number}, {plural(window.settings, 'setting')}"
+
+
+def where_lines(window, names, indent):
+    if not window.where:
+        return [f"{indent}holds everywhere in the ranges"]
+    words = wording.inequalities_words(window.where, names.allowance)
+    return [f"{indent}holds where", *(f"{indent}  {word}" for word in words)]
+
+
+def bounds_lines(piece, names, words):
+    return [f"    {line}" for line in wording.bounds_words(piece, names.watch, words)]
+
+
+# One setting
+
+
+def setting_lines(found, setting, sheet, names):
+    """Which piece holds a setting, its bounds with the setting put in, and how far each allowance can move."""
+    lines = [f"at {setting_words(setting, names)}"]
+    number = settings.holder(found.pieces, setting)
+    if number is None:
+        lines.append("no piece: no run")
+    else:
+        lines += held_lines(f"piece {number}", found.pieces[number], setting, names)
+    return lines + room_lines(settings.room(found.pieces, setting, sheet.ranges), setting, names, number is not None)
+
+
+def held_lines(what, piece, setting, names):
+    return [f"{what}: {AT_END}", *bounds_lines(piece, names, wording.with_setting(setting))]
+
+
+def room_lines(room, setting, names, held):
+    """How far each allowance can move with the others as they are, or how far it must."""
+    if not setting:
+        return []
+    if held:
+        return ["how far each can move, the others as they are, and a run is left",
+                *(f"    {name} from {low} to {high}: {at - low} down, {high - at} up"
+                  for name, at, (low, high) in zip(names.allowance, setting, room))]
+    ways = [f"    {name} = {at}" for name, ends in zip(names.allowance, room) for at in ends if at is not None]
+    return ["one change that gives a run, the others as they are", *(ways or ["    there is none"])]
+
+
+def sweep_lines(setting, names, run, found, refusal, piece):
+    """What Sweep says of a setting, and Windows beside it. Where Windows refuses the whole sheet, the piece is that of the
+    sheet with its ranges narrowed to the setting."""
+    lines = [f"at {setting_words(setting, names)}",
+             "Sweep: a run follows the route" if run else "Sweep: no run follows the route"]
+    if refusal:
+        lines.append(f"Windows: refuses the whole sheet ({refusal_words(refusal)});")
+        lines.append("with the ranges narrowed to this setting it agrees: " + ("its piece holds it" if run else "no piece"))
+        number = 0
+    else:
+        number = settings.holder(found.pieces, setting)
+        lines.append(f"Windows: piece {number} holds it; the two agree" if run else "Windows: no piece holds it; the two agree")
+    return lines + (held_lines(f"the matrix of piece {number} with the setting put in", piece, setting, names) if run else [])
+
+
+# Refusals, and where settings are lost
+
+
+def refusal_words(refusal):
+    return f"refused {refusal.number} place {refusal.place}"
+
+
+def refusal_line(refusal):
+    return f"{refusal_words(refusal)}: {refusals.meaning(*refusal)}"
+
+
+def visit_line(place, sheet, names):
     """The stage of a visit, and the move that leaves it."""
-    if place > len(sheet.route):
-        return ""
-    stage = sheet.moves[sheet.route[place - 1]].end if place else 0
-    text = f"met in stage '{names.stage[stage]}'"
+    text = f"met in stage '{names.stage[stage_of(sheet, place)]}'"
     if place < len(sheet.route):
         text += f" or at move '{names.move[sheet.route[place]]}', which leaves it"
-    return text + "\n"
-
-
-def pieces_text(found, sheet, names, everything=False):
-    """All pieces in words."""
-    text = (f"{wording.plural(len(found.pieces), 'piece')}: {wording.plural(found.kept, 'setting')} with a run, "
-            f"{found.cut:,} without\n")
-    for number, piece in enumerate(found.pieces):
-        text += f"\npiece {number}, {wording.plural(settings.count(piece, sheet.ranges), 'setting')}\n"
-        text += "  holds where\n" if piece.inequalities else "  holds everywhere in the ranges\n"
-        for numbers in piece.inequalities:
-            text += f"    {wording.inequality_words(numbers, names.allowance)}\n"
-        text += "  at the end of the route\n"
-        text += bounds_text(piece, names, wording.with_names(names.allowance), everything)
     return text
 
 
-def bounds_text(piece, names, words, everything):
-    return "".join(f"    {line}\n" for line in wording.bounds_words(piece, names.watch, words, everything))
+def limit_line(beginning, sheet, names):
+    """A limit of the route, and whose it is."""
+    limit = limit_words(limit_of(sheet, beginning), names)
+    stage = names.stage[stage_of(sheet, beginning.visit)]
+    after = f"after {plural(beginning.visit, 'move')}"
+    if beginning.move:
+        return f"the limit {limit} of move '{names.move[sheet.route[beginning.visit]]}', which leaves stage '{stage}' {after}"
+    return f"the standing limit {limit} of stage '{stage}', {after}"
 
 
-def setting_of(given, sheet, names):
-    """The setting that is written as p=3,q=4, in the sheet's order."""
-    values = {}
-    for part in filter(None, given.split(",")):
-        name, _, number = (word.strip() for word in part.partition("="))
-        if name not in names.allowance or name in values:
-            raise Fault(f"--at: '{part}'; expected each of {', '.join(names.allowance) or 'no allowances'} once")
-        try:
-            values[name] = int(number)
-        except ValueError as why:
-            raise Fault(f"--at: '{part}'; expected {name}= and a whole number") from why
-    for name, (low, high) in zip(names.allowance, sheet.ranges):
-        if name not in values:
-            raise Fault(f"--at: no value for {name}; expected {name}={low} to {name}={high}")
-        if not low <= values[name] <= high:
-            raise Fault(f"--at: {name}={values[name]} lies outside the range; expected {low} to {high}")
-    return tuple(values[name] for name in names.allowance)
+def help_lines(refusal, ranges, sheet, names):
+    """What to do about a refusal by 7, 8 or 9."""
+    if refusal.number == 9:
+        return ["what helps: smaller coefficients, or smaller numbers in the limits up to there"]
+    lines = ["what helps"]
+    for k, (low, high) in ranges:
+        name, (_, highest) = names.allowance[k], sheet.ranges[k]
+        how = f"fix {name} at {low}" if low == high else f"narrow {name} to {low}..{high}"
+        lines.append(f"    {how} (Windows takes that), and try {high + 1}..{highest} as another sheet")
+    if not ranges:
+        lines.append("    narrow or fix two allowances: of a single one not even the lowest value alone is taken")
+    count = settings.count_all(sheet.ranges)
+    return lines + [f"    or --by-sweep: one Sweep for each of the {plural(count, 'setting')}, without pieces",
+                    "    or a single setting, which is not refused by 7 or 8: sweep --at, or --schedule"]
 
 
-def setting_text(found, setting, names, everything=False):
-    """Which piece holds a setting, and its bounds with the setting put in."""
-    put_in = ", ".join(f"{name} = {number}" for name, number in zip(names.allowance, setting))
-    text = f"at {put_in}\n" if setting else "at the only setting\n"
-    for number, piece in enumerate(found.pieces):
-        if settings.holds(piece, setting):
-            words = wording.with_setting(setting)
-            return f"{text}piece {number}: at the end of the route\n{bounds_text(piece, names, words, everything)}"
-    return text + "no piece: no run\n"
+# When
+
+
+def schedule_lines(steps, setting, sheet, names):
+    """A table of the moves: the earliest and the latest minute, and how long the stay before each is."""
+    rows = [("move", "earliest", "latest", "after a stay of", "in stage")]
+    rows += [(what, *span_words(step.when), between(step.stay), stage) for (what, stage), step in zip(moves(sheet, names), steps)]
+    widths = [max(len(row[k]) for row in rows) for k in range(5)]
+    table = [f"    {row[0]:{widths[0]}}  {row[1]:>{widths[1]}}  {row[2]:>{widths[2]}}  {row[3]:>{widths[3]}}  {row[4]}" for row in rows]
+    return [f"at {setting_words(setting, names)}: minutes since the start, over all runs of the whole route", *table]
+
+
+def moves(sheet, names):
+    """The moves of the route, each with the stage that it leaves, and the end."""
+    made = [(names.move[number], names.stage[sheet.moves[number].start]) for number in sheet.route]
+    return [*made, ("(the end)", names.stage[stage_of(sheet, len(sheet.route))])]
+
+
+def span_words(span):
+    """From and to; a minute that is only come near to has a mark."""
+    least = f"{'>' if span.least[1] else ''}{span.least[0]}"
+    return least, "none" if span.most is None else f"{'<' if span.most[1] else ''}{span.most[0]}"
+
+
+def between(span):
+    """Such as 25 to 30, 25 alone, or 25 or more."""
+    least, most = span_words(span)
+    return f"{least} or more" if span.most is None else " to ".join(dict.fromkeys((least, most)))

@@ -20,12 +20,24 @@ def holds(piece, setting):
     return all(value(e, setting) >= 0 for e in piece.inequalities)
 
 
-def rows(piece, ranges):
-    """All settings of a piece: for each q and r the lowest and the highest p, as (q, r, low, high). The
-    inequalities are straight, so that there are no gaps between."""
+def holder(pieces, setting):
+    """The number of the piece that holds a setting, or None."""
+    return next((number for number, piece in enumerate(pieces) if holds(piece, setting)), None)
+
+
+def most(e, ranges):
+    """The greatest value of an expression in the ranges."""
+    return e[0] + sum(k * (high if k > 0 else low) for k, (low, high) in zip(e[1:], ranges))
+
+
+def rows(inequalities, ranges):
+    """All settings that meet the inequalities: for each q and r the lowest and the highest p, as (q, r, low, high).
+    The inequalities are straight, so that there are no gaps between."""
     (_, _), (low_q, high_q), (low_r, high_r) = box = three(ranges)
     for r in range(low_r, high_r + 1):
-        lines = [(c + kr * r, kp, kq) for c, kp, kq, kr in piece.inequalities]
+        lines = [(c + kr * r, kp, kq) for c, kp, kq, kr in inequalities]
+        if any(most(line, box) < 0 for line in lines):
+            continue
         for q in range(low_q, high_q + 1):
             low, high = narrowed(lines, q, box[0])
             if low <= high:
@@ -43,9 +55,28 @@ def narrowed(lines, q, span):
             high = min(high, rest // -kp)
         elif rest < 0:
             return 1, 0
+        if low > high:
+            break
     return low, high
 
 
-def count(piece, ranges):
-    """How many settings the piece holds."""
-    return sum(high - low + 1 for _, _, low, high in rows(piece, ranges))
+def count(inequalities, ranges):
+    """How many settings meet the inequalities."""
+    return sum(high - low + 1 for _, _, low, high in rows(inequalities, ranges))
+
+
+def room(pieces, setting, ranges):
+    """For each allowance, with the others as they are, the values with a run that lie around the setting's own, as
+    (lowest, highest); where the setting has no run, the nearest ones below and above that have one, each or None."""
+    return [span(lambda x, k=k: holder(pieces, (*setting[:k], x, *setting[k + 1:])) is not None, setting[k], *ends)
+            for k, ends in enumerate(ranges)]
+
+
+def span(right, at, low, high):
+    """The values around one, as far as they are right; or, where it is not right itself, the nearest ones that are."""
+    here = right(at)
+    below = next((x for x in range(at - 1, low - 1, -1) if right(x) != here), None)
+    above = next((x for x in range(at + 1, high + 1) if right(x) != here), None)
+    if not here:
+        return below, above
+    return low if below is None else below + 1, high if above is None else above - 1

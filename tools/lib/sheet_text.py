@@ -15,6 +15,9 @@ RELATIONS = {"<=": (True, False), "≤": (True, False), "<": (True, True),
              ">=": (False, False), "≥": (False, False), ">": (False, True)}
 
 
+LONGER = "; for a longer time use a second watch that is reset on the way, as since-bell in sheets/week.txt"
+
+
 class Names(NamedTuple):
     """What a text calls the parts of a sheet, each in the sheet's order."""
 
@@ -273,7 +276,7 @@ class Sentence:
             sign = self.sign()
         for total in totals:
             if abs(total) > MOST_NUMBER:
-                raise first.error(f"a number of this sum comes to {total}; expected -{MOST_NUMBER} to {MOST_NUMBER}")
+                raise first.error(f"a number of this sum comes to {total}; expected -{MOST_NUMBER} to {MOST_NUMBER}{LONGER}")
         return tuple(totals)
 
     def sign(self):
@@ -284,7 +287,7 @@ class Sentence:
         """A number, an allowance, or a number of them: its place among the four numbers, and its size."""
         size = 1
         if self.next().kind == "number":
-            size = self.number("a number")
+            size = self.number("a number", LONGER)
             if not self.has("*") and not self.touches():
                 return 0, size
         token = self.next()
@@ -297,14 +300,15 @@ class Sentence:
             raise token.error(f"no allowance is called '{token.text}'; expected {self.one_of('allowance')}{hint}")
         return 1 + self.named("allowance"), size
 
-    def number(self, expected):
+    def number(self, expected, hint=""):
         """A number without a sign."""
         token = self.take()
         if token.kind != "number":
             raise token.found(expected)
-        if len(token.text) > 9 or int(token.text) > MOST_NUMBER:
-            raise token.error(f"the number {token.text} is too big; expected at most {MOST_NUMBER} in size")
-        return int(token.text)
+        digits = token.text.lstrip("0") or "0"
+        if len(digits) > len(str(MOST_NUMBER)) or int(digits) > MOST_NUMBER:
+            raise token.error(f"the number {token.short()} is too big; expected at most {MOST_NUMBER} in size{hint}")
+        return int(digits)
 
 
 # From sheet to text

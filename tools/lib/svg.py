@@ -1,7 +1,8 @@
 """A picture's shapes as SVG."""
 
-from xml.sax.saxutils import escape
+from html import escape
 
+from faults import plain
 from shapes import CUT, GRID, HATCH, INK, PAPER, Box, Cells, Grid, Tick, Words
 
 
@@ -17,7 +18,12 @@ def text(picture):
              f'<rect width="{stripe}" height="{pitch}" fill="{line}"/></pattern></defs>')
     back = f'<rect width="{width}" height="{height}" fill="{PAPER}"/>'
     parts = [ELEMENTS[type(shape)](shape) for shape in picture.shapes]
-    return "\n".join([head, f"<title>{escape(picture.title)}</title>", hatch, back, *parts, "</svg>"]) + "\n"
+    return "\n".join([head, f"<title>{words_of(picture.title)}</title>", hatch, back, *parts, "</svg>"]) + "\n"
+
+
+def words_of(text):
+    """A text as XML has it: what it does not allow, such as ESC, is written in letters."""
+    return escape(plain(text), quote=False)
 
 
 def box(shape):
@@ -59,7 +65,7 @@ def words(shape):
         style += ' font-style="italic"'
     if shape.turned:
         style += f' transform="rotate(-90 {x} {y})"'
-    return f'<text x="{x}" y="{y}"{style}>{escape(shape.text)}</text>'
+    return f'<text x="{x}" y="{y}"{style}>{words_of(shape.text)}</text>'
 
 
 def number(place):

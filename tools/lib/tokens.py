@@ -3,6 +3,9 @@
 import re
 from typing import NamedTuple
 
+from faults import plain
+
+LONGEST_NAME = 60  # letters
 LINE_WORDS = ("allowance", "watch", "stage", "move", "route")  # a line starts with one of them
 KEYWORDS = (*LINE_WORDS, "when", "resets")
 TOKEN = re.compile(r"(?P<space>[ \t]+)|(?P<comment>\#.*)|(?P<number>[0-9]+)"
@@ -29,17 +32,21 @@ class Token(NamedTuple):
     def error(self, message):
         return TextError(self.line, self.column, message)
 
+    def short(self):
+        """The text, cut where it is long."""
+        return self.text if len(self.text) <= LONGEST_NAME else self.text[:LONGEST_NAME] + "…"
+
     def found(self, expected):
-        what = "the line ends" if self.kind == "end" else f"found '{self.text}'"
+        what = "the line ends" if self.kind == "end" else f"found '{self.short()}'"
         return self.error(f"{what}; expected {expected}")
 
 
 def decode(data):
-    """The text of bytes, which must be UTF-8; a mark of the byte order is passed over."""
+    """The text of bytes, which must be UTF-8; a mark of the byte order is passed over and has no column."""
     try:
         return data.decode("utf-8").removeprefix("\ufeff")
     except UnicodeDecodeError as why:
-        before = data[:why.start].decode("utf-8")
+        before = data[:why.start].decode("utf-8").removeprefix("\ufeff")
         line, column = before.count("\n") + 1, len(before) - before.rfind("\n")
         raise TextError(line, column, f"byte {data[why.start]} is not UTF-8; expected text in UTF-8") from why
 
@@ -72,8 +79,9 @@ def tokens_of(row, number):
     while at < len(row):
         found = TOKEN.match(row, at)
         if not found:
-            raise TextError(number, at + 1, f"'{row[at]}' has no meaning here; expected a word, a number or one of "
-                                            "<= < >= > ≤ ≥ -> .. : , + - * #")
+            equal = "; a limit that is met by one value only is two: write <= and >=" if row[at] == "=" else ""
+            raise TextError(number, at + 1, f"'{plain(row[at])}' has no meaning here; expected a word, a number or one of "
+                                            f"<= < >= > ≤ ≥ -> .. : , + - * #{equal}")
         kind = found.lastgroup
         if kind not in ("space", "comment"):
             token = Token(kind, found.group(), number, at + 1)
@@ -86,5 +94,7 @@ def tokens_of(row, number):
 
 
 def judge_letters(token):
+    if len(token.text) > LONGEST_NAME:
+        raise token.error(f"the name '{token.short()}' has {len(token.text):,} letters; expected at most {LONGEST_NAME}")
     if not token.text.isascii() and not all(c.isalpha() or c in "0123456789_-" for c in token.text):
         raise token.found("a name of letters, the digits 0 to 9, - and _")

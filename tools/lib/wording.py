@@ -1,48 +1,66 @@
 """Pieces in words, with a sheet's names."""
 
-from expressions import in_words, joined, negated, positive_first, value
+from expressions import in_words, joined, negated, value
 
 
-def inequality_words(numbers, allowances):
-    """Such as p ≥ 3 or 2p - q ≥ 5. Terms with a plus come first; if there is none, the sides change signs."""
-    terms = [(k, name) for k, name in zip(numbers[1:], allowances) if k]
-    right, relation = -numbers[0], "≥"
-    if terms and all(k < 0 for k, _ in terms):
-        terms = [(-k, name) for k, name in terms]
-        right, relation = -right, "≤"
-    return f"{joined(positive_first(terms))} {relation} {right}"
+def inequalities_words(inequalities, allowances):
+    """Such as p ≥ 3 or p ≤ q + 5, in the order given. Two that bound the same are said together: 3 ≤ p ≤ 5, or p = 3."""
+    sides = {}
+    for constant, *coefficients in inequalities:
+        if turned(coefficients):
+            sides.setdefault(negated(coefficients), [None, None])[1] = constant
+        else:
+            sides.setdefault(tuple(coefficients), [None, None])[0] = -constant
+    return [side_words(left, low, high, allowances) for left, (low, high) in sides.items()]
 
 
-def bounds_words(piece, watches, words, everything):
-    """The bounds of a piece, each watch first and then the differences. `words` says an expression. None and a
-    watch against itself are left out, unless everything is asked for."""
-    side = range(len(watches) + 1)
-    singles = [entry for i in side[1:] for entry in ((0, i), (i, 0))]
-    pairs = [entry for i in side[1:] for j in side[i + 1:] for entry in ((i, j), (j, i))]
-    selves = [(i, i) for i in side]
-    entries = singles + pairs + (selves if everything else [])
-    return [bound_words(piece.bounds[i][j], i, j, watches, words) for i, j in entries
-            if everything or piece.bounds[i][j] is not None]
+def turned(coefficients):
+    """Whether to change all signs, so that few terms have a plus, but one at least; or, if it is the same, the first."""
+    plus, minus = sum(k > 0 for k in coefficients), sum(k < 0 for k in coefficients)
+    if plus and minus and plus != minus:
+        return plus > minus
+    return next(k for k in coefficients if k) < 0
 
 
-def bound_words(bound, i, j, watches, words):
-    """Entry (i, j), which bounds watch i - watch j from above. For 0 - w it is said of w, from below."""
-    what = difference(i, j, watches)
-    below = i == 0 and j > 0
-    if bound is None:
-        return f"{what}: no bound{'' if i and j else ' below' if below else ' above'}"
-    numbers = negated(bound.numbers) if below else bound.numbers
-    relation = (">" if below else "<") if bound.strict else ("≥" if below else "≤")
-    return f"{what} {relation} {words(numbers)}"
+def side_words(left, low, high, allowances):
+    """A sum of allowances from low to high, each of them or None. What has a minus goes to the other sides."""
+    terms = [(k, name) for k, name in zip(left, allowances) if k]
+    words = joined([(k, name) for k, name in terms if k > 0])
+    others = [(-k, name) for k, name in terms if k < 0]
+    ends = [end if end is None else joined(others + ([(end, "")] if end else [])) for end in (low, high)]
+    if None in ends:
+        return f"{words} ≤ {ends[1]}" if low is None else f"{words} ≥ {ends[0]}"
+    return f"{words} = {ends[0]}" if low == high else f"{ends[0]} ≤ {words} ≤ {ends[1]}"
+
+
+def bounds_words(piece, watches, words):
+    """The bounds of a piece, first of each watch and then of each difference of two, such as 3 ≤ w ≤ p + 2. `words` says
+    an expression. What has no bound is left out."""
+    side = range(1, len(watches) + 1)
+    pairs = [(i, 0) for i in side] + [(i, j) for i in side for j in side if i < j]
+    said = (between_words(difference(i, j, watches), piece.bounds[j][i], piece.bounds[i][j], words) for i, j in pairs)
+    return [text for text in said if text]
+
+
+def between_words(what, below, above, words):
+    """Something between two bounds; that from below is of its opposite, and either may be None."""
+    if above is None:
+        return below and f"{what} {'>' if below.strict else '≥'} {words(negated(below.numbers))}"
+    high = words(above.numbers)
+    if below is None:
+        return f"{what} {relation(above)} {high}"
+    low = words(negated(below.numbers))
+    if low == high and not (below.strict or above.strict):
+        return f"{what} = {low}"
+    return f"{low} {relation(below)} {what} {relation(above)} {high}"
+
+
+def relation(bound):
+    return "<" if bound.strict else "≤"
 
 
 def difference(i, j, watches):
-    if i == j:
-        name = watches[i - 1] if i else "0"
-        return f"{name} - {name}"
-    if i == 0 or j == 0:
-        return watches[max(i, j) - 1]
-    return f"{watches[i - 1]} - {watches[j - 1]}"
+    return f"{watches[i - 1]} - {watches[j - 1]}" if j else watches[i - 1]
 
 
 def with_names(allowances):
@@ -52,8 +70,19 @@ def with_names(allowances):
 
 def with_setting(setting):
     """How an expression is said with a setting put in."""
-    return lambda numbers: f"{value(numbers, setting)} min"
+    return lambda numbers: f"{value(numbers, setting)}"
 
 
-def plural(count, one):
-    return f"{count:,} {one}{'' if count == 1 else 's'}"
+def plural(count, one, more=None):
+    return f"{count:,} {one if count == 1 else more or one + 's'}"
+
+
+def listed(words):
+    """Such as a, b and c."""
+    words = list(words)
+    return " and ".join(filter(None, [", ".join(words[:-1]), *words[-1:]]))
+
+
+def setting_words(setting, names):
+    """Such as p = 3, q = 4."""
+    return ", ".join(f"{name} = {number}" for name, number in zip(names.allowance, setting)) or "the only setting"

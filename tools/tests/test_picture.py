@@ -8,7 +8,8 @@ import xml.etree.ElementTree as ElementTree
 import picture
 import settings
 import svg
-from stored import DOCS, NAMES, PICTURES, found, sheet
+from shapes import Words
+from stored import DOCS, NAMES, PICTURES, drawn, found, sheet
 
 SVG = "{http://www.w3.org/2000/svg}"
 ROW = re.compile(r"M(\d+) (\d+)h(\d+)v(\d+)h-(\d+)z")
@@ -16,8 +17,7 @@ ROW = re.compile(r"M(\d+) (\d+)h(\d+)v(\d+)h-(\d+)z")
 
 def root(name):
     """The picture of a stored sheet, as a tree."""
-    whole, names = sheet(name)
-    return ElementTree.fromstring(svg.text(picture.draw(found(name), whole.ranges, names, name)))
+    return ElementTree.fromstring(svg.text(drawn(name)))
 
 
 def brute_counts(name):
@@ -126,6 +126,19 @@ class Pictures(unittest.TestCase):
             self.assertEqual(ElementTree.parse(DOCS / f"{name}.svg").getroot().tag, f"{SVG}svg")
 
     def test_names_that_are_marks_in_xml(self):
-        whole, names = sheet("a")
-        tree = ElementTree.fromstring(svg.text(picture.draw(found("a"), whole.ranges, names, "<a&b>")))
-        self.assertIn("<a&b>: 1 piece", tree.find(f"{SVG}title").text)
+        tree = ElementTree.fromstring(svg.text(drawn("a")._replace(title="<a&b> \x1b[31m \ufffe")))
+        self.assertEqual(tree.find(f"{SVG}title").text, "<a&b> \\x1b[31m \\ufffe")
+
+    def test_numbers_of_neighbours_do_not_touch(self):
+        """Of charts side by side, also where each is narrow and its numbers are long."""
+        for ranges in (((90, 153), (0, 9), (0, 11)), ((-999, -998), (0, 1), (0, 15)), ((100, 131), (0, 63), (0, 63))):
+            names = sheet("week")[1]
+            shapes = picture.draw([], 1, ranges, names, "x").shapes
+            rows = {}
+            for shape in shapes:
+                if isinstance(shape, Words) and re.fullmatch("-?[0-9]+", shape.text) and shape.anchor == "middle":
+                    rows.setdefault(shape.y, []).append((shape.x, len(shape.text)))
+            for row in rows.values():
+                row.sort()
+                for (x, one), (other_x, other) in zip(row, row[1:]):
+                    self.assertGreaterEqual(other_x - x, 3.5 * (one + other) + 3, ranges)

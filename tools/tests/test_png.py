@@ -14,13 +14,12 @@ import png
 import settings
 import svg
 from shapes import CUT, HATCH, INK, PAPER, Box, Cells, Picture, Words
-from stored import EXPECTED, NAMES, SHEETS, found, sheet, tool
+from stored import NAMES, SHEETS, drawn as picture_of, found, lister, moyanthu, said, sheet
 
 
 @lru_cache(maxsize=None)
 def drawn(name):
-    whole, names = sheet(name)
-    return picture.draw(found(name), whole.ranges, names, name)
+    return picture_of(name)
 
 
 def chunks(data):
@@ -188,7 +187,20 @@ class Letters(unittest.TestCase):
         alike = [pair for pair in itertools.combinations(font.LETTERS, 2) if font.runs(pair[0]) == font.runs(pair[1])]
         self.assertEqual(alike, [("0", "O")])
         self.assertEqual(font.runs("-"), ((3, 1, 3),))
-        self.assertEqual(font.runs("é")[:3], ((0, 0, 4), (1, 0, 0), (1, 4, 4)))
+
+    def test_letters_beyond_ascii(self):
+        """Latin, Greek and Cyrillic letters are drawn, each in its own way; others are a box."""
+        latin = [chr(code) for code in range(0xc0, 0x180) if chr(code).isalpha() and chr(code) not in "ĦħĲĳĸĿŀŉŊŋŦŧſ"]
+        greek, cyrillic = [chr(code) for code in range(0x391, 0x3ca) if code != 0x3a2], [chr(code) for code in range(0x410, 0x450)]
+        box = font.runs("中")
+        for letters in (latin, greek, cyrillic, [*"ЁёІіЇїЄє"]):
+            drawn = [font.runs(letter) for letter in letters]
+            self.assertNotIn(box, drawn, letters)
+            self.assertEqual(len(set(drawn)), len(drawn) - (letters is latin), letters)  # Ð and Đ are the same
+        self.assertEqual(font.runs("Đ"), font.runs("Ð"))
+        self.assertEqual(font.runs("é")[2:], font.runs("e"))
+        self.assertEqual(font.runs("É")[2:], font.runs("E"))
+        self.assertEqual([row for row, _, _ in font.runs("ç") if row > 6], [7, 8])
 
     def test_what_lies_outside_is_left_out(self):
         shapes = [Words(-3, 2, "left"), Words(99, 9, "right"), Words(5, 2, "up", turned=True),
@@ -199,13 +211,15 @@ class Letters(unittest.TestCase):
 
 class Commands(unittest.TestCase):
     def setUp(self):
+        if not lister():
+            self.skipTest("no program that prints listings")
         folder = tempfile.TemporaryDirectory()
         self.addCleanup(folder.cleanup)
         self.folder = Path(folder.name)
 
-    def show(self, *arguments, given=None):
-        done = tool("show", SHEETS / "a.txt", *arguments, given=given or (EXPECTED / "a.listing").read_bytes())
-        return done.returncode, done.stdout, done.stderr.decode("utf-8")
+    def show(self, *words, sheet="a.txt"):
+        done = moyanthu("windows", SHEETS / sheet, *words)
+        return done.returncode, done.stdout, said(done)
 
     def test_png_alone_and_with_svg(self):
         alone, one, other = (self.folder / name for name in ("alone.png", "a.svg", "a.png"))
@@ -239,8 +253,8 @@ class Commands(unittest.TestCase):
                 if old:
                     good.write_text(old, encoding="utf-8")
                 status, out, why = self.show("--svg", good, "--png", bad)
-                self.assertEqual((status, out), (1, b""))
-                self.assertIn(f"'{bad}'", why)
+                self.assertEqual((status, out), (4, b""))
+                self.assertIn(f"{bad}: ", why)
                 self.assertNotIn("Traceback", why)
                 there = [path.read_text(encoding="utf-8") for path in self.folder.iterdir()]
                 self.assertEqual(there, [old] if old else [])
@@ -250,17 +264,19 @@ class Commands(unittest.TestCase):
         path = self.folder / "a"
         for place in (path, "-"):
             status, out, why = self.show("--svg", place, "--png", place)
-            self.assertEqual((status, out), (1, b""))
+            self.assertEqual((status, out), (3, b""))
             self.assertIn("--svg and --png have the same place; expected another for one of them", why)
         self.assertFalse(path.exists())
 
     def test_a_setting_is_not_drawn(self):
         for form in ("--svg", "--png"):
             status, _, why = self.show("--at", "p=3", form, self.folder / "a")
-            self.assertEqual(status, 2)
-            self.assertIn(f"argument {form}: not allowed with argument --at", why)
+            self.assertEqual(status, 3)
+            self.assertIn("--at gives no picture", why)
 
     def test_a_refusal_is_not_drawn(self):
-        status, out, _ = self.show("--png", self.folder / "a.png", given=b"refused 7 place 1\n")
-        self.assertEqual((status, out[:18]), (1, b"refused 7 place 1:"))
-        self.assertEqual(list(self.folder.iterdir()), [])
+        short = self.folder / "short.sheet"
+        short.write_bytes((SHEETS / "a.sheet").read_bytes()[:21])
+        status, out, _ = self.show("--png", self.folder / "a.png", sheet=short)
+        self.assertEqual((status, out.decode("utf-8")[:len(str(short)) + 18]), (2, f"{short}: refused 2 place 0"[:len(str(short)) + 18]))
+        self.assertEqual(list(self.folder.iterdir()), [short])

@@ -10,13 +10,12 @@ import sheet_file
 import sheet_text
 from records import records
 from sheet_file import Limit
-from stored import DOCS, NAMES, ROOT, SHEETS, sheet, tool
+from stored import DOCS, NAMES, ROOT, SHEETS, WINDOWS_RECORDS, moyanthu, sheet
 from tokens import TextError, decode
 
 # the stored records of Windows that are the paper's rows, by their place among the records
 PAPER_ROWS = {0: "a", 1: "a-strict", 2: "p-then-q", 3: "q-then-p", 4: "no-limits", 5: "below-zero", 6: "from-minus-p",
               7: "minus-two-p", 8: "two-p", 9: "at-once", 10: "never", 12: "a-widest", 14: "a-longest"}
-WINDOWS = ROOT / "crates" / "vectors_windows" / "data" / "windows.bin"
 
 
 def rebuilt(file):
@@ -37,13 +36,13 @@ class RoundTrips(unittest.TestCase):
             self.assertEqual(sheet_text.parse(sheet_text.write(*sheet(name))), sheet(name), name)
 
     def test_paper_rows_are_the_stored_records(self):
-        files = list(records(WINDOWS, 1))
+        files = list(records(WINDOWS_RECORDS, 1))
         for place, name in PAPER_ROWS.items():
             self.assertEqual((SHEETS / f"{name}.sheet").read_bytes(), files[place], name)
 
     def test_every_readable_stored_sheet(self):
         """All records of Windows, and every fourth of the reader's, of which many are damaged."""
-        files = [*records(WINDOWS, 1), *list(records(ROOT / "crates" / "vectors_sheet" / "data" / "sheets.bin"))[::4]]
+        files = [*records(WINDOWS_RECORDS, 1), *list(records(ROOT / "crates" / "vectors_sheet" / "data" / "sheets.bin"))[::4]]
         readable = 0
         for number, file in enumerate(files):
             try:
@@ -70,6 +69,7 @@ class Accepted(unittest.TestCase):
         self.assertEqual(limit("w > -2*q - 3 * p + 1000"), Limit(0, 2, True, (-1000, 3, 2, 0)))
         self.assertEqual(limit("w>0"), Limit(0, 2, True, (0, 0, 0, 0)))
         self.assertEqual(limit("v<=+p+p+1-4"), Limit(1, 0, False, (-3, 2, 0, 0)))
+        self.assertEqual(limit("v <= 00000000005"), Limit(1, 0, False, (5, 0, 0, 0)))
 
     def test_order_of_lines_is_free(self):
         mixed = "route m\nmove m:b->a when w>=p resets w\nstage b\nwatch w\nstage a:w<p\nallowance p -3..-1\n"
@@ -135,7 +135,10 @@ WRONG = [
     (HEAD + "stage c:\nroute", 6, 9, "the line ends; expected the name of a watch"),
     (HEAD + "stage c: x <= p\nroute", 6, 10, "no watch is called 'x'; expected one of v, w"),
     (HEAD + "stage c: p >= v\nroute", 6, 10, "found 'p'; expected a limit, which starts with a watch"),
-    (HEAD + "stage c: v = p\nroute", 6, 12, "'=' has no meaning here"),
+    (HEAD + "stage c: v = p\nroute", 6, 12, "write <= and >="),
+    (HEAD + "stage c: v \x1b p\nroute", 6, 12, "'\\x1b' has no meaning here"),
+    (HEAD + "stage " + "c" * 20_000 + "\nroute", 6, 7, "has 20,000 letters; expected at most 60"),
+    (HEAD + "stage c: v <= " + "9" * 5000 + "\nroute", 6, 15, "is too big"),
     (HEAD + "stage c: v p\nroute", 6, 12, "found 'p'; expected <=, <, >= or >"),
     (HEAD + "stage c: v <=\nroute", 6, 14, "the line ends; expected a number or an allowance"),
     (HEAD + "stage c: v <= q\nroute", 6, 15, "no allowance is called 'q'; expected one of p"),
@@ -144,7 +147,8 @@ WRONG = [
     (HEAD + "stage c: v - w <= 5\nroute", 6, 12, "found '-'; expected <=, <, >= or >"),
     (HEAD + "stage c: v <= 2 p\nroute", 6, 17, "found 'p'; expected ',' and another limit, or the end of the line"),
     (HEAD + "stage c: v <= 3, w <= 4 5\nroute", 6, 25, "found '5'; expected ',' and another limit"),
-    (HEAD + "stage c: v <= 1001\nroute", 6, 15, "the number 1001 is too big"),
+    (HEAD + "stage c: v <= 1001\nroute", 6, 15, "the number 1001 is too big; expected at most 1000 in size; for a longer time"),
+    (HEAD + "stage c: v <= 1440\nroute", 6, 15, "use a second watch that is reset on the way"),
     (HEAD + "stage c: v <= 99999999999999999999\nroute", 6, 15, "is too big"),
     (HEAD + "stage c: v <= 600 + 600\nroute", 6, 15, "comes to 1200; expected -1000 to 1000"),
     (HEAD + "stage c: v <= p - 1000p - 2p\nroute", 6, 15, "comes to -1001; expected -1000 to 1000"),
@@ -206,38 +210,62 @@ class Wrong(unittest.TestCase):
             decode("watch w\n# ü".encode("utf-8") + b"\xff\n")
         self.assertEqual((caught.exception.line, caught.exception.column), (2, 4))
 
+    def test_a_mark_of_byte_order_has_no_column(self):
+        for text in (b"watch \xff", b"\xef\xbb\xbfwatch \xff"):
+            with self.assertRaises(TextError) as caught:
+                decode(text)
+            self.assertEqual((caught.exception.line, caught.exception.column), (1, 7))
+        for mark in ("", "\ufeff"):
+            done = moyanthu("check", given=f"{mark}watch w w\nstage s\nroute\n".encode("utf-8"))
+            self.assertEqual(done.stderr.decode("utf-8").splitlines(), [
+                "standard input:1:9: found 'w'; expected the end of the line after the watch's name",
+                "    watch w w", "            ^"])
+
+    def test_what_is_not_to_be_printed_is_not_echoed(self):
+        done = moyanthu("check", given=b"watch w\x1b[31m\x07\nstage s\nroute\n")
+        self.assertEqual(done.returncode, 3)
+        self.assertFalse(set(done.stderr) & {0x1b, 0x07})
+        self.assertIn("'\\x1b' has no meaning here", done.stderr.decode("utf-8"))
+
 
 class Commands(unittest.TestCase):
     def test_build_text_and_check(self):
         with tempfile.TemporaryDirectory() as folder:
             out = Path(folder) / "out.sheet"
-            self.assertEqual(tool("sheet", "build", SHEETS / "a.txt", "-o", out).returncode, 0)
+            self.assertEqual(moyanthu("build", SHEETS / "a.txt", "-o", out).returncode, 0)
             self.assertEqual(out.read_bytes(), (SHEETS / "a.sheet").read_bytes())
-        text = tool("sheet", "text", SHEETS / "week.sheet").stdout
-        self.assertEqual(tool("sheet", "build", given=text).stdout, (SHEETS / "week.sheet").read_bytes())
-        self.assertIn(b"a good sheet: 1 allowances, 1 watches, 2 stages", tool("sheet", "check", SHEETS / "a.txt").stdout)
+        text = moyanthu("text", SHEETS / "week.sheet").stdout
+        self.assertEqual(moyanthu("build", given=text).stdout, (SHEETS / "week.sheet").read_bytes())
+        for form in ("a.txt", "a.sheet"):
+            self.assertIn(b"a good sheet: 1 allowance, 1 watch, 2 stages, 1 move, 1 move on the route, 62 bytes as a file\n",
+                          moyanthu("check", SHEETS / form).stdout)
 
     def test_nothing_is_written_where_the_text_is_wrong(self):
         with tempfile.TemporaryDirectory() as folder:
             text, out = Path(folder) / "bad.txt", Path(folder) / "out.sheet"
             text.write_text("watch w\nstage s: w <= q\nroute\n", encoding="utf-8")
-            done = tool("sheet", "build", text, "-o", out)
-            self.assertEqual((done.returncode, done.stdout, out.exists()), (1, b"", False))
+            done = moyanthu("build", text, "-o", out)
+            self.assertEqual((done.returncode, done.stdout, out.exists()), (3, b"", False))
             self.assertEqual(done.stderr.decode("utf-8").splitlines(), [
                 f"{text}:2:15: no allowance is called 'q'; expected a line 'allowance' that declares it",
                 "    stage s: w <= q",
                 "                  ^"])
-            self.assertEqual(tool("sheet", "check", text).returncode, 1)
+            self.assertEqual(moyanthu("check", text).returncode, 3)
             good = text.with_name("good.txt")
             good.write_text("watch w\nstage s\nroute\n", encoding="utf-8")
-            self.assertEqual(tool("sheet", "build", good, "-o", good).returncode, 1)
+            self.assertEqual(moyanthu("build", good, "-o", good).returncode, 3)
             self.assertEqual(good.read_text(encoding="utf-8"), "watch w\nstage s\nroute\n")
 
     def test_damaged_files_are_refused(self):
         a = (SHEETS / "a.sheet").read_bytes()
         wide = a[:25] + b"\x40" + a[26:]
         for file, words in ((a[:21], "refused 2 place 0"), (b"\x02" + a[1:], "refused 3 place 0"),
-                            (wide, "refused 4 place 25"), (a[:-1], "refused 3 place 20")):
-            done = tool("sheet", "text", given=file)
-            self.assertEqual((done.returncode, done.stdout), (1, b""))
-            self.assertEqual(done.stderr.decode("utf-8").splitlines()[0], words)
+                            (wide, "refused 4 place 25"), (a[:-1], "refused 3 place 20"), (a + bytes(5000), "refused 2 place 0")):
+            done = moyanthu("text", given=file)
+            self.assertEqual((done.returncode, done.stdout), (2, b""))
+            self.assertIn(f"standard input: {words}: ", done.stderr.decode("utf-8"))
+
+    def test_the_other_form(self):
+        done = moyanthu("build", SHEETS / "a.sheet")
+        self.assertEqual((done.returncode, done.stdout), (3, b""))
+        self.assertIn(b"a sheet file; expected a text", done.stderr)
