@@ -20,8 +20,18 @@ def windows(options):
     progress = Progress("windows", len(options.sheets))
     if options.jobs == 1:
         return printed(map(work, options.sheets), progress)
-    with multiprocessing.Pool(min(options.jobs, len(options.sheets)), signal.signal, (signal.SIGINT, signal.SIG_DFL)) as pool:
+    with workers(min(options.jobs, len(options.sheets))) as pool:
         return printed(pool.imap(work, options.sheets), progress)
+
+
+def workers(count):
+    """Processes that Ctrl-C does not reach: the command ends them. One that it ended while it holds the lock of the queue
+    would leave the command waiting for ever."""
+    before = signal.signal(signal.SIGINT, signal.SIG_IGN)
+    try:
+        return multiprocessing.Pool(count)
+    finally:
+        signal.signal(signal.SIGINT, before or signal.SIG_DFL)
 
 
 def printed(lines, progress):

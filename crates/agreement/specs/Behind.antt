@@ -1,5 +1,5 @@
 -- What stands behind a reply that lists pieces: the zones of the cutting in order, each in its place of the table.
-use mathlib.Core.Path.{_≡_, refl, sym, ap, subst, _∙_}
+use mathlib.Core.Path.{_≡_, refl, sym, ap, _∙_}
 use mathlib.Core.Logic.{_⊎_, inl, inr}
 use mathlib.Core.List.{List, [], _∷_, _++_, map, List·Memᴰ, List·Memᴰ·head, List·Memᴰ·tail, List·Memᴰ·not-nil, List·Memᴰ·cases-cons}
 use mathlib.Core.Bool.{Bool, true, false, cond}
@@ -11,29 +11,23 @@ use lib.Dec.{ltb, eqb}
 use lib.IntN.{ℤ}
 use lib.ListN.{length, getD, replicate}
 use Rattle.answers.specs.Numbers.{numbered}
-use Rattle.answers.specs.declared.windows.Counts.{Counts}
-use Rattle.cutting.specs.Cutting.{Listing, listed, refused, startB, zonesOf}
+use Rattle.cutting.specs.Cutting.{Listing, listed, refused, startB, zonesOf, SevenToNine}
 use Rattle.cutting.specs.Cutting as cutting
-use Rattle.cutting.specs.Kept.{keptOf, cutOf}
-use Rattle.cutting.specs.Numbered.{SevenToNine, zones-numbered}
+use Rattle.cutting.specs.Numbered.{zones-numbered}
 use Rattle.cutting.specs.Shape.{zones-shaped}
 use Rattle.expr.specs.Ranges.{Inside}
 use Rattle.expr.specs.Three.{rangeList}
-use Rattle.reading.specs.File.{Fine}
-use Rattle.reading.specs.File.{readOf}
+use Rattle.reading.specs.File.{Fine, readOf}
 use Rattle.sheet.specs.declared.Sheet.{Sheet}
-use Rattle.sweep.specs.Reply.{SweepReply, blankReply, swept, outside, orOutside, sheetReply, readReply, replyOf}
+use Rattle.sweep.specs.Reply.{SweepReply, blankReply, outside, sheetReply, readReply, replyOf}
 use Rattle.sweep.specs.ReplyLaws.{outside-none}
-use Rattle.sweep.specs.Theorems.{sheetOf, numberAt}
-use Rattle.windows.specs.Reply as windows
-use Rattle.windows.specs.Reply.{WindowsReply, refusedReply, listingReply, pieceOf, blankPiece, tableOf}
+use Rattle.sweep.specs.Theorems.{sheetOf}
+use Rattle.windows_reply.specs.Reply as windows
+use Rattle.windows_reply.specs.Reply.{WindowsReply, refusedReply, listingReply}
+use Rattle.windows.specs.Pieces.{pieceOf, blankPiece, tableOf}
 use Rattle.windows.specs.Table.{in-list, past-list}
 use Rattle.windows.specs.declared.table.Piece.{Piece}
-use Rattle.agreement.specs.Words.{windowsOf, Lists, pieces, table, pieceAt, InRange}
-
--- the numbers that go with the zones of a sheet
-abbrev pub countsFor : Sheet → List cutting.Zone → Counts
-countsFor s zs = record { pieces = length zs; kept = keptOf (rangeList (s .ranges)) zs; cut = cutOf (rangeList (s .ranges)) zs }
+use Rattle.agreement.specs.Words.{windowsOf, Lists, countsFor, pieces, table, pieceAt, InRange}
 
 pub record Behind (file : List ℕ) (n : ℕ) (zs : List cutting.Zone) : Type 0 where
   pub room : 32 ≤ n
@@ -48,7 +42,8 @@ some-number (inr (inr e)) h = omega arith
 
 -- a listing whose reply has the number 0
 listing-behind : (s : Sheet) (o : Listing) → zonesOf s ≡ o → listingReply s o .answer .number ≡ 0
-    → (zs : List cutting.Zone) × (o ≡ listed zs) × (listingReply s o ≡ record { answer = numbered 0 0; counts = countsFor s zs; zones = zs })
+    → (zs : List cutting.Zone) × (o ≡ listed zs)
+    × (listingReply s o ≡ record { answer = numbered 0 0; counts = countsFor s zs; zones = zs })
 unfolding listingReply
 listing-behind s (listed zs) e g = (zs, refl, refl)
 listing-behind s (refused m visit) e g = absurd (some-number (zones-numbered s m visit e) g)
@@ -126,7 +121,8 @@ module _ {file : List ℕ} {n : ℕ} {zs : List cutting.Zone} (b : Behind file n
   piece-is i h =
       let e = pieces-are in
       let l : i < length zs = omega arith in
-      ap (λ (t : List Piece). getD t i blankPiece) table-is ∙ in-list pieceOf blankPiece zs (replicate (n - length zs) blankPiece) noZone i l
+      ap (λ (t : List Piece). getD t i blankPiece) table-is
+      ∙ in-list pieceOf blankPiece zs (replicate (n - length zs) blankPiece) noZone i l
 
   -- the places past the pieces are blank
   pub past-pieces : (i : ℕ) → pieces file n ≤ i → pieceAt file n i ≡ blankPiece

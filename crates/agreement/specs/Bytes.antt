@@ -77,4 +77,5 @@ standing ranges invariants = fileOf (counted (rangeBytes ranges)) (1 ∷ counted
 -- invariants; route 0
 abbrev pub moving : List Range → List (List ℕ) → List (List ℕ) → List ℕ
 moving ranges invariants guards =
-    fileOf (counted (rangeBytes ranges)) (1 ∷ counted (counted invariants ∷ (0 ∷ []) ∷ [])) (counted ((0 ∷ 1 ∷ 0 ∷ counted guards) ∷ [])) (1 ∷ 0 ∷ [])
+    fileOf (counted (rangeBytes ranges)) (1 ∷ counted (counted invariants ∷ (0 ∷ []) ∷ []))
+    (counted ((0 ∷ 1 ∷ 0 ∷ counted guards) ∷ [])) (1 ∷ 0 ∷ [])

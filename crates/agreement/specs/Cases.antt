@@ -1,6 +1,6 @@
--- The proved rows of paper 01, "Sheets to try", in its order, as one table, and one theorem that the definitions yield every row: each sheet as
--- the bytes of its file; what Windows answers with a table of 32 places, what is in it, and what Sweep answers, by computing; and with that, from
--- the theorems, whether a run follows the route.
+-- The proved rows of paper 01, "Sheets to try", in its order, as one table, and one theorem that the definitions yield every row: each
+-- sheet as the bytes of its file; what Windows answers with a table of 32 places, what is in it, and what Sweep answers, by computing;
+-- and with that, from the theorems, whether a run follows the route.
 use mathlib.Core.Path.{_≡_}
 use mathlib.Core.Logic.{_↔_}
 use mathlib.Core.List.{List, [], _∷_, map}
@@ -11,14 +11,13 @@ use lib.ListN.{length, take}
 use lib.Signed.{_≤ℤ_}
 use Rattle.search.specs.Interval.{interval}
 use Rattle.expr.specs.Ranges.{In}
-use Rattle.expr.specs.Limit.{none}
 use Rattle.expr.specs.Three.{affine, rangeList, point}
 use Rattle.search.specs.Valuations.{count}
 use Rattle.expr.specs.declared.bound.Bound.{Bound}
 use Rattle.expr.specs.declared.number.Expr.{Expr}
 use Rattle.expr.specs.declared.number.Valuation.{Valuation}
 use Rattle.expr.specs.declared.range.Range.{Range}
-use Rattle.timed.specs.Right.{AllOf}
+use Rattle.timed.specs.Lists.{AllOf}
 use Rattle.sheet.specs.declared.Sheet.{Sheet}
 use Rattle.timed.specs.Runs.{Run}
 use Rattle.sweep.specs.Theorems.{sheetOf, IsRun, IsVoid}
@@ -26,7 +25,7 @@ use Rattle.agreement.specs.Bytes.{minus, range, constant, withP, withPQ,
 use Rattle.agreement.specs.Words.{windowsOf, table, pieceAt}
 use Rattle.answers.specs.Numbers.{numbered}
 use Rattle.answers.specs.declared.windows.Counts.{Counts}
-use Rattle.windows.specs.Reply.{answeredOf}
+use Rattle.windows_reply.specs.Reply.{answeredOf}
 use Rattle.constrain.specs.Rules.{entryC}
 use Rattle.windows.specs.declared.table.Piece.{Piece}
 
@@ -67,7 +66,8 @@ pub data Row : Type 0 where
 -- ---- what it is to yield a row
 -- a piece of the table, as a row has it
 abbrev pub pieceIn : Sheet → Piece → PieceRow
-pieceIn s z = record { holds = count (rangeList (s .ranges)) (map affine (take (z .count) (z .ineqs))); ineqs = take (z .count) (z .ineqs) }
+pieceIn s z =
+    record { holds = count (rangeList (s .ranges)) (map affine (take (z .count) (z .ineqs))); ineqs = take (z .count) (z .ineqs) }
 
 abbrev pub countsIn : SheetRow → Counts
 countsIn r = record { pieces = length (r .pieces); kept = r .kept; cut = r .cut }
@@ -125,7 +125,9 @@ rowA =
       pieces = piece 8 (p-less 3 ∷ []) ∷ [];
       kept = 8;
       cut = 3;
-      entries = entry 0 0 0 (le (constant (pos 0))) ∷ entry 0 0 1 (le (constant (minus 3))) ∷ entry 0 1 0 noBound ∷ entry 0 1 1 (le (constant (pos 0))) ∷ [];
+      entries =
+          entry 0 0 0 (le (constant (pos 0))) ∷ entry 0 0 1 (le (constant (minus 3))) ∷ entry 0 1 0 noBound
+          ∷ entry 0 1 1 (le (constant (pos 0))) ∷ [];
       runs = at (pos 3) ∷ [];
       voids = at (pos 2) ∷ [];
     }
@@ -172,12 +174,28 @@ rowQP =
 -- no limits, empty route: one piece, (1, 0) none
 abbrev pub rowFree : SheetRow
 rowFree =
-    record { file = standing [] []; pieces = piece 1 [] ∷ []; kept = 1; cut = 0; entries = entry 0 1 0 noBound ∷ []; runs = at (pos 0) ∷ []; voids = [] }
+    record {
+      file = standing [] [];
+      pieces = piece 1 [] ∷ [];
+      kept = 1;
+      cut = 0;
+      entries = entry 0 1 0 noBound ∷ [];
+      runs = at (pos 0) ∷ [];
+      voids = [];
+    }
 
 -- invariant 1 - 0 < p, p in 0..0, empty route: no pieces, cut 1, Sweep void
 abbrev pub rowNone : SheetRow
 rowNone =
-    record { file = standing (range (pos 0) (pos 0) ∷ []) (under 1 0 p-only ∷ []); pieces = []; kept = 0; cut = 1; entries = []; runs = []; voids = at (pos 0) ∷ [] }
+    record {
+      file = standing (range (pos 0) (pos 0) ∷ []) (under 1 0 p-only ∷ []);
+      pieces = [];
+      kept = 0;
+      cut = 1;
+      entries = [];
+      runs = [];
+      voids = at (pos 0) ∷ [];
+    }
 
 -- p in -5..5, guard 0 - 1 ≤ p alone: 5 where -p - 1 ≥ 0, and 6 where p ≥ 0
 abbrev pub rowBack : SheetRow
@@ -241,7 +259,8 @@ rowNever =
 
 abbrev pub rows : List Row
 rows =
-    sheet rowA ∷ sheet rowStrict ∷ sheet rowPQ ∷ sheet rowQP ∷ sheet rowFree ∷ sheet rowNone ∷ sheet rowBack ∷ inequality rowDown ∷ inequality rowUp
+    sheet rowA ∷ sheet rowStrict ∷ sheet rowPQ ∷ sheet rowQP ∷ sheet rowFree ∷ sheet rowNone ∷ sheet rowBack ∷ inequality rowDown
+    ∷ inequality rowUp
     ∷ sheet rowTouch ∷ sheet rowApart ∷ sheet rowNever ∷ []
 
 -- the statement

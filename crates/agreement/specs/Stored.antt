@@ -1,35 +1,19 @@
--- What the table has after the call (paper 01, "The lent table of pieces gets the pieces in order; the rest of it becomes blank"): where the zones
--- are listed, they in order and blank places past them; with a refusal it is all blank.
-use mathlib.Core.Path.{_≡_, refl, sym, ap, subst, _∙_}
-use mathlib.Core.List.{List, [], _++_, map}
-use mathlib.Core.Bool.{Bool, true, false, cond}
-use Prim.Native.Nat.{ℕ, _-_, _≤_, _<_}
-use native.Mathlib.Omega.{arith}
-use lib.Dec.{ltb, eqb}
+-- What the table has after the call (paper 01, "The lent table of pieces gets the pieces in order; the rest of it becomes blank"): where
+-- the zones are listed, they in order and blank places past them; with a refusal it is all blank.
+use mathlib.Core.Path.{_≡_}
+use mathlib.Core.List.{List, map}
+use mathlib.Core.Bool.{true}
+use Prim.Native.Nat.{ℕ, _≤_, _<_}
 use lib.ListN.{length, getD, take, replicate}
-use Rattle.answers.specs.Numbers.{numbered}
-use Rattle.coded.specs.Records.{zoneOf}
-use Rattle.coded.specs.Coded.{taken, entry-at}
 use Rattle.constrain.specs.Rules.{entryC}
-use Rattle.cutting.specs.Cutting.{Listing, listed, refused, zonesOf}
+use Rattle.cutting.specs.Cutting.{listed, zonesOf}
 use Rattle.cutting.specs.Cutting as cutting
-use Rattle.cutting.specs.Shape.{Shaped, zones-shaped}
 use Rattle.dbm.specs.Matrix.{Outside}
-use Rattle.expr.specs.Affine.{Affine}
-use Rattle.expr.specs.Limit.{Limit}
-use Rattle.expr.specs.Three.{exprOf, boundOf}
-use Rattle.reading.specs.File.{readOf}
-use Rattle.sheet.specs.declared.Sheet.{Sheet}
+use Rattle.expr.specs.Three.{zeroBound, zeroExpr}
 use Rattle.sweep.specs.Theorems.{sheetOf}
-use Rattle.windows.specs.Reply as windows
-use Rattle.windows.specs.Reply.{WindowsReply, refusedReply, listingReply, pieceOf, blankPiece, tableOf}
-use Rattle.windows.specs.Table.{past-list, table-length}
-use Rattle.windows.specs.declared.table.Piece.{Piece}
-use Rattle.zones.specs.Zone.{zeroBound, zeroExpr}
-use Rattle.agreement.specs.Behind.{Behind, lists-behind, noZone, member, pieces-are, few-pieces, table-is, piece-is, past-pieces}
-use Rattle.agreement.specs.Words.{windowsOf, Lists, pieces, table, pieceAt}
+use Rattle.windows.specs.Pieces.{pieceOf, blankPiece}
+use Rattle.agreement.specs.Words.{Lists, pieces, table, pieceAt}
 
--- ---- the statements
 pub record Filled (file : List ℕ) (n : ℕ) : Type 0 where
   -- the places that were lent, of which at most 32 are pieces
   pub long : length (table file n) ≡ n
@@ -40,7 +24,8 @@ pub record Filled (file : List ℕ) (n : ℕ) : Type 0 where
   pub used : (i : ℕ) → i < pieces file n → pieceAt file n i .used ≡ true
   pub ineqs : (i : ℕ) → i < pieces file n → pieceAt file n i .count ≤ 24
   pub spare : (i k : ℕ) → i < pieces file n → pieceAt file n i .count ≤ k → getD (pieceAt file n i .ineqs) k zeroExpr ≡ zeroExpr
-  pub padding : (i k l : ℕ) → i < pieces file n → k ≤ 4 → l ≤ 4 → Outside (sheetOf file .clocks) k l → entryC (pieceAt file n i .bounds) k l ≡ zeroBound
+  pub padding : (i k l : ℕ) → i < pieces file n → k ≤ 4 → l ≤ 4 → Outside (sheetOf file .clocks) k l
+      → entryC (pieceAt file n i .bounds) k l ≡ zeroBound
   -- every other place is blank
   pub blank : (i : ℕ) → pieces file n ≤ i → i < n → pieceAt file n i ≡ blankPiece
 
@@ -50,72 +35,3 @@ TableFilled = (file : List ℕ) (n : ℕ) → Lists file n → Filled file n
 -- a refusal leaves every place blank
 abbrev pub RefusedBlank : Type 0
 RefusedBlank = (file : List ℕ) (n : ℕ) → (Lists file n → ⊥) → table file n ≡ replicate n blankPiece
-
--- ---- the proofs
-module _ (w : ℕ) (z : cutting.Zone) (h : Shaped w z) where
-  zone-used : pieceOf z .used ≡ true
-  zone-used = refl
-
-  zone-ineqs : zoneOf z .count ≤ 24
-  unfolding zoneOf
-  zone-ineqs = h .few
-
-  zone-spare : (k : ℕ) → zoneOf z .count ≤ k → getD (zoneOf z .ineqs) k zeroExpr ≡ zeroExpr
-  unfolding zoneOf
-  zone-spare k g = past-list exprOf zeroExpr (z .ineqs) (24 - length (z .ineqs)) k g
-
-  zone-padding : (k l : ℕ) → k ≤ 4 → l ≤ 4 → Outside w k l → entryC (zoneOf z .bounds) k l ≡ zeroBound
-  unfolding zoneOf
-  zone-padding k l hk hl o = entry-at (z .bounds) k l hk hl ∙ ap (λ (x : Limit Affine). boundOf x) (h .blank k l o)
-
-module _ {file : List ℕ} {n : ℕ} {zs : List cutting.Zone} (b : Behind file n zs) where
-  -- what holds of each zone of the sheet holds of each piece
-  each-piece : (P : Piece → Type 0) → ((z : cutting.Zone) → Shaped (sheetOf file .clocks) z → P (pieceOf z)) → (i : ℕ) → i < pieces file n → P (pieceAt file n i)
-  each-piece P f i h =
-      let e = pieces-are b in
-      let l : i < length zs = omega arith in
-      let z = getD zs i noZone in
-      subst P (sym (piece-is b i h)) (f z (zones-shaped (sheetOf file) zs (b .listing) .1 z (member zs i l)))
-
-  taken-pieces : take (pieces file n) (table file n) ≡ map pieceOf zs
-  taken-pieces =
-      ap (λ (k : ℕ). take k (table file n)) (pieces-are b) ∙ ap (take (length zs)) (table-is b) ∙ taken pieceOf blankPiece (n - length zs) zs
-
-pub table-filled : TableFilled
-table-filled file n lists =
-    let behind = lists-behind file n lists in
-    let zs = behind .0 in
-    let b = behind .1 in
-    let w = sheetOf file .clocks in
-    record {
-      long = table-length file n;
-      few = let e = pieces-are b in let h = few-pieces b in omega arith;
-      zones = (zs, b .listing, taken-pieces b);
-      used = each-piece b (λ z. z .used ≡ true) (zone-used w);
-      ineqs = each-piece b (λ z. z .count ≤ 24) (zone-ineqs w);
-      spare = λ i k h. each-piece b (λ z. z .count ≤ k → getD (z .ineqs) k zeroExpr ≡ zeroExpr) (λ z f. zone-spare w z f k) i h;
-      padding = λ i k l h hk hl o. each-piece b (λ z. entryC (z .bounds) k l ≡ zeroBound) (λ z f. zone-padding w z f k l hk hl o) i h;
-      blank = λ i h g. past-pieces b i h;
-    }
-
--- ---- a refusal
-listing-none : (s : Sheet) (o : Listing) → (listingReply s o .answer .number ≡ 0 → ⊥) → listingReply s o .zones ≡ []
-unfolding listingReply
-listing-none s (listed zs) h = absurd (h refl)
-listing-none s (refused m visit) h = refl
-
-reply-none : (file : List ℕ) (n : ℕ) → (Lists file n → ⊥) → windowsOf file n .zones ≡ []
-unfolding windows.replyOf windows.readReply windows.sheetReply
-reply-none file n = by (ltb n 32) (eqb (readOf file .answer .number) 0)
-  where
-    reply : Bool → Bool → WindowsReply
-    reply b c = cond b (refusedReply (numbered 1 0)) (cond c (listingReply (sheetOf file) (zonesOf (sheetOf file))) (refusedReply (readOf file .answer)))
-
-    by : (b c : Bool) → (reply b c .answer .number ≡ 0 → ⊥) → reply b c .zones ≡ []
-    by true c h = refl
-    by false true h = listing-none (sheetOf file) (zonesOf (sheetOf file)) h
-    by false false h = refl
-
-pub refused-blank : RefusedBlank
-unfolding tableOf
-refused-blank file n h = let e : n - 0 ≡ n = omega arith in rw (reply-none file n h, e) refl

@@ -4,13 +4,19 @@ use mathlib.Core.List.{List, map}
 use mathlib.Core.Bool.{true}
 use Prim.Native.Nat.{ℕ}
 use lib.IntN.{ℤ}
-use lib.ListN.{getD, take}
+use lib.ListN.{length, getD, take}
+use Rattle.answers.specs.declared.windows.Counts.{Counts}
 use Rattle.constrain.specs.Rules.{entryC}
-use Rattle.expr.specs.Limit.{Limit, atV}
-use Rattle.expr.specs.Three.{affine, limitOf}
+use Rattle.cutting.specs.Cutting as cutting
+use Rattle.cutting.specs.Kept.{keptOf, cutOf}
+use Rattle.weight.specs.Upper.{Upper}
+use Rattle.expr.specs.Bounds.{atV}
+use Rattle.expr.specs.Three.{affine, boundAs, rangeList}
 use Rattle.search.specs.Valuations.{satisfies}
+use Rattle.sheet.specs.declared.Sheet.{Sheet}
 use Rattle.sweep.specs.Theorems.{numberAt}
-use Rattle.windows.specs.Reply.{WindowsReply, replyOf, tableOf, blankPiece}
+use Rattle.windows_reply.specs.Reply.{WindowsReply, replyOf}
+use Rattle.windows.specs.Pieces.{tableOf, blankPiece}
 use Rattle.windows.specs.declared.table.Piece.{Piece}
 
 -- what Windows replies to a file, with a table of n places
@@ -20,6 +26,10 @@ windowsOf = replyOf
 -- it lists its pieces: it does not refuse
 abbrev pub Lists : List ℕ → ℕ → Type 0
 Lists file n = windowsOf file n .answer .number ≡ 0
+
+-- the numbers of a reply that lists these zones of the sheet: how many, kept and cut
+abbrev pub countsFor : Sheet → List cutting.Zone → Counts
+countsFor s zs = record { pieces = length zs; kept = keptOf (rangeList (s .ranges)) zs; cut = cutOf (rangeList (s .ranges)) zs }
 
 -- how many pieces there are
 abbrev pub pieces : List ℕ → ℕ → ℕ
@@ -42,5 +52,5 @@ abbrev pub PieceHolds : Piece → List ℤ → Type 0
 PieceHolds z v = satisfies (map affine (take (z .count) (z .ineqs))) v ≡ true
 
 -- entry (k, l) of a piece's matrix with v put in
-abbrev pub entryWith : Piece → List ℤ → ℕ → ℕ → Limit ℤ
-entryWith z v k l = atV v (limitOf (entryC (z .bounds) k l))
+abbrev pub entryWith : Piece → List ℤ → ℕ → ℕ → Upper ℤ
+entryWith z v k l = atV v (boundAs (entryC (z .bounds) k l))

@@ -8,56 +8,60 @@ use native.Mathlib.Omega.{arith}
 use lib.IntN.{ℤ, pos, _+ℤ_, _*ℤ_}
 use lib.Signed.{_≤ℤ_}
 use Rattle.cutting.specs.Kept.{keptOf}
-use Rattle.cutting.specs.Cutting.{startB, summed, tested, putEntry, rowFrom, rowsFrom, places, pushed, guardTree, never, listZone, worked, guardZones, onBounds, stepZones, cutSteps, zonesAlong, zonesOf}
+use Rattle.cutting.specs.Cutting.{startB, summed, tested, putEntry, rowFrom, rowsFrom, places, pushed, guardTree, never, listZone}
+use Rattle.cutting.specs.Cutting.{worked, guardZones, onBounds, stepZones, cutSteps, zonesAlong, zonesOf}
 use Rattle.dbm.specs.Matrix.{start, delayed, resetM, resetsM, limitedM, guarded}
 use Rattle.expr.specs.Affine.{dot, value, plusL, minusL, plus, minus, lessOne, opposite, judge}
 use Rattle.search.specs.Interval.{interval}
 use Rattle.expr.specs.Ranges.{In}
 use Rattle.search.specs.IntervalLaws.{interval-exact}
-use Rattle.expr.specs.Limit.{Limit, none, limit, atV, sumW, marked, sumB, tighterW, asked, tighterB}
-use Rattle.search.specs.Valuations.{widths}
+use Rattle.weight.specs.Upper.{Upper, none, upper, sumW, tighterW}
+use Rattle.expr.specs.Bounds.{atV, marked, sumB, asked, tighterB}
+use Rattle.search.specs.Valuations.{widths, span, width, before, valuations, satisfies, firstIn, countIn, first, count}
 use Rattle.expr.specs.Three.{point}
-use Rattle.search.specs.Valuations.{span, width, before, valuations, satisfies, firstIn, countIn, first, count}
 use Rattle.expr.specs.declared.number.Valuation.{Valuation}
 use Rattle.expr.specs.declared.range.Range.{Range}
 use Rattle.contents.specs.Contents.{sized, entryField, headOf, oneOf, firstOf, twoOf, secondOf, threeOf, thirdOf, fourOf, contentsOf}
-use Rattle.cursor.specs.Cursor.{shifted, judged, byteTaken, wordTaken, signedTaken, byteField, wordField, signedField, finished, iterate}
+use Rattle.cursor.specs.Cursor.{shifted, judged, byteTaken, wordTaken, signedTaken, byteField, wordField, signedField, finished}
+use Rattle.cursor.specs.Cursor.{iterate, belowField, signedOf}
 use Rattle.integer.specs.Parts.{p, n}
 use Rattle.parameters.specs.Parameters.{rangeOf, highestRight, highestField, rangeAt, parametersAt}
-use Rattle.automaton.specs.Automaton.{blankLocation, blankLocations, locationStep, locationsRead, locationsAt, resetsRight, resetsField, transitionAt, blankTransition, blankTransitions, transitionStep, transitionsRead, transitionsAt}
-use Rattle.cursor.specs.Cursor.{belowField}
-use Rattle.route.specs.Route.{routeStep, routeRead, routeAt}
+use Rattle.automaton.specs.Automaton.{blankLocation, blankLocations, locationStep, locationsRead, locationsAt, resetsRight, resetsField}
+use Rattle.automaton.specs.Automaton.{transitionAt, blankTransition, blankTransitions, transitionStep, transitionsRead, transitionsAt}
+use Rattle.route.specs.Route.{routeStep, routeRead, routeAt, endsAt, linkStep, linksOf}
 use Rattle.reading.specs.File.{blankSheet, refusedBy, bodiesOf, judgedRoute, judgedBodies, readOf}
-use Rattle.cursor.specs.Cursor.{signedOf}
-use Rattle.guards.specs.Guards.{exprOf, boundOf, oneZero, rightField, coefficientField, guardAt, blankGuard, blankGuards, guardStep, guardsAt}
-use Rattle.route.specs.Route.{endsAt, linkStep, linksOf}
+use Rattle.guards.specs.Guards.{guardExpr, guardBound, oneZero, rightField, coefficientField, guardAt, blankGuard, blankGuards}
+use Rattle.guards.specs.Guards.{guardStep, guardsAt}
 use Rattle.sheet.specs.declared.Sheet.{Sheet}
-use Rattle.weights.specs.Records.{row}
-use Rattle.agreement.specs.Cases.{SheetRow, IntervalRow, countsIn, SheetYields, IntervalYields, at, rowA, rowStrict, rowPQ, rowQP, rowFree, rowNone, rowBack, rowDown, rowUp, rowTouch, rowApart, rowNever, ListedCases}
+use Rattle.weight_matrix.specs.Records.{row}
+use Rattle.agreement.specs.Cases.{SheetRow, IntervalRow, countsIn, SheetYields, IntervalYields, at, rowA, rowStrict, rowPQ, rowQP}
+use Rattle.agreement.specs.Cases.{rowFree, rowNone, rowBack, rowDown, rowUp, rowTouch, rowApart, rowNever, ListedCases}
 use Rattle.coded.specs.Records.{rowOf, boundsOf, zoneOf, zonesIn}
 use Rattle.answers.specs.Numbers.{numbered}
 use Rattle.concrete.specs.Walk.{step, walk, sweepAlong, sweepAt}
 use Rattle.integer.specs.Floor.{floorZ}
-use Rattle.sheet.specs.WellFormed.{WellFormed}
 use Rattle.sweep.specs.Reply as sweep
 use Rattle.sweep.specs.Reply.{blankReply, swept, outside}
-use Rattle.sweep.specs.Theorems.{sheetOf, IsRun, IsVoid, entryAt, sweep-right}
+use Rattle.sweep.specs.Proofs.{sweep-right}
+use Rattle.sweep.specs.Theorems.{sheetOf, IsRun, IsVoid, entryAt}
 use Rattle.timed.specs.Automaton.{invariants, guardsOf, routeOf}
 use Rattle.timed.specs.Runs.{Run, Tightest}
 use Rattle.timed.specs.Steps.{staySteps, moveSteps, stepsFrom, stepsOf}
-use Rattle.windows.specs.Reply.{WindowsReply, Answered, answeredOf, listingReply, tableOf}
-use Rattle.windows.specs.Reply as windows
+use Rattle.windows_reply.specs.Reply.{Answered, answeredOf, listingReply}
+use Rattle.windows.specs.Pieces.{tableOf}
+use Rattle.windows_reply.specs.Reply as windows
 use Rattle.agreement.specs.Behind.{lists-behind, six-outside}
-use Rattle.agreement.specs.Kept.{answered-inside}
+use Rattle.agreement.specs.KeptProof.{answered-inside}
 use Rattle.agreement.specs.Words.{windowsOf, Lists}
 
 -- ---- from Sweep's answer to runs
-some-run : (s : Sheet) (v : List ℤ) (i j : ℕ) (b : Limit ℤ) → Tightest s v i j b → Run s v
+some-run : (s : Sheet) (v : List ℤ) (i j : ℕ) (b : Upper ℤ) → Tightest s v i j b → Run s v
 some-run s v i j none t = t (pos 0) .0
-some-run s v i j (limit false c) t = t .1 .0
-some-run s v i j (limit true c) t = t .1 1 (omega arith) .0
+some-run s v i j (upper false c) t = t .1 .0
+some-run s v i j (upper true c) t = t .1 1 (omega arith) .0
 
-module _ (r : SheetRow) (lists : answeredOf (windowsOf (r .file) 32) ≡ record { answer = numbered 0 0; counts = countsIn r }) (v : Valuation) where
+module _ (r : SheetRow) (lists : answeredOf (windowsOf (r .file) 32) ≡ record { answer = numbered 0 0; counts = countsIn r })
+    (v : Valuation) where
   listed : Lists (r .file) 32
   listed = ap (λ (x : Answered). x .answer .number) lists
 
@@ -77,7 +81,14 @@ module _ (r : SheetRow) (lists : answeredOf (windowsOf (r .file) 32) ≡ record 
       (e, sweep-right .right (r .file) (point v) (b .fine) g .void-iff-no-run .0 e)
 
 interval-yields : (r : IntervalRow) → interval (r .whole) (r .constant) (r .slope) ≡ r .part → IntervalYields r
-interval-yields r e = record { is = e; exactly = λ x. subst (λ (q : Range). In x q ↔ (In x (r .whole) × (pos 0 ≤ℤ (r .constant +ℤ (r .slope *ℤ x))))) e (interval-exact (r .whole) (r .constant) (r .slope) x) }
+interval-yields r e =
+    record {
+      is = e;
+      exactly =
+          λ x.
+          subst (λ (q : Range). In x q ↔ (In x (r .whole) × (pos 0 ≤ℤ (r .constant +ℤ (r .slope *ℤ x))))) e
+          (interval-exact (r .whole) (r .constant) (r .slope) x);
+    }
 
 -- ---- the bytes of sheet A: bodies of 5, 16, 17 and 2 bytes at 22, 27, 43 and 60
 pub bytes-of-A :
@@ -91,14 +102,38 @@ bytes-of-A = refl
 
 -- ---- every row
 pub listed-cases : ListedCases
-unfolding startB summed tested putEntry rowFrom rowsFrom places pushed guardTree never listZone worked guardZones onBounds stepZones cutSteps zonesAlong zonesOf keptOf widths start delayed resetM resetsM limitedM guarded dot value plusL minusL plus minus lessOne opposite judge atV sumW marked sumB tighterW asked tighterB span width before valuations satisfies firstIn countIn first count p n sized entryField headOf oneOf firstOf twoOf secondOf threeOf thirdOf fourOf contentsOf shifted judged byteTaken wordTaken signedTaken byteField wordField signedField finished iterate rangeOf highestRight highestField rangeAt parametersAt blankLocation blankLocations locationStep locationsRead locationsAt belowField resetsRight resetsField transitionAt blankTransition blankTransitions transitionStep transitionsRead transitionsAt routeStep routeRead routeAt blankSheet refusedBy bodiesOf judgedRoute judgedBodies readOf signedOf exprOf boundOf oneZero rightField coefficientField guardAt blankGuard blankGuards guardStep guardsAt endsAt linkStep linksOf row blankReply swept outside sweep.sheetReply sweep.readReply sweep.replyOf step walk sweepAlong sweepAt staySteps moveSteps stepsFrom stepsOf invariants guardsOf routeOf listingReply windows.sheetReply windows.readReply windows.replyOf tableOf interval floorZ rowOf boundsOf zoneOf zonesIn
+unfolding startB summed tested putEntry rowFrom rowsFrom places pushed guardTree never listZone worked guardZones onBounds stepZones
+    cutSteps zonesAlong zonesOf keptOf widths start delayed resetM resetsM limitedM guarded dot value plusL minusL plus minus lessOne
+    opposite judge atV sumW marked sumB tighterW asked tighterB span width before valuations satisfies firstIn countIn first count p n
+    sized entryField headOf oneOf firstOf twoOf secondOf threeOf thirdOf fourOf contentsOf shifted judged byteTaken wordTaken
+    signedTaken byteField wordField signedField finished iterate rangeOf highestRight highestField rangeAt parametersAt blankLocation
+    blankLocations locationStep locationsRead locationsAt belowField resetsRight resetsField transitionAt blankTransition
+    blankTransitions transitionStep transitionsRead transitionsAt routeStep routeRead routeAt blankSheet refusedBy bodiesOf judgedRoute
+    judgedBodies readOf signedOf guardExpr guardBound oneZero rightField coefficientField guardAt blankGuard blankGuards guardStep
+    guardsAt endsAt linkStep linksOf row blankReply swept outside sweep.sheetReply sweep.readReply sweep.replyOf step walk sweepAlong
+    sweepAt staySteps moveSteps stepsFrom stepsOf invariants guardsOf routeOf listingReply windows.sheetReply windows.readReply
+    windows.replyOf tableOf interval floorZ rowOf boundsOf zoneOf zonesIn
 listed-cases = (a, (strict, (pq, (qp, (free, (empty, (back, (down, (up, (touch, (gap, (early, tt))))))))))))
   where
     a : SheetYields rowA
-    a = record { lists = refl; pieces = refl; entries = (refl, (refl, (refl, (refl, tt)))); runs = (ran rowA refl (at (pos 3)) refl, tt); voids = (none-ran rowA refl (at (pos 2)) refl, tt) }
+    a =
+        record {
+          lists = refl;
+          pieces = refl;
+          entries = (refl, (refl, (refl, (refl, tt))));
+          runs = (ran rowA refl (at (pos 3)) refl, tt);
+          voids = (none-ran rowA refl (at (pos 2)) refl, tt);
+        }
 
     strict : SheetYields rowStrict
-    strict = record { lists = refl; pieces = refl; entries = tt; runs = (ran rowStrict refl (at (pos 4)) refl, tt); voids = (none-ran rowStrict refl (at (pos 3)) refl, tt) }
+    strict =
+        record {
+          lists = refl;
+          pieces = refl;
+          entries = tt;
+          runs = (ran rowStrict refl (at (pos 4)) refl, tt);
+          voids = (none-ran rowStrict refl (at (pos 3)) refl, tt);
+        }
 
     pq : SheetYields rowPQ
     pq = record { lists = refl; pieces = refl; entries = tt; runs = tt; voids = tt }

@@ -17,7 +17,7 @@ pub enum Checked {
 }
 
 // The refusal's number.
-pub fn refusal_number(refusal: Refusal) -> usize
+pub(crate) fn refusal_number(refusal: Refusal) -> usize
     ensures { λ r. ⌜ r ≡ refusalAs refusal .number ⌝ }
 {
     match refusal {
@@ -29,7 +29,7 @@ pub fn refusal_number(refusal: Refusal) -> usize
 }
 
 // The refusal's place.
-pub fn refusal_place(refusal: Refusal) -> usize
+pub(crate) fn refusal_place(refusal: Refusal) -> usize
     ensures { λ r. ⌜ r ≡ refusalAs refusal .place ⌝ }
 {
     match refusal {

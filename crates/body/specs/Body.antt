@@ -1,5 +1,5 @@
--- The part of a sheet file that is a body, and why there is none (paper 01, "The sheet file", first item): a file refused by 2 or 3, or another kind,
--- gets an empty part.
+-- The part of a sheet file that is a body, and why there is none (paper 01, "The sheet file", first item): a file refused by 2 or 3, or
+-- another kind, gets an empty part.
 use Prim.Native.Nat.{ℕ, _-_}
 use mathlib.Core.Bool.{Bool, cond, _&&_}
 use mathlib.Core.List.{List, []}

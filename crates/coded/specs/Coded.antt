@@ -1,5 +1,5 @@
--- Laws that read and write the code's records of what the cutting lists (Records). CodedGuard and CodedWalk say with these that what the code does
--- (Guarded, Walked) is the cutting.
+-- Laws that read and write the code's records of what the cutting lists (Records). CodedGuard and CodedWalk say with these that what the
+-- code does (Guarded, Walked) is the cutting.
 use mathlib.Core.Path.{_≡_, refl, sym, ap, _∙_}
 use mathlib.Core.List.{List, [], _∷_, _++_, map}
 use mathlib.Core.Bool.{Bool, true, false, cond}
@@ -9,31 +9,29 @@ use borrow.Author.Tests.{eqb-true, eqb-false}
 use lib.Dec.{eqb}
 use lib.ListN.{length, getD, set, take, replicate, length-append, length-set}
 use lib.Seq.{getD-set-same, getD-set-other, ext-getD}
-use Rattle.cutting.specs.Cutting.{Bounds, putEntry, Listing, listed, refused}
-use Rattle.cutting.specs.Cutting as cutting
+use Rattle.cutting.specs.Cutting.{Bounds, putEntry}
 use Rattle.expr.specs.Affine.{Affine}
-use Rattle.expr.specs.Limit.{Limit}
-use Rattle.expr.specs.Three.{exprOf, boundOf}
+use Rattle.weight.specs.Upper.{Upper}
+use Rattle.expr.specs.Three.{boundOf, zeroBound}
 use Rattle.expr.specs.declared.bound.Bound.{Bound}
 use Rattle.dbm.specs.Entries.{up-to-4}
-use Rattle.zones.specs.Zone.{zeroBound, zeroExpr, blankZone}
 use Rattle.constrain.specs.Rules.{entryC}
-use Rattle.coded.specs.Records.{rowOf, boundsOf, zoneOf, zonesIn, coded}
-use Rattle.zones.specs.declared.zone.Zone.{Zone}
-use Rattle.zones.specs.declared.zone.Zones.{Zones}
+use Rattle.coded.specs.Records.{rowOf, boundsOf}
 
 -- ---- a list and blanks up to n
 pub length-more : {A : Type 0} (l : List A) (a : A) → length (l ++ (a ∷ [])) ≡ suc (length l)
 length-more l a = let c = length-append l (a ∷ []) in omega arith
 
 module _ {A B : Type 0} (f : A → B) (blank : B) where
-  set-blank : (l : List A) (a : A) (k : ℕ) → set (map f l ++ replicate (suc k) blank) (length l) (f a) ≡ map f (l ++ (a ∷ [])) ++ replicate k blank
+  set-blank : (l : List A) (a : A) (k : ℕ)
+      → set (map f l ++ replicate (suc k) blank) (length l) (f a) ≡ map f (l ++ (a ∷ [])) ++ replicate k blank
   set-blank [] a k = refl
   set-blank (x ∷ l) a k = ap (λ (r : List B). f x ∷ r) (set-blank l a k)
 
   -- one more takes the first blank place
   pub one-more : (n : ℕ) (l : List A) (a : A) → length l < n
-      → set (map f l ++ replicate (n - length l) blank) (length l) (f a) ≡ map f (l ++ (a ∷ [])) ++ replicate (n - length (l ++ (a ∷ []))) blank
+      → set (map f l ++ replicate (n - length l) blank) (length l) (f a)
+      ≡ map f (l ++ (a ∷ [])) ++ replicate (n - length (l ++ (a ∷ []))) blank
   one-more n l a h =
       let c = length-more l a in
       let e : n - length l ≡ suc (n - length (l ++ (a ∷ []))) = omega arith in
@@ -69,12 +67,14 @@ module _ (m : Bounds) where
       ap (λ (y : ℕ). getD (boundsOf m) y zeroBound) e ∙ entry-at (x / 5) (x % 5) a b
 
 -- a list with the entries of a matrix is the matrix
-pub bounds-are : (l : List Bound) (m : Bounds) → length l ≡ 25 → ((x : ℕ) → x < 25 → getD l x zeroBound ≡ boundOf (m (x / 5) (x % 5))) → l ≡ boundsOf m
+pub bounds-are : (l : List Bound) (m : Bounds) → length l ≡ 25 → ((x : ℕ) → x < 25 → getD l x zeroBound ≡ boundOf (m (x / 5) (x % 5)))
+    → l ≡ boundsOf m
 bounds-are l m h f =
     ext-getD zeroBound l (boundsOf m) (h ∙ sym (bounds-length m)) (λ x g. let k : x < 25 = rw h at g in f x k ∙ sym (getD-at m x k))
 
 -- one entry put in
-pub set-entry : (m : Bounds) (x : ℕ) (b : Limit Affine) → x < 25 → set (boundsOf m) x (boundOf b) ≡ boundsOf (putEntry (record { row = x / 5; column = x % 5 }) b m)
+pub set-entry : (m : Bounds) (x : ℕ) (b : Upper Affine) → x < 25
+    → set (boundsOf m) x (boundOf b) ≡ boundsOf (putEntry (record { row = x / 5; column = x % 5 }) b m)
 unfolding putEntry
 set-entry m x b h = bounds-are (set (boundsOf m) x (boundOf b)) (putEntry (record { row = x / 5; column = x % 5 }) b m)
     (length-set (boundsOf m) x (boundOf b) ∙ bounds-length m) (λ y g. by y g (eqb (y / 5) (x / 5)) (eqb (y % 5) (x % 5)) refl refl)

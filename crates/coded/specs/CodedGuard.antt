@@ -1,5 +1,5 @@
--- What the code does to zones in order under one guard (Guarded) is what the cutting does: the tree of tests is worked to the same listing, and a
--- refusal sticks on both sides.
+-- What the code does to zones in order under one guard (Guarded) is what the cutting does: the tree of tests is worked to the same
+-- listing, and a refusal sticks on both sides.
 use mathlib.Core.Path.{_≡_, refl, sym, ap, _∙_}
 use mathlib.Core.List.{List, [], _∷_, _++_, map}
 use mathlib.Core.Bool.{Bool, true, false, cond}
@@ -8,23 +8,24 @@ use native.Mathlib.Omega.{arith}
 use borrow.Author.Tests.{ltb-true, le-ltb, lt-ltb, eqb-false}
 use lib.Dec.{eqb, ltb}
 use lib.ListN.{length, set, replicate}
-use Rattle.cutting.specs.Cutting.{Bounds, Tree, cut, keep, wideTree, asks, guardTree, Listing, listed, refused, INEQS, ZONES, never, listZone, worked, guardZones, andThen}
+use Rattle.cutting.specs.Cutting.{Bounds, Tree, cut, keep, wideTree, asks, guardTree, Listing, listed, refused, INEQS, ZONES, never}
+use Rattle.cutting.specs.Cutting.{listZone, worked, guardZones, andThen}
 use Rattle.cutting.specs.Cutting as cutting
 use Rattle.cutting.specs.Listings.{worked-refused}
 use Rattle.expr.specs.Affine.{Affine, opposite}
-use Rattle.expr.specs.Three.{affine, exprOf, limitOf, rangeList}
+use Rattle.expr.specs.Three.{affine, exprOf, boundAs, rangeList, zeroExpr}
 use Rattle.search.specs.Valuations.{first}
 use Rattle.expr.specs.declared.number.Expr.{Expr}
 use Rattle.expr.specs.declared.range.Ranges.{Ranges}
 use Rattle.guards.specs.declared.Guard.{Guard}
-use Rattle.timed.specs.Right.{AllOf}
+use Rattle.timed.specs.Lists.{AllOf}
 use Rattle.coded.specs.Records.{boundsOf, zoneOf, zonesIn, coded}
 use Rattle.coded.specs.Coded.{one-more, length-more, taken}
 use Rattle.coded.specs.CodedTests.{pad-first, NarrowM, opposite-coded, never-is}
 use Rattle.coded.specs.CodedTree.{treeOf, Good, Same, guard-same}
 use Rattle.split.specs.Guarded.{ruleC, cutC, cutAll, guardedC}
 use Rattle.split.specs.Listed.{noneAt, refusedC, listC}
-use Rattle.zones.specs.Zone.{pick, zeroExpr, blankZone, plusC}
+use Rattle.zones.specs.Zone.{blankZone, plusC}
 use Rattle.parts.specs.Parts.{withBounds}
 use Rattle.split.specs.Trees.{TreeC, cutT, keepT, wideT, askT, treeAt, workedC}
 use Rattle.zones.specs.Settled.{oppositeC, neverC, isNone}
@@ -48,7 +49,8 @@ ineqs-more : (is : List Affine) (e : Affine) → map exprOf is ++ (exprOf e ∷ 
 ineqs-more [] e = refl
 ineqs-more (i ∷ is) e = ap (λ (l : List Expr). exprOf i ∷ l) (ineqs-more is e)
 
-never-coded : (b : Ranges) (is : List Affine) (m : Bounds) (e : Affine) → neverC b (zoneOf (with-ineqs is m)) (exprOf e) ≡ never (rangeList b) is e
+never-coded : (b : Ranges) (is : List Affine) (m : Bounds) (e : Affine)
+    → neverC b (zoneOf (with-ineqs is m)) (exprOf e) ≡ never (rangeList b) is e
 unfolding neverC zoneOf
 never-coded b is m e =
     ap (λ (l : List Expr). isNone (first (rangeList b) (map affine (l ++ (exprOf e ∷ []))))) (taken exprOf zeroExpr (24 - length is) is)
@@ -56,22 +58,28 @@ never-coded b is m e =
     ∙ ap isNone (pad-first b (is ++ (e ∷ [])))
     ∙ never-is b is e
 
-plus-coded : (is : List Affine) (m : Bounds) (e : Affine) → length is < 24 → plusC (zoneOf (with-ineqs is m)) (exprOf e) ≡ zoneOf (with-ineqs (is ++ (e ∷ [])) m)
+plus-coded : (is : List Affine) (m : Bounds) (e : Affine) → length is < 24
+    → plusC (zoneOf (with-ineqs is m)) (exprOf e) ≡ zoneOf (with-ineqs (is ++ (e ∷ [])) m)
 unfolding plusC zoneOf
 plus-coded is m e h =
     ap (λ (l : List Expr). record { count = suc (length is); ineqs = l; bounds = boundsOf m }) (one-more exprOf zeroExpr 24 is e h)
-    ∙ ap (λ (k : ℕ). record { count = k; ineqs = map exprOf (is ++ (e ∷ [])) ++ replicate (24 - length (is ++ (e ∷ []))) zeroExpr; bounds = boundsOf m })
+    ∙ ap
+    (λ (k : ℕ).
+    record { count = k; ineqs = map exprOf (is ++ (e ∷ [])) ++ replicate (24 - length (is ++ (e ∷ []))) zeroExpr; bounds = boundsOf m })
     (sym (length-more is e))
 
-list-coded : (visit : ℕ) (z : cutting.Zone) (zs : List cutting.Zone) → listC (zoneOf z) (coded visit (listed zs)) ≡ coded visit (listZone visit z zs)
+list-coded : (visit : ℕ) (z : cutting.Zone) (zs : List cutting.Zone)
+    → listC (zoneOf z) (coded visit (listed zs)) ≡ coded visit (listZone visit z zs)
 unfolding listC coded listZone refusedC zonesIn
 list-coded visit z zs = by (ltb (length zs) 32) refl
   where
     by : (b : Bool) → ltb (length zs) 32 ≡ b
-        → pick b (record { refusal = 0; visit = visit; count = suc (length zs); list = set (zonesIn zs) (length zs) (zoneOf z) }) (refusedC 7 (coded visit (listed zs)))
+        → cond b (record { refusal = 0; visit = visit; count = suc (length zs); list = set (zonesIn zs) (length zs) (zoneOf z) })
+        (refusedC 7 (coded visit (listed zs)))
         ≡ coded visit (cond b (listed (zs ++ (z ∷ []))) (refused 7 visit))
     by true h =
-        ap (λ (l : List Zone). record { refusal = 0; visit = visit; count = suc (length zs); list = l }) (one-more zoneOf blankZone 32 zs z (ltb-true (length zs) 32 h))
+        ap (λ (l : List Zone). record { refusal = 0; visit = visit; count = suc (length zs); list = l })
+        (one-more zoneOf blankZone 32 zs z (ltb-true (length zs) 32 h))
         ∙ ap (λ (k : ℕ). record { refusal = 0; visit = visit; count = k; list = zonesIn (zs ++ (z ∷ [])) }) (sym (length-more zs z))
     by false h = refl
 
@@ -80,9 +88,9 @@ unfolding zoneOf
 other-bounds is m₀ m = refl
 
 -- ---- a refusal sticks
-pick-all : {A : Type 0} (b : Bool) (x y o : A) → x ≡ o → y ≡ o → pick b x y ≡ o
-pick-all true x y o h k = h
-pick-all false x y o h k = k
+cond-all : {A : Type 0} (b : Bool) (x y o : A) → x ≡ o → y ≡ o → cond b x y ≡ o
+cond-all true x y o h k = h
+cond-all false x y o h k = k
 
 refused-stays : (n : ℕ) (out : Zones) → eqb (out .refusal) 0 ≡ false → refusedC n out ≡ out
 unfolding refusedC
@@ -94,10 +102,11 @@ sticks b cutT z out h = refl
 sticks b (keepT m) z out h = rw h (refused-stays 7 out h)
 sticks b wideT z out h = refused-stays 9 out h
 sticks b (askT e f) z out h =
-    pick-all (neverC b z e) (workedC b (f false) z out) _ out (sticks b (f false) z out h)
-    (pick-all (neverC b z (oppositeC e)) (workedC b (f true) z out) _ out (sticks b (f true) z out h)
-    (pick-all (ltb (z .count) 24) (workedC b (f false) (plusC z (oppositeC e)) (workedC b (f true) (plusC z e) out)) (refusedC 8 out) out
-    (ap (workedC b (f false) (plusC z (oppositeC e))) (sticks b (f true) (plusC z e) out h) ∙ sticks b (f false) (plusC z (oppositeC e)) out h)
+    cond-all (neverC b z e) (workedC b (f false) z out) _ out (sticks b (f false) z out h)
+    (cond-all (neverC b z (oppositeC e)) (workedC b (f true) z out) _ out (sticks b (f true) z out h)
+    (cond-all (ltb (z .count) 24) (workedC b (f false) (plusC z (oppositeC e)) (workedC b (f true) (plusC z e) out)) (refusedC 8 out) out
+    (ap (workedC b (f false) (plusC z (oppositeC e))) (sticks b (f true) (plusC z e) out h)
+    ∙ sticks b (f false) (plusC z (oppositeC e)) out h)
     (refused-stays 8 out h)))
 
 -- ---- a tree worked
@@ -116,10 +125,12 @@ module _ (b : Ranges) (visit : ℕ) where
   pick-sound true o u h k = h
   pick-sound false o u h k = k
 
-  keep-sound : (m : Bounds) → NarrowM m → (is : List Affine) (zs : List cutting.Zone) → AllOf NarrowZone zs → Sound (listZone visit (with-ineqs is m) zs)
+  keep-sound : (m : Bounds) → NarrowM m → (is : List Affine) (zs : List cutting.Zone) → AllOf NarrowZone zs
+      → Sound (listZone visit (with-ineqs is m) zs)
   unfolding listZone
   keep-sound m h is zs s =
-      pick-sound (ltb (length zs) ZONES) (listed (zs ++ (with-ineqs is m ∷ []))) (refused 7 visit) (all-more zs (with-ineqs is m) s (record { bounds = h })) refl
+      pick-sound (ltb (length zs) ZONES) (listed (zs ++ (with-ineqs is m ∷ []))) (refused 7 visit)
+      (all-more zs (with-ineqs is m) s (record { bounds = h })) refl
 
   pub worked-sound : (t : Tree) → Good t → StaysSound t
   unfolding worked
@@ -139,61 +150,69 @@ module _ (b : Ranges) (visit : ℕ) where
 
   module _ (m₀ : Bounds) where
     abbrev Coded : Tree → Type 0
-    Coded t = (is : List Affine) (o : Listing) → Sound o → workedC b (treeOf t) (zoneOf (with-ineqs is m₀)) (coded visit o) ≡ coded visit (works t is o)
+    Coded t =
+        (is : List Affine) (o : Listing) → Sound o
+        → workedC b (treeOf t) (zoneOf (with-ineqs is m₀)) (coded visit o) ≡ coded visit (works t is o)
 
-    module _ (e : Affine) (f : Bool → Tree) (g : Good (asks e f)) (ih : (x : Bool) → Coded (f x)) (is : List Affine) (zs : List cutting.Zone)
-        (s : AllOf NarrowZone zs) where
+    module _ (e : Affine) (f : Bool → Tree) (g : Good (asks e f)) (ih : (x : Bool) → Coded (f x)) (is : List Affine)
+        (zs : List cutting.Zone) (s : AllOf NarrowZone zs) where
       abbrev zone : Zone
       zone = zoneOf (with-ineqs is m₀)
 
       abbrev goes : Bool → Zone → Zones → Zones
       goes x z out = workedC b (treeOf (f x)) z out
 
-      -- both halves
-      split-coded : length is < 24
-          → goes false (plusC zone (exprOf (opposite e))) (goes true (plusC zone (exprOf e)) (coded visit (listed zs)))
-          ≡ coded visit (works (f false) (is ++ (opposite e ∷ [])) (works (f true) (is ++ (e ∷ [])) (listed zs)))
-      split-coded h =
-          ap (λ (z : Zone). goes false z (goes true (plusC zone (exprOf e)) (coded visit (listed zs)))) (plus-coded is m₀ (opposite e) h)
-          ∙ ap (λ (z : Zone). goes false (zoneOf (with-ineqs (is ++ (opposite e ∷ [])) m₀)) (goes true z (coded visit (listed zs)))) (plus-coded is m₀ e h)
-          ∙ ap (goes false (zoneOf (with-ineqs (is ++ (opposite e ∷ [])) m₀))) (ih true (is ++ (e ∷ [])) (listed zs) s)
-          ∙ ih false (is ++ (opposite e ∷ [])) (works (f true) (is ++ (e ∷ [])) (listed zs)) (worked-sound (f true) (g .1 true) (is ++ (e ∷ [])) (listed zs) s)
+      -- what was listed before
+      abbrev out : Zones
+      out = coded visit (listed zs)
 
-      room-coded : (x : Bool) → ltb (length is) 24 ≡ x
-          → pick x (goes false (plusC zone (exprOf (opposite e))) (goes true (plusC zone (exprOf e)) (coded visit (listed zs)))) (refusedC 8 (coded visit (listed zs)))
-          ≡ coded visit (cond x (works (f false) (is ++ (opposite e ∷ [])) (works (f true) (is ++ (e ∷ [])) (listed zs))) (refused 8 visit))
+      -- both halves, as the code has them and as the cutting has them
+      abbrev halvesC : Zones
+      halvesC = goes false (plusC zone (exprOf (opposite e))) (goes true (plusC zone (exprOf e)) out)
+
+      abbrev halves : Listing
+      halves = works (f false) (is ++ (opposite e ∷ [])) (works (f true) (is ++ (e ∷ [])) (listed zs))
+
+      split-coded : length is < 24 → halvesC ≡ coded visit halves
+      split-coded h =
+          ap (λ (z : Zone). goes false z (goes true (plusC zone (exprOf e)) out)) (plus-coded is m₀ (opposite e) h)
+          ∙ ap (λ (z : Zone). goes false (zoneOf (with-ineqs (is ++ (opposite e ∷ [])) m₀)) (goes true z out)) (plus-coded is m₀ e h)
+          ∙ ap (goes false (zoneOf (with-ineqs (is ++ (opposite e ∷ [])) m₀))) (ih true (is ++ (e ∷ [])) (listed zs) s)
+          ∙ ih false (is ++ (opposite e ∷ [])) (works (f true) (is ++ (e ∷ [])) (listed zs))
+          (worked-sound (f true) (g .1 true) (is ++ (e ∷ [])) (listed zs) s)
+
+      room-coded : (x : Bool) → ltb (length is) 24 ≡ x → cond x halvesC (refusedC 8 out) ≡ coded visit (cond x halves (refused 8 visit))
       unfolding refusedC coded
       room-coded true h = split-coded (ltb-true (length is) 24 h)
       room-coded false h = refl
 
       all-coded : (x : Bool)
-          → pick x (goes true zone (coded visit (listed zs)))
-          (pick (ltb (length is) 24) (goes false (plusC zone (exprOf (opposite e))) (goes true (plusC zone (exprOf e)) (coded visit (listed zs)))) (refusedC 8 (coded visit (listed zs))))
-          ≡ coded visit (cond x (works (f true) is (listed zs))
-          (cond (ltb (length is) INEQS) (works (f false) (is ++ (opposite e ∷ [])) (works (f true) (is ++ (e ∷ [])) (listed zs))) (refused 8 visit)))
+          → cond x (goes true zone out) (cond (ltb (length is) 24) halvesC (refusedC 8 out))
+          ≡ coded visit (cond x (works (f true) is (listed zs)) (cond (ltb (length is) INEQS) halves (refused 8 visit)))
       all-coded true = ih true is (listed zs) s
       all-coded false = room-coded (ltb (length is) 24) refl
 
       none-coded : (x : Bool)
-          → pick x (goes false zone (coded visit (listed zs)))
-          (pick (never (rangeList b) is (opposite e)) (goes true zone (coded visit (listed zs)))
-          (pick (ltb (length is) 24) (goes false (plusC zone (exprOf (opposite e))) (goes true (plusC zone (exprOf e)) (coded visit (listed zs)))) (refusedC 8 (coded visit (listed zs)))))
+          → cond x (goes false zone out)
+          (cond (never (rangeList b) is (opposite e)) (goes true zone out) (cond (ltb (length is) 24) halvesC (refusedC 8 out)))
           ≡ coded visit (cond x (works (f false) is (listed zs))
           (cond (never (rangeList b) is (opposite e)) (works (f true) is (listed zs))
-          (cond (ltb (length is) INEQS) (works (f false) (is ++ (opposite e ∷ [])) (works (f true) (is ++ (e ∷ [])) (listed zs))) (refused 8 visit))))
+          (cond (ltb (length is) INEQS) halves (refused 8 visit))))
       none-coded true = ih false is (listed zs) s
       none-coded false = all-coded (never (rangeList b) is (opposite e))
 
-      asks-coded : workedC b (treeOf (asks e f)) zone (coded visit (listed zs)) ≡ coded visit (works (asks e f) is (listed zs))
+      asks-coded : workedC b (treeOf (asks e f)) zone out ≡ coded visit (works (asks e f) is (listed zs))
       unfolding workedC worked zoneOf
       asks-coded =
-          rw (opposite-coded e (g .0)) (rw (never-coded b is m₀ e, never-coded b is m₀ (opposite e)) (none-coded (never (rangeList b) is e)))
+          rw (opposite-coded e (g .0))
+          (rw (never-coded b is m₀ e, never-coded b is m₀ (opposite e)) (none-coded (never (rangeList b) is e)))
 
     stuck : (t : Tree) (is : List Affine) (n k : ℕ) → eqb n 0 ≡ false
         → workedC b (treeOf t) (zoneOf (with-ineqs is m₀)) (coded visit (refused n k)) ≡ coded visit (works t is (refused n k))
     unfolding coded
     stuck t is n k s =
-        sticks b (treeOf t) (zoneOf (with-ineqs is m₀)) (coded visit (refused n k)) s ∙ ap (coded visit) (sym (worked-refused (rangeList b) visit t is n k))
+        sticks b (treeOf t) (zoneOf (with-ineqs is m₀)) (coded visit (refused n k)) s
+        ∙ ap (coded visit) (sym (worked-refused (rangeList b) visit t is n k))
 
     pub worked-coded : (t : Tree) → Good t → Coded t
     unfolding workedC worked coded refusedC
@@ -209,7 +228,7 @@ module _ (b : Ranges) (visit : ℕ) where
 -- ---- one guard
 module _ (b : Ranges) (visit w : ℕ) (g : Guard) (four : w ≤ 4) (left : g .left ≤ 4) (right : g .right ≤ 4) where
   abbrev tree : cutting.Zone → Tree
-  tree z = guardTree w (g .left) (g .right) (limitOf (g .bound)) (z .bounds)
+  tree z = guardTree w (g .left) (g .right) (boundAs (g .bound)) (z .bounds)
 
   trees-same : (z : cutting.Zone) → NarrowZone z → Same (treeAt (ruleC w g (zoneOf z)) 0 (boundsOf (z .bounds))) (tree z)
   unfolding zoneOf

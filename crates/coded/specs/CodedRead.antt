@@ -1,5 +1,5 @@
--- The code's records of zones read back: which valuations a zone holds, its entries with a valuation put in, and how many valuations all zones
--- hold, are those of the cutting.
+-- The code's records of zones read back: which valuations a zone holds, its entries with a valuation put in, and how many valuations all
+-- zones hold, are those of the cutting.
 use mathlib.Core.Path.{_≡_, refl, ap, _∙_}
 use mathlib.Core.List.{List, [], _∷_, map}
 use Prim.Native.Nat.{ℕ, _+_, _-_, _≤_}
@@ -8,9 +8,9 @@ use lib.ListN.{length, take}
 use Rattle.cutting.specs.Kept.{keptOf}
 use Rattle.cutting.specs.Cutting as cutting
 use Rattle.cutting.specs.Held.{holds, at}
-use Rattle.expr.specs.Limit.{atV}
+use Rattle.expr.specs.Bounds.{atV}
 use Rattle.expr.specs.Ranges.{Inside}
-use Rattle.expr.specs.Three.{affine, exprOf, limitOf, rangeList}
+use Rattle.expr.specs.Three.{affine, exprOf, boundAs, rangeList, zeroExpr}
 use Rattle.search.specs.Valuations.{satisfies, count}
 use Rattle.expr.specs.declared.bound.Bound.{Bound}
 use Rattle.expr.specs.declared.number.Expr.{Expr}
@@ -18,7 +18,7 @@ use Rattle.expr.specs.declared.range.Ranges.{Ranges}
 use Rattle.coded.specs.Records.{zoneOf, zonesIn}
 use Rattle.coded.specs.Coded.{taken, entry-at}
 use Rattle.coded.specs.CodedTests.{pad-at, pad-satisfies, pad-count, inside-length}
-use Rattle.zones.specs.Zone.{zeroExpr, blankZone}
+use Rattle.zones.specs.Zone.{blankZone}
 use Rattle.constrain.specs.Rules.{entryC}
 use Rattle.zones.specs.declared.zone.Zone.{Zone}
 
@@ -41,13 +41,14 @@ holds-coded b z v h =
 
 -- its entries are the same at each
 pub entry-coded : (b : Ranges) (z : cutting.Zone) (v : List ℤ) → Inside v (rangeList b) → (i j : ℕ) → i ≤ 4 → j ≤ 4
-    → atV v (limitOf (entryC (zoneOf z .bounds) i j)) ≡ at v (z .bounds) i j
+    → atV v (boundAs (entryC (zoneOf z .bounds) i j)) ≡ at v (z .bounds) i j
 unfolding zoneOf at
 entry-coded b z v h i j hi hj =
-    ap (λ (e : Bound). atV v (limitOf e)) (entry-at (z .bounds) i j hi hj) ∙ pad-at (z .bounds i j) v (inside-length v (rangeList b) h)
+    ap (λ (e : Bound). atV v (boundAs e)) (entry-at (z .bounds) i j hi hj) ∙ pad-at (z .bounds i j) v (inside-length v (rangeList b) h)
 
 -- it holds as many of the ranges
-pub count-coded : (b : Ranges) (z : cutting.Zone) → count (rangeList b) (map affine (take (zoneOf z .count) (zoneOf z .ineqs))) ≡ count (rangeList b) (z .ineqs)
+pub count-coded : (b : Ranges) (z : cutting.Zone)
+    → count (rangeList b) (map affine (take (zoneOf z .count) (zoneOf z .ineqs))) ≡ count (rangeList b) (z .ineqs)
 count-coded b z = ap (λ (l : List Expr). count (rangeList b) (map affine l)) (ineqs-coded z) ∙ pad-count b (z .ineqs)
 
 -- ---- all zones

@@ -1,8 +1,8 @@
--- The code's records of expressions lose nothing: an expression has at most three coefficients, and one that is missing is zero. So values, sums,
--- tests and opposites are those of the cutting, and so is what no valuation of a zone satisfies.
+-- The code's records of expressions lose nothing: an expression has at most three coefficients, and one that is missing is zero. So
+-- values, sums, tests and opposites are those of the cutting, and so is what no valuation of a zone satisfies.
 use mathlib.Core.Path.{_≡_, refl, ap, _∙_}
 use mathlib.Core.List.{List, [], _∷_, _++_, map, List·Memᴰ, List·Memᴰ·head, List·Memᴰ·tail}
-use mathlib.Core.Bool.{Bool, true, false, _&&_, _||_}
+use mathlib.Core.Bool.{Bool, true, false, _&&_, _||_, cond}
 use mathlib.Core.Option.{Option}
 use mathlib.Core.Option as option
 use Prim.Native.Nat.{ℕ, zero, suc, _≤_}
@@ -10,13 +10,15 @@ use native.Mathlib.Omega.{arith}
 use lib.IntN.{ℤ, pos, negsuc, negℤ, _+ℤ_, _-ℤ_, _*ℤ_, zero-*ℤ, +ℤ-idl}
 use lib.ListN.{length, getD, length-map}
 use lib.Signed.{leZ, _≤ℤ_}
-use Rattle.cutting.specs.Cutting.{Bounds, zeroB, never}
-use Rattle.expr.specs.Affine.{Affine, dot, value, plusL, minusL, plus, minus, lessOne, opposite, within, allWithin, Judged, fine, wide, judge, pickJ, LIMIT}
-use Rattle.expr.specs.Limit.{Limit, none, limit, atV, marked, sumB, Question, yes′, no′, ask, wide′, asked, slackE, tighterB}
+use Rattle.cutting.specs.Cutting.{Bounds, never}
+use Rattle.expr.specs.Bounds.{zeroB, atV, marked, sumB, Question, yes′, no′, ask, wide′, asked, slackE, tighterB}
+use Rattle.expr.specs.Affine.{Affine, dot, value, plusL, minusL, plus, minus, lessOne, opposite, within, allWithin, Judged, fine, wide}
+use Rattle.expr.specs.Affine.{judge, WIDEST, OPPOSITE}
+use Rattle.weight.specs.Upper.{Upper, none, upper}
 use Rattle.expr.specs.Ranges.{Inside}
 use Rattle.integer.specs.Bools.{and-left, and-right, and-both}
 use Rattle.search.specs.SearchLaws.{valuations-inside}
-use Rattle.expr.specs.Three.{affine, exprOf, limitOf, boundOf, boundSum, test, OPPOSITE, rangeList, pickL}
+use Rattle.expr.specs.Three.{affine, exprOf, boundAs, boundOf, boundSum, test, rangeList}
 use Rattle.search.specs.Valuations.{valuations, satisfies, firstIn, countIn, first, count}
 use Rattle.expr.specs.declared.bound.Bound.{Bound}
 use Rattle.expr.specs.declared.number.Expr.{Expr}
@@ -30,8 +32,8 @@ use Rattle.zones.specs.Settled.{oppositeC, isNone}
 abbrev pub pad : Affine → Affine
 pad e = affine (exprOf e)
 
-abbrev pub padB : Limit Affine → Limit Affine
-padB b = limitOf (boundOf b)
+abbrev pub padB : Upper Affine → Upper Affine
+padB b = boundAs (boundOf b)
 
 -- ---- values
 zero-step : (q x : ℤ) → x ≡ pos 0 → (pos 0 *ℤ q) +ℤ x ≡ pos 0
@@ -72,10 +74,10 @@ pub pad-value : (e : Affine) (v : List ℤ) → length v ≡ 3 → value (pad e)
 unfolding value
 pad-value e v h = ap (λ (x : ℤ). e .constant +ℤ x) (ap (λ (l : List ℤ). dot l v) (pad-coefs e) ∙ dot-pad 3 (e .coefs) v h)
 
-pub pad-at : (b : Limit Affine) (v : List ℤ) → length v ≡ 3 → atV v (padB b) ≡ atV v b
+pub pad-at : (b : Upper Affine) (v : List ℤ) → length v ≡ 3 → atV v (padB b) ≡ atV v b
 unfolding atV
 pad-at none v h = refl
-pad-at (limit s e) v h = ap (limit s) (pad-value e v h)
+pad-at (upper s e) v h = ap (upper s) (pad-value e v h)
 
 pub pad-satisfies : (es : List Affine) (v : List ℤ) → length v ≡ 3 → satisfies (map affine (map exprOf es)) v ≡ satisfies es v
 unfolding satisfies
@@ -165,11 +167,11 @@ pad-slack false t a b = ap lessOne (pad-minus b a) ∙ pad-less (minus b a)
 pub record Narrow (e : Affine) : Type 0 where
   pub three : length (e .coefs) ≤ 3
 
-abbrev pub NarrowB : Limit Affine → Type 0
+abbrev pub NarrowB : Upper Affine → Type 0
 NarrowB none = Unit {0}
-NarrowB (limit s e) = Narrow e
+NarrowB (upper s e) = Narrow e
 
-abbrev pub NarrowJ : Judged (Limit Affine) → Type 0
+abbrev pub NarrowJ : Judged (Upper Affine) → Type 0
 NarrowJ (fine b) = NarrowB b
 NarrowJ wide = Unit {0}
 
@@ -212,78 +214,79 @@ pub pad-narrow : (x : Expr) → Narrow (affine x)
 pad-narrow x = record { three = omega arith }
 
 -- a bound of the code has three
-pub limit-narrow : (x : Bound) → NarrowB (limitOf x)
+pub limit-narrow : (x : Bound) → NarrowB (boundAs x)
 limit-narrow x = by (x .none)
   where
-    by : (b : Bool) → NarrowB (pickL b none (limit (x .strict) (affine (x .expr))))
+    by : (b : Bool) → NarrowB (cond b none (upper (x .strict) (affine (x .expr))))
     by true = tt
     by false = pad-narrow (x .expr)
 
 pub zero-narrow : NarrowB zeroB
 zero-narrow = record { three = omega arith }
 
-pub sum-narrow : (a b : Limit Affine) → NarrowB a → NarrowB b → NarrowJ (sumB a b)
+pub sum-narrow : (a b : Upper Affine) → NarrowB a → NarrowB b → NarrowJ (sumB a b)
 unfolding sumB marked judge
 sum-narrow none b h k = tt
-sum-narrow (limit s a) none h k = tt
-sum-narrow (limit s a) (limit t b) h k = by (allWithin LIMIT (plus a b .constant ∷ plus a b .coefs))
+sum-narrow (upper s a) none h k = tt
+sum-narrow (upper s a) (upper t b) h k = by (allWithin WIDEST (plus a b .constant ∷ plus a b .coefs))
   where
-    by : (x : Bool) → NarrowJ (marked (s || t) (pickJ x (fine (plus a b)) wide))
+    by : (x : Bool) → NarrowJ (marked (s || t) (cond x (fine (plus a b)) wide))
     by true = plus-narrow a b h k
     by false = tt
 
 -- ---- judging sees the same
-within-pad : (cs : List ℤ) → length cs ≤ 3 → allWithin LIMIT (getD cs 0 (pos 0) ∷ getD cs 1 (pos 0) ∷ getD cs 2 (pos 0) ∷ []) ≡ allWithin LIMIT cs
+within-pad : (cs : List ℤ) → length cs ≤ 3
+    → allWithin WIDEST (getD cs 0 (pos 0) ∷ getD cs 1 (pos 0) ∷ getD cs 2 (pos 0) ∷ []) ≡ allWithin WIDEST cs
 within-pad [] h = refl
 within-pad (c ∷ []) h = refl
 within-pad (c ∷ d ∷ []) h = refl
 within-pad (c ∷ d ∷ e ∷ []) h = refl
 within-pad (c ∷ d ∷ e ∷ f ∷ cs) h = absurd (omega arith)
 
-pad-within : (e : Affine) → Narrow e → allWithin LIMIT (pad e .constant ∷ pad e .coefs) ≡ allWithin LIMIT (e .constant ∷ e .coefs)
-pad-within e h = ap (λ (b : Bool). within LIMIT (e .constant) && b) (within-pad (e .coefs) (h .three))
+pad-within : (e : Affine) → Narrow e → allWithin WIDEST (pad e .constant ∷ pad e .coefs) ≡ allWithin WIDEST (e .constant ∷ e .coefs)
+pad-within e h = ap (λ (b : Bool). within WIDEST (e .constant) && b) (within-pad (e .coefs) (h .three))
 
-pad-marked : (s : Bool) (e : Affine) → Narrow e → boundSum (marked s (judge LIMIT (pad e))) ≡ boundSum (marked s (judge LIMIT e))
+pad-marked : (s : Bool) (e : Affine) → Narrow e → boundSum (marked s (judge WIDEST (pad e))) ≡ boundSum (marked s (judge WIDEST e))
 unfolding marked judge
-pad-marked s e h = rw (pad-within e h) (by (allWithin LIMIT (e .constant ∷ e .coefs)))
+pad-marked s e h = rw (pad-within e h) (by (allWithin WIDEST (e .constant ∷ e .coefs)))
   where
-    by : (x : Bool) → boundSum (marked s (pickJ x (fine (pad e)) wide)) ≡ boundSum (marked s (pickJ x (fine e) wide))
+    by : (x : Bool) → boundSum (marked s (cond x (fine (pad e)) wide)) ≡ boundSum (marked s (cond x (fine e) wide))
     by true = refl
     by false = refl
 
-pad-asked : (e : Affine) → Narrow e → test (asked (judge LIMIT (pad e))) ≡ test (asked (judge LIMIT e))
+pad-asked : (e : Affine) → Narrow e → test (asked (judge WIDEST (pad e))) ≡ test (asked (judge WIDEST e))
 unfolding asked judge
-pad-asked e h = rw (pad-within e h) (by (allWithin LIMIT (e .constant ∷ e .coefs)))
+pad-asked e h = rw (pad-within e h) (by (allWithin WIDEST (e .constant ∷ e .coefs)))
   where
-    by : (x : Bool) → test (asked (pickJ x (fine (pad e)) wide)) ≡ test (asked (pickJ x (fine e) wide))
+    by : (x : Bool) → test (asked (cond x (fine (pad e)) wide)) ≡ test (asked (cond x (fine e) wide))
     by true = refl
     by false = refl
 
 -- ---- sums and tests of bounds
-pub pad-sum : (a b : Limit Affine) → NarrowB a → NarrowB b → boundSum (sumB (padB a) (padB b)) ≡ boundSum (sumB a b)
+pub pad-sum : (a b : Upper Affine) → NarrowB a → NarrowB b → boundSum (sumB (padB a) (padB b)) ≡ boundSum (sumB a b)
 unfolding sumB
 pad-sum none b h k = refl
-pad-sum (limit s a) none h k = refl
-pad-sum (limit s a) (limit t b) h k = rw (pad-plus a b) (pad-marked (s || t) (plus a b) (plus-narrow a b h k))
+pad-sum (upper s a) none h k = refl
+pad-sum (upper s a) (upper t b) h k = rw (pad-plus a b) (pad-marked (s || t) (plus a b) (plus-narrow a b h k))
 
-pub pad-test : (a b : Limit Affine) → NarrowB a → NarrowB b → test (tighterB (padB a) (padB b)) ≡ test (tighterB a b)
+pub pad-test : (a b : Upper Affine) → NarrowB a → NarrowB b → test (tighterB (padB a) (padB b)) ≡ test (tighterB a b)
 unfolding tighterB
 pad-test none b h k = refl
-pad-test (limit s a) none h k = refl
-pad-test (limit s a) (limit t b) h k = rw (pad-slack s t a b) (pad-asked (slackE s t a b) (slack-narrow s t a b h k))
+pad-test (upper s a) none h k = refl
+pad-test (upper s a) (upper t b) h k = rw (pad-slack s t a b) (pad-asked (slackE s t a b) (slack-narrow s t a b h k))
 
 -- a bound of the code stands for itself
-pub limit-pad : (x : Bound) → padB (limitOf x) ≡ limitOf x
+pub limit-pad : (x : Bound) → padB (boundAs x) ≡ boundAs x
 limit-pad x = by (x .none)
   where
-    by : (b : Bool) → padB (pickL b none (limit (x .strict) (affine (x .expr)))) ≡ pickL b none (limit (x .strict) (affine (x .expr)))
+    by : (b : Bool) → padB (cond b none (upper (x .strict) (affine (x .expr)))) ≡ cond b none (upper (x .strict) (affine (x .expr)))
     by true = refl
     by false = refl
 
 -- ---- opposites
 -- all numbers of an expression lie from -1,000,000 to 1,000,000
 pub record InLimit (e : Affine) : Type 0 where
-  pub all : allWithin LIMIT (e .constant ∷ e .coefs) ≡ true
+  pub all : allWithin WIDEST (e .constant ∷ e .coefs) ≡ true
 
 abbrev pub Asked : Question → Type 0
 Asked yes′ = Unit {0}
@@ -292,48 +295,50 @@ Asked (ask e) = InLimit e
 Asked wide′ = Unit {0}
 
 -- what a test asks was judged
-pub tighter-asked : (a b : Limit Affine) → Asked (tighterB a b)
+pub tighter-asked : (a b : Upper Affine) → Asked (tighterB a b)
 unfolding tighterB asked judge
 tighter-asked none b = tt
-tighter-asked (limit s a) none = tt
-tighter-asked (limit s a) (limit t b) = by (slackE s t a b) (allWithin LIMIT (slackE s t a b .constant ∷ slackE s t a b .coefs)) refl
+tighter-asked (upper s a) none = tt
+tighter-asked (upper s a) (upper t b) = by (slackE s t a b) (allWithin WIDEST (slackE s t a b .constant ∷ slackE s t a b .coefs)) refl
   where
-    by : (e : Affine) (x : Bool) → allWithin LIMIT (e .constant ∷ e .coefs) ≡ x → Asked (asked (pickJ x (fine e) wide))
+    by : (e : Affine) (x : Bool) → allWithin WIDEST (e .constant ∷ e .coefs) ≡ x → Asked (asked (cond x (fine e) wide))
     by e true h = record { all = h }
     by e false h = tt
 
-within-at : (cs : List ℤ) (k : ℕ) → allWithin LIMIT cs ≡ true → within LIMIT (getD cs k (pos 0)) ≡ true
+within-at : (cs : List ℤ) (k : ℕ) → allWithin WIDEST cs ≡ true → within WIDEST (getD cs k (pos 0)) ≡ true
 within-at [] k h = refl
-within-at (c ∷ cs) zero h = and-left (within LIMIT c) (allWithin LIMIT cs) h
-within-at (c ∷ cs) (suc k) h = within-at cs k (and-right (within LIMIT c) (allWithin LIMIT cs) h)
+within-at (c ∷ cs) zero h = and-left (within WIDEST c) (allWithin WIDEST cs) h
+within-at (c ∷ cs) (suc k) h = within-at cs k (and-right (within WIDEST c) (allWithin WIDEST cs) h)
 
-turn-low : (x : ℤ) → leZ x LIMIT ≡ true → leZ (negℤ OPPOSITE) (negsuc 0 -ℤ x) ≡ true
+turn-low : (x : ℤ) → leZ x WIDEST ≡ true → leZ (negℤ OPPOSITE) (negsuc 0 -ℤ x) ≡ true
 turn-low x = rw (split x) (simp split-all (omega arith))
 
-turn-high : (x : ℤ) → negℤ LIMIT ≤ℤ x → leZ (negsuc 0 -ℤ x) OPPOSITE ≡ true
+turn-high : (x : ℤ) → negℤ WIDEST ≤ℤ x → leZ (negsuc 0 -ℤ x) OPPOSITE ≡ true
 turn-high x = rw (split x) (simp split-all (omega arith))
 
-neg-low : (x : ℤ) → leZ x LIMIT ≡ true → leZ (negℤ OPPOSITE) (negℤ x) ≡ true
+neg-low : (x : ℤ) → leZ x WIDEST ≡ true → leZ (negℤ OPPOSITE) (negℤ x) ≡ true
 neg-low x = rw (split x) (simp split-all (omega arith))
 
-neg-high : (x : ℤ) → negℤ LIMIT ≤ℤ x → leZ (negℤ x) OPPOSITE ≡ true
+neg-high : (x : ℤ) → negℤ WIDEST ≤ℤ x → leZ (negℤ x) OPPOSITE ≡ true
 neg-high x = rw (split x) (simp split-all (omega arith))
 
-turn-within : (x : ℤ) → within LIMIT x ≡ true → within OPPOSITE (negsuc 0 -ℤ x) ≡ true
+turn-within : (x : ℤ) → within WIDEST x ≡ true → within OPPOSITE (negsuc 0 -ℤ x) ≡ true
 turn-within x h = and-both (leZ (negℤ OPPOSITE) (negsuc 0 -ℤ x)) (leZ (negsuc 0 -ℤ x) OPPOSITE)
-    (turn-low x (and-right (leZ (negℤ LIMIT) x) (leZ x LIMIT) h)) (turn-high x (leZ-true (and-left (leZ (negℤ LIMIT) x) (leZ x LIMIT) h)))
+    (turn-low x (and-right (leZ (negℤ WIDEST) x) (leZ x WIDEST) h))
+    (turn-high x (leZ-true (and-left (leZ (negℤ WIDEST) x) (leZ x WIDEST) h)))
 
-neg-within : (x : ℤ) → within LIMIT x ≡ true → within OPPOSITE (negℤ x) ≡ true
+neg-within : (x : ℤ) → within WIDEST x ≡ true → within OPPOSITE (negℤ x) ≡ true
 neg-within x h = and-both (leZ (negℤ OPPOSITE) (negℤ x)) (leZ (negℤ x) OPPOSITE)
-    (neg-low x (and-right (leZ (negℤ LIMIT) x) (leZ x LIMIT) h)) (neg-high x (leZ-true (and-left (leZ (negℤ LIMIT) x) (leZ x LIMIT) h)))
+    (neg-low x (and-right (leZ (negℤ WIDEST) x) (leZ x WIDEST) h))
+    (neg-high x (leZ-true (and-left (leZ (negℤ WIDEST) x) (leZ x WIDEST) h)))
 
 -- the code's opposite of what was asked
 pub opposite-coded : (e : Affine) → InLimit e → oppositeC (exprOf e) ≡ exprOf (opposite e)
 unfolding oppositeC judge opposite
 opposite-coded e h =
-    let w = and-right (within LIMIT (e .constant)) (allWithin LIMIT (e .coefs)) (h .all) in
+    let w = and-right (within WIDEST (e .constant)) (allWithin WIDEST (e .coefs)) (h .all) in
     rw (
-      turn-within (e .constant) (and-left (within LIMIT (e .constant)) (allWithin LIMIT (e .coefs)) (h .all)),
+      turn-within (e .constant) (and-left (within WIDEST (e .constant)) (allWithin WIDEST (e .coefs)) (h .all)),
       neg-within (getD (e .coefs) 0 (pos 0)) (within-at (e .coefs) 0 w),
       neg-within (getD (e .coefs) 1 (pos 0)) (within-at (e .coefs) 1 w),
       neg-within (getD (e .coefs) 2 (pos 0)) (within-at (e .coefs) 2 w),
@@ -347,6 +352,7 @@ pub never-is : (b : Ranges) (es : List Affine) (e : Affine) → isNone (first (r
 unfolding never
 never-is b es e = by (first (rangeList b) (es ++ (e ∷ []))) refl
   where
-    by : (o : Option (List ℤ)) → first (rangeList b) (es ++ (e ∷ [])) ≡ o → isNone (first (rangeList b) (es ++ (e ∷ []))) ≡ never (rangeList b) es e
+    by : (o : Option (List ℤ)) → first (rangeList b) (es ++ (e ∷ [])) ≡ o
+        → isNone (first (rangeList b) (es ++ (e ∷ []))) ≡ never (rangeList b) es e
     by option.none q = rw q refl
     by (option.some v) q = rw q refl

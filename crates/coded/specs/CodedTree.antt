@@ -1,5 +1,5 @@
--- What the code asks under one guard is what the cutting asks: the code's tree of tests (Parts) is the cutting's, test for test and matrix for
--- matrix. What the tree keeps is narrow, and what it asks was judged.
+-- What the code asks under one guard is what the cutting asks: the code's tree of tests (Parts) is the cutting's, test for test and
+-- matrix for matrix. What the tree keeps is narrow, and what it asks was judged.
 use mathlib.Core.Path.{_≡_, refl, sym, ap, subst, fun-ext, _∙_}
 use mathlib.Core.List.{List, [], _∷_}
 use mathlib.Core.Bool.{Bool, true, false, cond}
@@ -7,11 +7,12 @@ use Prim.Native.Nat.{ℕ, zero, suc, _+_, _/_, _%_, _≤_, _<_}
 use native.Mathlib.Omega.{arith}
 use lib.Dec.{eqb, ltb}
 use lib.ListN.{getD, set}
-use Rattle.cutting.specs.Cutting.{Bounds, zeroB, Tree, cut, keep, wideTree, asks, summed, tested, Place, putEntry, rowFrom, rowsFrom, places, pushed, guardTree}
-use Rattle.cutting.specs.Cutting as cutting
+use Rattle.cutting.specs.Cutting.{Bounds, Tree, cut, keep, wideTree, asks, summed, tested, Place, putEntry, rowFrom, rowsFrom, places}
+use Rattle.cutting.specs.Cutting.{pushed, guardTree}
+use Rattle.expr.specs.Bounds.{zeroB, sumB, tighterB, Question, yes′, no′, ask, wide′}
 use Rattle.expr.specs.Affine.{Affine, Judged, fine, wide}
-use Rattle.expr.specs.Limit.{Limit, sumB, tighterB, Question, yes′, no′, ask, wide′}
-use Rattle.expr.specs.Three.{exprOf, limitOf, boundOf, boundSum, test}
+use Rattle.weight.specs.Upper.{Upper}
+use Rattle.expr.specs.Three.{exprOf, boundAs, boundOf, boundSum, test, zeroBound}
 use Rattle.expr.specs.declared.bound.Bound.{Bound}
 use Rattle.expr.specs.declared.bound.BoundSum.{BoundSum}
 use Rattle.expr.specs.declared.bound.Test.{Test}
@@ -19,8 +20,8 @@ use Rattle.expr.specs.declared.bound.Test.the-variants.{No}
 use Rattle.dbm.specs.Entries.{up-to-4}
 use Rattle.coded.specs.Records.{boundsOf}
 use Rattle.coded.specs.Coded.{entry-at, getD-at, set-entry}
-use Rattle.coded.specs.CodedTests.{padB, NarrowB, NarrowJ, NarrowM, limit-narrow, zero-narrow, sum-narrow, pad-sum, pad-test, limit-pad, InLimit, Asked, tighter-asked}
-use Rattle.zones.specs.Zone.{pick, zeroBound}
+use Rattle.coded.specs.CodedTests.{padB, NarrowB, NarrowJ, NarrowM, limit-narrow, zero-narrow, sum-narrow, pad-sum, pad-test}
+use Rattle.coded.specs.CodedTests.{limit-pad, InLimit, Asked, tighter-asked}
 use Rattle.split.specs.Trees.{TreeC, cutT, keepT, wideT, askT, testedC, pushC, tightC, treeAt}
 use Rattle.constrain.specs.Rules.{entryC, sumC, tighterC, testSum, sumSum, viaBound, voidTest, tightTest, viaC, pushTest}
 use Rattle.constrain.specs.declared.rule.Rule.{Rule}
@@ -44,7 +45,8 @@ pub record Same (c : TreeC) (t : Tree) : Type 0 where
   pub same : c ≡ treeOf t
   pub good : Good t
 
-tested-same : (q : Question) (f : Bool → TreeC) (g : Bool → Tree) → Asked q → ((b : Bool) → Same (f b) (g b)) → Same (testedC (test q) f) (tested q g)
+tested-same : (q : Question) (f : Bool → TreeC) (g : Bool → Tree) → Asked q → ((b : Bool) → Same (f b) (g b))
+    → Same (testedC (test q) f) (tested q g)
 unfolding testedC tested
 tested-same yes′ f g a h = h true
 tested-same no′ f g a h = h false
@@ -52,9 +54,9 @@ tested-same (ask e) f g a h = record { same = ap (askT (exprOf e)) (fun-ext (λ 
 tested-same wide′ f g a h = record { same = refl; good = tt }
 
 -- a sum, and then a test of it
-module _ (d : Limit Affine) (nd : NarrowB d) (f : Bound → Bool → TreeC) (g : Limit Affine → Bool → Tree)
-    (h : (t : Limit Affine) (b : Bool) → NarrowB t → Same (f (boundOf t) b) (g t b)) where
-  sum-same : (j : Judged (Limit Affine)) → NarrowJ j
+module _ (d : Upper Affine) (nd : NarrowB d) (f : Bound → Bool → TreeC) (g : Upper Affine → Bool → Tree)
+    (h : (t : Upper Affine) (b : Bool) → NarrowB t → Same (f (boundOf t) b) (g t b)) where
+  sum-same : (j : Judged (Upper Affine)) → NarrowJ j
       → Same (testedC (testSum (boundSum j) (boundOf d)) (f (viaBound (boundSum j)))) (summed j (λ t. tested (tighterB t d) (g t)))
   unfolding summed testedC
   sum-same (fine t) n =
@@ -63,12 +65,13 @@ module _ (d : Limit Affine) (nd : NarrowB d) (f : Bound → Bool → TreeC) (g :
   sum-same wide n = record { same = refl; good = tt }
 
   -- a sum of three
-  via-same : (c : Limit Affine) → NarrowB c → (j : Judged (Limit Affine)) → NarrowJ j
+  via-same : (c : Upper Affine) → NarrowB c → (j : Judged (Upper Affine)) → NarrowJ j
       → Same (testedC (testSum (sumSum (boundSum j) (boundOf c)) (boundOf d)) (f (viaBound (sumSum (boundSum j) (boundOf c)))))
       (summed j (λ s. summed (sumB s c) (λ t. tested (tighterB t d) (g t))))
   unfolding summed testedC
   via-same c nc (fine s) n =
-      subst (λ (y : BoundSum). Same (testedC (testSum y (boundOf d)) (f (viaBound y))) (summed (sumB s c) (λ t. tested (tighterB t d) (g t))))
+      subst
+      (λ (y : BoundSum). Same (testedC (testSum y (boundOf d)) (f (viaBound y))) (summed (sumB s c) (λ t. tested (tighterB t d) (g t))))
       (sym (pad-sum s c n nc)) (sum-same (sumB s c) (sum-narrow s c n nc))
   via-same c nc wide n = record { same = refl; good = tt }
 
@@ -76,13 +79,14 @@ module _ (d : Limit Affine) (nd : NarrowB d) (f : Bound → Bool → TreeC) (g :
 unfoldable spots : ℕ → ℕ → ℕ → List Place
 spots w x zero = []
 spots w x (suc k) =
-    pick (ltb w (x / 5)) (spots w (suc x) k) (pick (ltb w (x % 5)) (spots w (suc x) k) (record { row = x / 5; column = x % 5 } ∷ spots w (suc x) k))
+    cond (ltb w (x / 5)) (spots w (suc x) k)
+    (cond (ltb w (x % 5)) (spots w (suc x) k) (record { row = x / 5; column = x % 5 } ∷ spots w (suc x) k))
 
 spots-places : (w : ℕ) → w ≤ 4 → spots w 0 25 ≡ places w
 unfolding spots places rowsFrom rowFrom
 spots-places = up-to-4 (λ w. spots w 0 25 ≡ places w) refl refl refl refl refl
 
-put-narrow : (p : Place) (t : Limit Affine) (m : Bounds) → NarrowB t → NarrowM m → NarrowM (putEntry p t m)
+put-narrow : (p : Place) (t : Upper Affine) (m : Bounds) → NarrowB t → NarrowM m → NarrowM (putEntry p t m)
 unfolding putEntry
 put-narrow p t m h n = record { entry = λ i j. by i j (eqb i (p .row)) (eqb j (p .column)) }
   where
@@ -93,8 +97,8 @@ put-narrow p t m h n = record { entry = λ i j. by i j (eqb i (p .row)) (eqb j (
 
 -- ---- the rules of a guard i - j on a matrix
 module _ (w i j : ℕ) (x : Bound) (m : Bounds) (four : w ≤ 4) (hi : i ≤ 4) (hj : j ≤ 4) (n : NarrowM m) where
-  abbrev e : Limit Affine
-  e = limitOf x
+  abbrev e : Upper Affine
+  e = boundAs x
 
   abbrev rule : Rule
   rule = record { clocks = w; left = i; right = j; bound = x; old = boundsOf m }
@@ -102,20 +106,20 @@ module _ (w i j : ℕ) (x : Bound) (m : Bounds) (four : w ≤ 4) (hi : i ≤ 4) 
   back-sum : sumC x (entryC (boundsOf m) j i) ≡ boundSum (sumB e (m j i))
   back-sum =
       ap (λ (a : Bound). sumC x a) (entry-at m j i hj hi)
-      ∙ ap (λ (b : Limit Affine). boundSum (sumB b (padB (m j i)))) (sym (limit-pad x))
+      ∙ ap (λ (b : Upper Affine). boundSum (sumB b (padB (m j i)))) (sym (limit-pad x))
       ∙ pad-sum e (m j i) (limit-narrow x) (n .entry j i)
 
   first-sum : (k : ℕ) → k ≤ 4 → sumC (entryC (boundsOf m) k i) x ≡ boundSum (sumB (m k i) e)
   first-sum k hk =
       ap (λ (a : Bound). sumC a x) (entry-at m k i hk hi)
-      ∙ ap (λ (b : Limit Affine). boundSum (sumB (padB (m k i)) b)) (sym (limit-pad x))
+      ∙ ap (λ (b : Upper Affine). boundSum (sumB (padB (m k i)) b)) (sym (limit-pad x))
       ∙ pad-sum (m k i) e (n .entry k i) (limit-narrow x)
 
   tight-test : tightTest rule ≡ test (tighterB e (m i j))
   unfolding tightTest
   tight-test =
       ap (λ (a : Bound). tighterC x a) (entry-at m i j hi hj)
-      ∙ ap (λ (b : Limit Affine). test (tighterB b (padB (m i j)))) (sym (limit-pad x))
+      ∙ ap (λ (b : Upper Affine). test (tighterB b (padB (m i j)))) (sym (limit-pad x))
       ∙ pad-test e (m i j) (limit-narrow x) (n .entry i j)
 
   via-is : (y : ℕ) → y < 25 → viaC rule y ≡ sumSum (boundSum (sumB (m (y / 5) i) e)) (boundOf (m j (y % 5)))
@@ -129,20 +133,24 @@ module _ (w i j : ℕ) (x : Bound) (m : Bounds) (four : w ≤ 4) (hi : i ≤ 4) 
 
   -- one entry
   push-entry : (k y : ℕ) → y < 25 → Pushes k (suc y) → (new : Bounds) → NarrowM new
-      → Same (testedC (testSum (viaC rule y) (getD (boundsOf m) y zeroBound)) (λ b. pushC rule k (suc y) (pick b (set (boundsOf new) y (viaBound (viaC rule y))) (boundsOf new))))
+      → Same
+      (testedC (testSum (viaC rule y) (getD (boundsOf m) y zeroBound))
+      (λ b. pushC rule k (suc y) (cond b (set (boundsOf new) y (viaBound (viaC rule y))) (boundsOf new))))
       (pushed i j e m (record { row = y / 5; column = y % 5 } ∷ spots w (suc y) k) new)
   unfolding pushed
   push-entry k y h ih new nn =
       rw (via-is y h, getD-at m y h)
-      (via-same (m (y / 5) (y % 5)) (n .entry (y / 5) (y % 5)) (λ t b. pushC rule k (suc y) (pick b (set (boundsOf new) y t) (boundsOf new)))
+      (via-same (m (y / 5) (y % 5)) (n .entry (y / 5) (y % 5))
+      (λ t b. pushC rule k (suc y) (cond b (set (boundsOf new) y t) (boundsOf new)))
       (λ t b. pushed i j e m (spots w (suc y) k) (cond b (putEntry p t new) new)) by (m j (y % 5)) (n .entry j (y % 5))
       (sumB (m (y / 5) i) e) (sum-narrow (m (y / 5) i) e (n .entry (y / 5) i) (limit-narrow x)))
     where
       p : Place
       p = record { row = y / 5; column = y % 5 }
 
-      by : (t : Limit Affine) (b : Bool) → NarrowB t
-          → Same (pushC rule k (suc y) (pick b (set (boundsOf new) y (boundOf t)) (boundsOf new))) (pushed i j e m (spots w (suc y) k) (cond b (putEntry p t new) new))
+      by : (t : Upper Affine) (b : Bool) → NarrowB t
+          → Same (pushC rule k (suc y) (cond b (set (boundsOf new) y (boundOf t)) (boundsOf new)))
+          (pushed i j e m (spots w (suc y) k) (cond b (putEntry p t new) new))
       by t true nt = rw (set-entry new y t h) (ih (putEntry p t new) (put-narrow p t new nt nn))
       by t false nt = ih new nn
 
@@ -152,8 +160,11 @@ module _ (w i j : ℕ) (x : Bound) (m : Bounds) (four : w ≤ 4) (hi : i ≤ 4) 
   push-same (suc k) y h new nn = by (ltb w (y / 5)) (ltb w (y % 5)) (push-same k (suc y) (omega arith))
     where
       by : (s t : Bool) → Pushes k (suc y)
-          → Same (testedC (pick s No (pick t No (testSum (viaC rule y) (getD (boundsOf m) y zeroBound)))) (λ b. pushC rule k (suc y) (pick b (set (boundsOf new) y (viaBound (viaC rule y))) (boundsOf new))))
-          (pushed i j e m (pick s (spots w (suc y) k) (pick t (spots w (suc y) k) (record { row = y / 5; column = y % 5 } ∷ spots w (suc y) k))) new)
+          → Same
+          (testedC (cond s No (cond t No (testSum (viaC rule y) (getD (boundsOf m) y zeroBound))))
+          (λ b. pushC rule k (suc y) (cond b (set (boundsOf new) y (viaBound (viaC rule y))) (boundsOf new))))
+          (pushed i j e m
+          (cond s (spots w (suc y) k) (cond t (spots w (suc y) k) (record { row = y / 5; column = y % 5 } ∷ spots w (suc y) k))) new)
       by true t ih = ih new nn
       by false true ih = ih new nn
       by false false ih = push-entry k y (omega arith) ih new nn
@@ -161,22 +172,29 @@ module _ (w i j : ℕ) (x : Bound) (m : Bounds) (four : w ≤ 4) (hi : i ≤ 4) 
   tight-same : Same (tightC rule (boundsOf m)) (tested (tighterB e (m i j)) (λ tight. cond tight (pushed i j e m (places w) m) (keep m)))
   unfolding tightC
   tight-same =
-      subst (λ (y : Test). Same (testedC y (λ b. pick b (pushC rule 25 0 (boundsOf m)) (keepT (boundsOf m)))) (tested (tighterB e (m i j)) (λ tight. cond tight (pushed i j e m (places w) m) (keep m))))
-      (sym tight-test) (tested-same (tighterB e (m i j)) (λ b. pick b (pushC rule 25 0 (boundsOf m)) (keepT (boundsOf m)))
+      subst
+      (λ (y : Test).
+      Same (testedC y (λ b. cond b (pushC rule 25 0 (boundsOf m)) (keepT (boundsOf m))))
+      (tested (tighterB e (m i j)) (λ tight. cond tight (pushed i j e m (places w) m) (keep m))))
+      (sym tight-test) (tested-same (tighterB e (m i j)) (λ b. cond b (pushC rule 25 0 (boundsOf m)) (keepT (boundsOf m)))
       (λ tight. cond tight (pushed i j e m (places w) m) (keep m)) (tighter-asked e (m i j)) by)
     where
-      by : (b : Bool) → Same (pick b (pushC rule 25 0 (boundsOf m)) (keepT (boundsOf m))) (cond b (pushed i j e m (places w) m) (keep m))
-      by true = subst (λ (ps : List Place). Same (pushC rule 25 0 (boundsOf m)) (pushed i j e m ps m)) (spots-places w four) (push-same 25 0 refl m n)
+      by : (b : Bool) → Same (cond b (pushC rule 25 0 (boundsOf m)) (keepT (boundsOf m))) (cond b (pushed i j e m (places w) m) (keep m))
+      by true =
+          subst (λ (ps : List Place). Same (pushC rule 25 0 (boundsOf m)) (pushed i j e m ps m)) (spots-places w four)
+          (push-same 25 0 refl m n)
       by false = record { same = refl; good = n }
 
   pub guard-same : Same (treeAt rule 0 (boundsOf m)) (guardTree w i j e m)
   unfolding treeAt guardTree voidTest
   guard-same =
       rw back-sum
-      (sum-same zeroB zero-narrow (λ t b. pick b cutT (tightC rule (boundsOf m)))
+      (sum-same zeroB zero-narrow (λ t b. cond b cutT (tightC rule (boundsOf m)))
       (λ back b. cond b cut (tested (tighterB e (m i j)) (λ tight. cond tight (pushed i j e m (places w) m) (keep m))))
       (λ t b nt. by b) (sumB e (m j i)) (sum-narrow e (m j i) (limit-narrow x) (n .entry j i)))
     where
-      by : (b : Bool) → Same (pick b cutT (tightC rule (boundsOf m))) (cond b cut (tested (tighterB e (m i j)) (λ tight. cond tight (pushed i j e m (places w) m) (keep m))))
+      by : (b : Bool)
+          → Same (cond b cutT (tightC rule (boundsOf m)))
+          (cond b cut (tested (tighterB e (m i j)) (λ tight. cond tight (pushed i j e m (places w) m) (keep m))))
       by true = record { same = refl; good = tt }
       by false = tight-same

@@ -6,14 +6,14 @@ use Prim.Native.Nat.{ℕ, zero, suc, _+_, _-_, _/_, _%_, _^_, _≤_, _<_}
 use native.Mathlib.Omega.{arith}
 use lib.Dec.{eqb, ltb, leb}
 use lib.ListN.{length, replicate, length-take}
-use Rattle.cutting.specs.Cutting.{Bounds, startB, startZone, Listing, listed, refused, onBounds, stepZones, andThen, cutSteps, zonesAlong}
-use Rattle.cutting.specs.Cutting.{zonesOf}
+use Rattle.cutting.specs.Cutting.{Bounds, startB, startZone, Listing, listed, refused, onBounds, stepZones, andThen, cutSteps}
+use Rattle.cutting.specs.Cutting.{zonesAlong, zonesOf}
 use Rattle.cutting.specs.Cutting as cutting
 use Rattle.cutting.specs.Listings.{on-length}
 use Rattle.dbm.specs.Entries.{up-to-4, resetBit, bits-resets}
 use Rattle.dbm.specs.Matrix.{inside, delayed, resetAt, resetM, resetsM}
 use Rattle.expr.specs.Affine.{Affine}
-use Rattle.expr.specs.Limit.{Limit, none}
+use Rattle.weight.specs.Upper.{Upper, none}
 use Rattle.expr.specs.Three.{rangeList}
 use Rattle.expr.specs.declared.bound.Bound.{Bound}
 use Rattle.expr.specs.declared.range.Ranges.{Ranges}
@@ -24,7 +24,8 @@ use Rattle.sheet.specs.WellFormed.{WellFormed}
 use Rattle.timed.specs.Automaton.{invariants, guardsOf, routeOf, transitionAt}
 use Rattle.sheet.specs.Lookup.{locationC, transitionC}
 use Rattle.timed.specs.Indexed.{location-in, transition-in}
-use Rattle.timed.specs.Right.{AllOf, StepRight, filled-all, steps-right}
+use Rattle.timed.specs.Lists.{AllOf}
+use Rattle.timed.specs.Right.{StepRight, filled-all, steps-right}
 use Rattle.timed.specs.Steps.{Step, delay, guard, resets, staySteps, moveSteps, stepsFrom, stepsOf, moves}
 use Rattle.timed.specs.Visits.{Visits, steps-visits, steps-moves}
 use Rattle.coded.specs.Records.{rowOf, boundsOf, zoneOf, zonesIn, coded}
@@ -32,8 +33,9 @@ use Rattle.coded.specs.CodedGuard.{NarrowZone, Sound, guard-sound, guard
 use Rattle.coded.specs.CodedTests.{NarrowB, NarrowM, zero-narrow}
 use Rattle.split.specs.Guarded.{guardedC}
 use Rattle.zones.specs.Zone.{blankZone}
-use Rattle.coded.specs.Walked.{delayedB, resetPair, resetB, resetIfB, resetsB, onFirst, delayedZone, resetsZone, delayedAll}
-use Rattle.coded.specs.Walked.{resetsAll, atVisit, guardsAll, stayAll, moveAll, walkAll, startAll, zonesAll}
+use Rattle.delay.specs.Delayed.{delayedB, resetPair, resetB, resetIfB, resetsB, onFirst, delayedZone, resetsZone, delayedAll}
+use Rattle.delay.specs.Delayed.{resetsAll}
+use Rattle.windows_route.specs.Walked.{atVisit, guardsAll, stayAll, moveAll, walkAll, startAll, zonesAll}
 use Rattle.zones.specs.declared.zone.Zone.{Zone}
 use Rattle.zones.specs.declared.zone.Zones.{Zones}
 
@@ -42,7 +44,7 @@ delayed-coded : (m : Bounds) (w : ℕ) → w ≤ 4 → delayedB w (boundsOf m) �
 unfolding delayedB boundsOf rowOf delayed
 delayed-coded m = up-to-4 (λ w. delayedB w (boundsOf m) ≡ boundsOf (delayed w none m)) refl refl refl refl refl
 
-cond-narrow : (b : Bool) (x y : Limit Affine) → NarrowB x → NarrowB y → NarrowB (cond b x y)
+cond-narrow : (b : Bool) (x y : Upper Affine) → NarrowB x → NarrowB y → NarrowB (cond b x y)
 cond-narrow true x y h k = h
 cond-narrow false x y h k = k
 
@@ -127,7 +129,8 @@ module _ (f : Zone → Zone) (h : Bounds → Bounds) where
   on-first e [] rest = refl
   on-first e (z ∷ zs) rest = rw (e z, on-first e zs rest) refl
 
-  on-narrow : ((m : Bounds) → NarrowM m → NarrowM (h m)) → (zs : List cutting.Zone) → AllOf NarrowZone zs → AllOf NarrowZone (onBounds h zs)
+  on-narrow : ((m : Bounds) → NarrowM m → NarrowM (h m)) → (zs : List cutting.Zone) → AllOf NarrowZone zs
+      → AllOf NarrowZone (onBounds h zs)
   unfolding onBounds
   on-narrow e [] a = tt
   on-narrow e (z ∷ zs) a = (record { bounds = e (z .bounds) (a .0 .bounds) }, on-narrow e zs (a .1))

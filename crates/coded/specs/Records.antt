@@ -1,13 +1,13 @@
--- The code's records of what the cutting lists: of a matrix its 25 entries in row order, of a zone its inequalities and blank places up to 24, of
--- a listing its zones and blank places up to 32.
+-- The code's records of what the cutting lists: of a matrix its 25 entries in row order, of a zone its inequalities and blank places up
+-- to 24, of a listing its zones and blank places up to 32.
 use mathlib.Core.List.{List, [], _∷_, _++_, map}
 use Prim.Native.Nat.{ℕ, _-_}
 use lib.ListN.{length, replicate}
 use Rattle.cutting.specs.Cutting.{Bounds, Listing, listed, refused}
 use Rattle.cutting.specs.Cutting as cutting
-use Rattle.expr.specs.Three.{exprOf, boundOf}
+use Rattle.expr.specs.Three.{exprOf, boundOf, zeroExpr}
 use Rattle.expr.specs.declared.bound.Bound.{Bound}
-use Rattle.zones.specs.Zone.{zeroExpr, blankZone}
+use Rattle.zones.specs.Zone.{blankZone}
 use Rattle.zones.specs.declared.zone.Zone.{Zone}
 use Rattle.zones.specs.declared.zone.Zones.{Zones}
 

@@ -5,9 +5,8 @@ use mathlib.Core.Logic.{_↔_}
 use mathlib.Core.List.{List}
 use Prim.Native.Nat.{ℕ, _≤_}
 use lib.IntN.{ℤ}
-use Rattle.dbm.specs.Matrix.{Matrix, void, kept}
-use Rattle.dbm.specs.Matrix.{Outside}
-use Rattle.expr.specs.Limit.{Limit, zeroW}
+use Rattle.dbm.specs.Matrix.{Matrix, void, kept, Outside}
+use Rattle.weight.specs.Upper.{Upper, zeroW}
 use Rattle.sheet.specs.declared.Sheet.{Sheet}
 use Rattle.sheet.specs.WellFormed.{WellFormed}
 use Rattle.timed.specs.Runs.{Run, RunAlong, Tightest, TightestAlong}
@@ -17,7 +16,7 @@ use Rattle.concrete.specs.Walk.{sweepAlong, sweepAt}
 abbrev pub AlongRight : Sheet → List ℕ → List ℤ → Type 0
 AlongRight s route v =
     ((sweepAlong s route v ≡ void) ↔ (RunAlong s route v → ⊥))
-    × ((m : Matrix (Limit ℤ)) → sweepAlong s route v ≡ kept m
+    × ((m : Matrix (Upper ℤ)) → sweepAlong s route v ≡ kept m
     → (i j : ℕ) → i ≤ s .clocks → j ≤ s .clocks → TightestAlong s route v i j (m i j))
 
 -- along the sheet's own route: Sweep is void exactly if no run exists
@@ -27,11 +26,11 @@ VoidIffNoRun = (s : Sheet) → WellFormed s → (v : List ℤ) → (sweepAt s v 
 -- else each entry (i, j), for clock 0 and the sheet's clocks, is the tightest bound on clock i - clock j over the end states of all runs
 abbrev pub EntriesTightest : Type 0
 EntriesTightest =
-    (s : Sheet) → WellFormed s → (v : List ℤ) (m : Matrix (Limit ℤ)) → sweepAt s v ≡ kept m →
+    (s : Sheet) → WellFormed s → (v : List ℤ) (m : Matrix (Upper ℤ)) → sweepAt s v ≡ kept m →
     (i j : ℕ) → i ≤ s .clocks → j ≤ s .clocks → Tightest s v i j (m i j)
 
 -- the other entries are padding: zero, not strict
 abbrev pub Padded : Type 0
 Padded =
-    (s : Sheet) (v : List ℤ) (m : Matrix (Limit ℤ)) → sweepAt s v ≡ kept m →
+    (s : Sheet) (v : List ℤ) (m : Matrix (Upper ℤ)) → sweepAt s v ≡ kept m →
     (i j : ℕ) → Outside (s .clocks) i j → m i j ≡ zeroW

@@ -9,7 +9,7 @@ use native.Mathlib.Omega.{arith}
 use lib.IntN.{ℤ, pos, _*ℤ_}
 use Rattle.dbm.specs.Matrix.{Matrix, Outcome, void, kept, State, Meets, times, Closed, After}
 use Rattle.dbm.specs.State.{times-state, times-meets, times-times, meets-same}
-use Rattle.expr.specs.Limit.{Limit}
+use Rattle.weight.specs.Upper.{Upper}
 use Rattle.timed.specs.Runs.{Clocks}
 use Rattle.concrete.specs.Walk.{andThen}
 
@@ -31,7 +31,7 @@ pub record Stable (w : ℕ) (R : Relation) : Type 0 where
   pub same : (D : ℕ) (x x′ y : Clocks) → Same w x x′ → R D x y → (y′ : Clocks) × R D x′ y′ × Same w y y′
 
 -- the values y, times some factor, are where the step leads a state of the matrix
-pub record Comes (w : ℕ) (m : Matrix (Limit ℤ)) (R : Relation) (D : ℕ) (y : Clocks) : Type 0 where
+pub record Comes (w : ℕ) (m : Matrix (Upper ℤ)) (R : Relation) (D : ℕ) (y : Clocks) : Type 0 where
   pub factor : ℕ
   pub some : 1 ≤ factor
   pub before : Clocks
@@ -42,19 +42,19 @@ pub record Comes (w : ℕ) (m : Matrix (Limit ℤ)) (R : Relation) (D : ℕ) (y 
   pub same : Same w after (times factor y)
 
 -- the new matrix is right for the step
-pub record Kept (w : ℕ) (m : Matrix (Limit ℤ)) (R : Relation) (m′ : Matrix (Limit ℤ)) : Type 0 where
+pub record Kept (w : ℕ) (m : Matrix (Upper ℤ)) (R : Relation) (m′ : Matrix (Upper ℤ)) : Type 0 where
   pub closed : Closed w m′
   pub forward : (D : ℕ) (x y : Clocks) → State D x → Meets w m D x → R D x y → State D y × Meets w m′ D y
   pub back : (D : ℕ) (y : Clocks) → State D y → Meets w m′ D y → Comes w m R D y
 
 -- the outcome is right for the step
-abbrev pub Moves : ℕ → Matrix (Limit ℤ) → Relation → Outcome → Type 0
+abbrev pub Moves : ℕ → Matrix (Upper ℤ) → Relation → Outcome → Type 0
 Moves w m R void = (D : ℕ) (x y : Clocks) → State D x → Meets w m D x → R D x y → ⊥
 Moves w m R (kept m′) = Kept w m R m′
 
 -- ---- one step after another
-module _ {w : ℕ} {m m₁ : Matrix (Limit ℤ)} (R S : Relation) (a : Kept w m R m₁) (st : Stable w S) where
-  then-back : {m₂ : Matrix (Limit ℤ)} → Kept w m₁ S m₂ → (D : ℕ) (y : Clocks) → State D y → Meets w m₂ D y → Comes w m (Then R S) D y
+module _ {w : ℕ} {m m₁ : Matrix (Upper ℤ)} (R S : Relation) (a : Kept w m R m₁) (st : Stable w S) where
+  then-back : {m₂ : Matrix (Upper ℤ)} → Kept w m₁ S m₂ → (D : ℕ) (y : Clocks) → State D y → Meets w m₂ D y → Comes w m (Then R S) D y
   unfolding times
   then-back b D y s h =
       let q = b .back D y s h in
@@ -83,8 +83,8 @@ module _ {w : ℕ} {m m₁ : Matrix (Limit ℤ)} (R S : Relation) (a : Kept w m 
   }
 
 -- the second step is made where the first is not void
-pub andThen-moves : (w : ℕ) (m : Matrix (Limit ℤ)) (R S : Relation) (f : Matrix (Limit ℤ) → Outcome) → Stable w S
-    → ((m₁ : Matrix (Limit ℤ)) → Closed w m₁ → Moves w m₁ S (f m₁))
+pub andThen-moves : (w : ℕ) (m : Matrix (Upper ℤ)) (R S : Relation) (f : Matrix (Upper ℤ) → Outcome) → Stable w S
+    → ((m₁ : Matrix (Upper ℤ)) → Closed w m₁ → Moves w m₁ S (f m₁))
     → (r : Outcome) → Moves w m R r → Moves w m (Then R S) (andThen r f)
 andThen-moves w m R S f st b void a = λ D x y s h (z, p, q). a D x z s h p
 andThen-moves w m R S f st b (kept m₁) a = then-moves R S a st (f m₁) (b m₁ (a .closed))
@@ -102,17 +102,17 @@ then-stable {w} R S a b = record {
 same-state : (w : ℕ) {D : ℕ} {x y : Clocks} → Same w x y → State D y → State D x
 same-state w e s = record { parts = s .parts; clock0 = e 0 (omega arith) ∙ s .clock0 }
 
-module _ (w : ℕ) (m : Matrix (Limit ℤ)) (R S : Relation)
+module _ (w : ℕ) (m : Matrix (Upper ℤ)) (R S : Relation)
     (to : (D : ℕ) (x y : Clocks) → R D x y → (y′ : Clocks) × S D x y′ × Same w y y′)
     (from : (D : ℕ) (x y : Clocks) → S D x y → (y′ : Clocks) × R D x y′ × Same w y y′) where
-  forward-as : {m′ : Matrix (Limit ℤ)} → Kept w m R m′ → (D : ℕ) (x y : Clocks) → State D x → Meets w m D x → S D x y
+  forward-as : {m′ : Matrix (Upper ℤ)} → Kept w m R m′ → (D : ℕ) (x y : Clocks) → State D x → Meets w m D x → S D x y
       → State D y × Meets w m′ D y
   forward-as a D x y s h q =
       let (y′, p, e) = from D x y q in
       let (t, g) = a .forward D x y′ s h p in
       (same-state w e t, meets-same y′ y (λ i hi. sym (e i hi)) g)
 
-  back-as : {m′ : Matrix (Limit ℤ)} → Kept w m R m′ → (D : ℕ) (y : Clocks) → State D y → Meets w m′ D y → Comes w m S D y
+  back-as : {m′ : Matrix (Upper ℤ)} → Kept w m R m′ → (D : ℕ) (y : Clocks) → State D y → Meets w m′ D y → Comes w m S D y
   back-as a D y s h =
       let p = a .back D y s h in
       let (z, q, e) = to (p .factor * D) (p .before) (p .after) (p .leads) in
@@ -135,7 +135,7 @@ module _ (w : ℕ) (m : Matrix (Limit ℤ)) (R S : Relation)
 abbrev pub Asks : (ℕ → Clocks → Type 0) → Relation
 Asks P D x y = P D x × (y ≡ x)
 
-pub after-moves : (w : ℕ) (m : Matrix (Limit ℤ)) (P : ℕ → Clocks → Type 0) (r : Outcome) → After w m P r → Moves w m (Asks P) r
+pub after-moves : (w : ℕ) (m : Matrix (Upper ℤ)) (P : ℕ → Clocks → Type 0) (r : Outcome) → After w m P r → Moves w m (Asks P) r
 after-moves w m P void a = λ D x y s h (q, e). a D x s h q
 after-moves w m P (kept m′) (c, a) = record {
   closed = c;

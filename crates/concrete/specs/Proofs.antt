@@ -10,7 +10,7 @@ use Rattle.dbm.specs.Matrix.{Matrix, start, Outcome, void, kept, keeps, State, 
 use Rattle.dbm.specs.Weights.{keeps-in}
 use Rattle.dbm.specs.State.{difference-times, closed-state, start-closed, start-met}
 use Rattle.dbm.specs.Tight.{closed-tight, times-reached, times-above, times-near}
-use Rattle.expr.specs.Limit.{Limit, none, limit, zeroW}
+use Rattle.weight.specs.Upper.{Upper, none, upper, zeroW}
 use Rattle.sheet.specs.declared.Sheet.{Sheet}
 use Rattle.sheet.specs.WellFormed.{WellFormed}
 use Rattle.timed.specs.Automaton.{routeOf}
@@ -79,7 +79,7 @@ module _ {s : Sheet} (f : WellFormed s) (route : List ℕ) (v : List ℤ) where
   void-no-run : Runs void → RunAlong s route v → ⊥
   void-no-run a r = a (r .parts) begin (r .end) (begin-state (r .some-part)) (begin-met (s .clocks) (r .parts)) (run-steps r)
 
-  module _ {m : Matrix (Limit ℤ)} (a : Runs (kept m)) where
+  module _ {m : Matrix (Upper ℤ)} (a : Runs (kept m)) where
     run-meets : (r : RunAlong s route v) → Meets (s .clocks) m (r .parts) (r .end)
     run-meets r = a .forward (r .parts) begin (r .end) (begin-state (r .some-part)) (begin-met (s .clocks) (r .parts)) (run-steps r) .1
 
@@ -101,19 +101,19 @@ module _ {s : Sheet} (f : WellFormed s) (route : List ℕ) (v : List ℤ) where
 
     -- ---- tightest
     module _ (i j : ℕ) (hi : i ≤ s .clocks) (hj : j ≤ s .clocks) where
-      by-weight : (b : Limit ℤ) → m i j ≡ b → Reached (s .clocks) m i j b → TightestAlong s route v i j b
+      by-weight : (b : Upper ℤ) → m i j ≡ b → Reached (s .clocks) m i j b → TightestAlong s route v i j b
       by-weight none e g = λ N.
           let (D, y, t, h, k) = g N in
           let r = state-run t h in
           (r .run, rw (r .parts, ran-difference r i j hi hj) (times-above (r .factor) D (y i -ℤ y j) N (r .some) k))
-      by-weight (limit true c) e g = (
+      by-weight (upper true c) e g = (
         λ r. (rw e at (run-meets r i j hi hj)) .is-below,
         λ N o.
             let (D, y, t, h, k) = g N o in
             let r = state-run t h in
             (r .run, rw (r .parts, ran-difference r i j hi hj) (times-near (r .factor) D N (y i -ℤ y j) c (r .some) k)),
       )
-      by-weight (limit false c) e g = (
+      by-weight (upper false c) e g = (
         λ r. (rw e at (run-meets r i j hi hj)) .is-below,
         let (D, y, t, h, k) = g in
             let r = state-run t h in

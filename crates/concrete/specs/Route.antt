@@ -8,7 +8,7 @@ use Rattle.guards.specs.declared.Guard.{Guard}
 use Rattle.sheet.specs.declared.Sheet.{Sheet}
 use Rattle.timed.specs.Automaton.{invariants, guardsOf, transitionAt}
 use Rattle.timed.specs.Runs.{Clocks, waited, afterResets, AllHold, Leads}
-use Rattle.timed.specs.Steps.{Step, delay, guard, resets, staySteps, moveSteps, stepsFrom}
+use Rattle.timed.specs.Steps.{Step, guard, resets, staySteps, moveSteps, stepsFrom}
 use Rattle.concrete.specs.Moves.{Then}
 use Rattle.concrete.specs.Steps.{Along}
 

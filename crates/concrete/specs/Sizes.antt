@@ -11,14 +11,15 @@ use lib.IntN.{ℤ, natAbs, _*ℤ_}
 use lib.ListN.{length}
 use Rattle.integer.specs.Parts.{p, n, pos-parts, natAbs-parts}
 use Rattle.integer.specs.Product.{size-in, size-low, size-high, sum-size, product-size}
-use Rattle.dbm.specs.Matrix.{Matrix, start, delayed, resetM, resetsM, guarded, Outcome, void, kept, Closed}
+use Rattle.dbm.specs.Matrix.{Matrix, start, delayed, resetM, resetsM, guarded, Outcome, void, kept}
 use Rattle.dbm.specs.State.{start-closed}
 use Rattle.dbm.specs.Size.{AtMost, Small, Visit, atMost-more, atMost-sum, small-visit, delayed-visit, visit-small, guarded-visit}
 use Rattle.dbm.specs.Size.{reset-visit}
 use Rattle.expr.specs.Affine.{dot, value}
-use Rattle.expr.specs.Limit.{Limit, none, limit, sumW, atV, saturated}
-use Rattle.expr.specs.Laws.{saturate-same}
-use Rattle.expr.specs.Three.{affine, limitOf, pickL}
+use Rattle.weight.specs.Upper.{Upper, none, upper, zeroW, sumW, tighterW, saturated}
+use Rattle.expr.specs.Bounds.{atV}
+use Rattle.weight.specs.Laws.{saturate-same}
+use Rattle.expr.specs.Three.{affine, boundAs}
 use Rattle.expr.specs.declared.number.Expr.{Expr}
 use Rattle.guards.specs.declared.Guard.{Guard}
 use Rattle.sheet.specs.declared.Sheet.{Sheet}
@@ -26,7 +27,8 @@ use Rattle.cursor_laws.specs.Right.{Small as Thousand}
 use Rattle.guards.specs.Right.{ExprRight, GuardRight}
 use Rattle.sheet.specs.WellFormed.{WellFormed}
 use Rattle.timed.specs.Automaton.{routeOf}
-use Rattle.timed.specs.Right.{AllOf, StepRight, steps-right, route-delays}
+use Rattle.timed.specs.Lists.{AllOf}
+use Rattle.timed.specs.Right.{StepRight, steps-right, route-delays}
 use Rattle.timed.specs.Steps.{Step, delay, guard, resets, stepsOf, delays}
 use Rattle.concrete.specs.Walk.{andThen, step, walk, sweepAlong, sweepAt}
 
@@ -57,11 +59,11 @@ value-size e v r h =
 
 -- a guard's number is at most 3,001,000 in size
 pub guard-size : {parameters w : ℕ} {g : Guard} (v : List ℤ) → GuardRight parameters w g → Thousands v
-    → AtMost 3001000 (atV v (limitOf (g .bound)))
+    → AtMost 3001000 (atV v (boundAs (g .bound)))
 unfolding atV
 guard-size {parameters} {w} {g} v r h = by (g .bound .none)
   where
-    by : (b : Bool) → AtMost 3001000 (atV v (pickL b none (limit (g .bound .strict) (affine (g .bound .expr)))))
+    by : (b : Bool) → AtMost 3001000 (atV v (cond b none (upper (g .bound .strict) (affine (g .bound .expr)))))
     by true = record { size = tt }
     by false = record { size = value-size (g .bound .expr) v (r .expr) h }
 
@@ -72,14 +74,14 @@ size zero = 0
 size (suc k) = 2 * (size k + 3001000)
 
 -- a matrix after k delays, with guards and resets among them
-abbrev pub Visited : ℕ → ℕ → Matrix (Limit ℤ) → Type 0
+abbrev pub Visited : ℕ → ℕ → Matrix (Upper ℤ) → Type 0
 Visited w k m = Visit w (size k) 3001000 m
 
 pub start-visited : (w : ℕ) → Visited w 0 start
 unfolding start size
 start-visited w = small-visit 3001000 (start-closed w) (λ i j hi hj. record { size = omega arith })
 
-delayed-visited : {w : ℕ} {m : Matrix (Limit ℤ)} (k : ℕ) → Visited w k m → Visited w (suc k) (delayed w none m)
+delayed-visited : {w : ℕ} {m : Matrix (Upper ℤ)} (k : ℕ) → Visited w k m → Visited w (suc k) (delayed w none m)
 unfolding size
 delayed-visited k a = delayed-visit 3001000 (a .closed) (visit-small a)
 
@@ -92,24 +94,24 @@ one-clock {g = g} r = by (r .one-zero)
     by (inr h) = inr (h .1)
 
 -- the outcome, if it is a matrix, has P
-abbrev pub IfKept : (Matrix (Limit ℤ) → Type 0) → Outcome → Type 0
+abbrev pub IfKept : (Matrix (Upper ℤ) → Type 0) → Outcome → Type 0
 IfKept P void = Unit
 IfKept P (kept m) = P m
 
-if-kept : (P : Matrix (Limit ℤ) → Type 0) (r : Outcome) → ((m : Matrix (Limit ℤ)) → r ≡ kept m → P m) → IfKept P r
+if-kept : (P : Matrix (Upper ℤ) → Type 0) (r : Outcome) → ((m : Matrix (Upper ℤ)) → r ≡ kept m → P m) → IfKept P r
 if-kept P void f = tt
 if-kept P (kept m) f = f m refl
 
-then-kept : (P Q : Matrix (Limit ℤ) → Type 0) (f : Matrix (Limit ℤ) → Outcome) → ((m : Matrix (Limit ℤ)) → P m → IfKept Q (f m))
+then-kept : (P Q : Matrix (Upper ℤ) → Type 0) (f : Matrix (Upper ℤ) → Outcome) → ((m : Matrix (Upper ℤ)) → P m → IfKept Q (f m))
     → (r : Outcome) → IfKept P r → IfKept Q (andThen r f)
 then-kept P Q f b void a = tt
 then-kept P Q f b (kept m) a = b m a
 
-reset-cond : {w B C : ℕ} {m : Matrix (Limit ℤ)} (r : ℕ) (b : Bool) → r ≤ w → Visit w B C m → Visit w B C (cond b (resetM w r m) m)
+reset-cond : {w B C : ℕ} {m : Matrix (Upper ℤ)} (r : ℕ) (b : Bool) → r ≤ w → Visit w B C m → Visit w B C (cond b (resetM w r m) m)
 reset-cond r true hr a = reset-visit r hr a
 reset-cond r false hr a = a
 
-resets-visit : {w B C : ℕ} {m : Matrix (Limit ℤ)} (bits k : ℕ) → k ≤ w → Visit w B C m → Visit w B C (resetsM w bits k m)
+resets-visit : {w B C : ℕ} {m : Matrix (Upper ℤ)} (bits k : ℕ) → k ≤ w → Visit w B C m → Visit w B C (resetsM w bits k m)
 unfolding resetsM
 resets-visit bits zero h a = a
 resets-visit bits (suc k) h a = reset-cond (suc k) (eqb (bits / 2 ^ k % 2) 1) h (resets-visit bits k (omega arith) a)
@@ -132,20 +134,20 @@ unfolding delays
 none-more k = omega arith
 
 module _ (parameters : ℕ) {w : ℕ} (v : List ℤ) (h : Thousands v) where
-  step-if : (s : Step) → StepRight parameters w s → (k : ℕ) (m : Matrix (Limit ℤ)) → Visited w k m
+  step-if : (s : Step) → StepRight parameters w s → (k : ℕ) (m : Matrix (Upper ℤ)) → Visited w k m
       → IfKept (Visited w (after k s)) (step w v s m)
   unfolding step
   step-if delay r k m a = delayed-visited k a
   step-if (guard visit g) r k m a =
-      if-kept (Visited w k) (guarded w (g .left) (g .right) (atV v (limitOf (g .bound))) m)
+      if-kept (Visited w k) (guarded w (g .left) (g .right) (atV v (boundAs (g .bound))) m)
       (λ m′ e. guarded-visit a (guard-size v r h) (g .left) (g .right) (r .left) (r .right) (one-clock r) e)
   step-if (resets bits) r k m a = resets-visit bits w (omega arith) a
 
-  pub step-visited : {m m′ : Matrix (Limit ℤ)} (s : Step) → StepRight parameters w s → (k : ℕ) → Visited w k m → step w v s m ≡ kept m′
+  pub step-visited : {m m′ : Matrix (Upper ℤ)} (s : Step) → StepRight parameters w s → (k : ℕ) → Visited w k m → step w v s m ≡ kept m′
       → Visited w (after k s) m′
   step-visited {m} s r k a e = subst (IfKept (Visited w (after k s))) e (step-if s r k m a)
 
-  walk-if : (steps : List Step) → AllOf (StepRight parameters w) steps → (k : ℕ) (m : Matrix (Limit ℤ)) → Visited w k m
+  walk-if : (steps : List Step) → AllOf (StepRight parameters w) steps → (k : ℕ) (m : Matrix (Upper ℤ)) → Visited w k m
       → IfKept (Visited w (k + delays steps)) (walk w v steps m)
   unfolding walk
   walk-if [] r k m a =
@@ -156,7 +158,7 @@ module _ (parameters : ℕ) {w : ℕ} (v : List ℤ) (h : Thousands v) where
       (λ b c. subst (λ (n : ℕ). IfKept (Visited w n) (walk w v steps b)) (after-delays k s steps) (walk-if steps (r .1) (after k s) b c))
       (step w v s m) (step-if s (r .0) k m a)
 
-  pub walk-visited : {m m′ : Matrix (Limit ℤ)} (steps : List Step) → AllOf (StepRight parameters w) steps → (k : ℕ) → Visited w k m
+  pub walk-visited : {m m′ : Matrix (Upper ℤ)} (steps : List Step) → AllOf (StepRight parameters w) steps → (k : ℕ) → Visited w k m
       → walk w v steps m ≡ kept m′ → Visited w (k + delays steps) m′
   walk-visited {m} steps r k a e = subst (IfKept (Visited w (k + delays steps))) e (walk-if steps r k m a)
 
@@ -171,32 +173,36 @@ size-34 : size 34 < 2 ^ 57
 unfolding size
 size-34 = omega arith
 
-pub visited-within : {w : ℕ} {m : Matrix (Limit ℤ)} (k : ℕ) → k ≤ 33 → Visited w k m → Small w (2 ^ 57) m
+pub visited-within : {w : ℕ} {m : Matrix (Upper ℤ)} (k : ℕ) → k ≤ 33 → Visited w k m → Small w (2 ^ 57) m
 unfolding size
 visited-within k h a i j hi hj = atMost-more (omega (arith, size-order (suc k) 34 (omega arith), size-34)) (visit-small a i j hi hj)
 
 -- every number after any right steps with at most 33 delays
-pub steps-within : (parameters : ℕ) {w : ℕ} {m : Matrix (Limit ℤ)} (v : List ℤ) → Thousands v → (steps : List Step)
+pub steps-within : (parameters : ℕ) {w : ℕ} {m : Matrix (Upper ℤ)} (v : List ℤ) → Thousands v → (steps : List Step)
     → AllOf (StepRight parameters w) steps → delays steps ≤ 33 → walk w v steps start ≡ kept m → Small w (2 ^ 57) m
 steps-within parameters {w} v h steps r few e =
     visited-within (0 + delays steps) (omega arith) (walk-visited parameters v h steps r 0 (start-visited w) e)
 
 -- so every number that Sweep comes to, along the sheet's own route
-pub sweep-within : {s : Sheet} {m : Matrix (Limit ℤ)} → WellFormed s → (v : List ℤ) → Thousands v → sweepAt s v ≡ kept m
+pub sweep-within : {s : Sheet} {m : Matrix (Upper ℤ)} → WellFormed s → (v : List ℤ) → Thousands v → sweepAt s v ≡ kept m
     → Small (s .clocks) (2 ^ 57) m
 unfolding sweepAt sweepAlong
 sweep-within {s} f v h e =
     steps-within (s .parameters) v h (stepsOf s (routeOf s)) (steps-right f (routeOf s)) (route-delays f) e
 
--- ---- so the code's sums, which count a number past 2 ^ 62 - 1 as that end, are exact
-pub saturated-same : (a : Limit ℤ) {B : ℕ} → B < 2 ^ 62 → AtMost B a → saturated a ≡ a
+-- ---- so the code's sums and tests, which count a number past 2 ^ 62 - 1 as that end, are exact
+pub saturated-same : (a : Upper ℤ) {B : ℕ} → B < 2 ^ 62 → AtMost B a → saturated a ≡ a
 unfolding saturated
 saturated-same none g h = refl
-saturated-same (limit t x) {B} g h =
+saturated-same (upper t x) {B} g h =
     let l : p x + n x ≤ 4611686018427387903 = omega (arith, natAbs-parts x, h .size) in
-    ap (limit t) (saturate-same x (size-low l) (size-high l))
+    ap (upper t) (saturate-same x (size-low l) (size-high l))
 
-module _ {w : ℕ} {m : Matrix (Limit ℤ)} {e : Limit ℤ} (h : Small w (2 ^ 57) m) (g : AtMost 3001000 e) where
+test-same : {a b : Upper ℤ} {A B : ℕ} → A < 2 ^ 62 → AtMost A a → B < 2 ^ 62 → AtMost B b
+    → tighterW (saturated a) (saturated b) ≡ tighterW a b
+test-same {a} {b} f h g k = rw (saturated-same a f h, saturated-same b g k) refl
+
+module _ {w : ℕ} {m : Matrix (Upper ℤ)} {e : Upper ℤ} (h : Small w (2 ^ 57) m) (g : AtMost 3001000 e) where
   -- e + (j, i), which says whether a guard leaves it void
   pub loop-exact : (i j : ℕ) → i ≤ w → j ≤ w → sumW (saturated e) (saturated (m j i)) ≡ sumW e (m j i)
   loop-exact i j hi hj = rw (saturated-same e (omega arith) g, saturated-same (m j i) (omega arith) (h j i hj hi)) refl
@@ -209,3 +215,15 @@ module _ {w : ℕ} {m : Matrix (Limit ℤ)} {e : Limit ℤ} (h : Small w (2 ^ 57
       rw (saturated-same (m k i) (omega arith) (h k i hk hi), saturated-same e (omega arith) g) (
       rw (saturated-same (sumW (m k i) e) (omega arith) a, saturated-same (m j l) (omega arith) (h j l hj hl)) refl
       )
+
+  -- the tests: e + (j, i) against zero, e against (i, j), and (k, i) + e + (j, l) against (k, l)
+  pub loop-tested : (i j : ℕ) → i ≤ w → j ≤ w → tighterW (saturated (sumW e (m j i))) (saturated zeroW) ≡ tighterW (sumW e (m j i)) zeroW
+  loop-tested i j hi hj = test-same {B = 0} (omega arith) (atMost-sum g (h j i hj hi)) (omega arith) (record { size = omega arith })
+
+  pub guard-tested : (i j : ℕ) → i ≤ w → j ≤ w → tighterW (saturated e) (saturated (m i j)) ≡ tighterW e (m i j)
+  guard-tested i j hi hj = test-same (omega arith) g (omega arith) (h i j hi hj)
+
+  pub way-tested : (i j k l : ℕ) → i ≤ w → j ≤ w → k ≤ w → l ≤ w
+      → tighterW (saturated (sumW (sumW (m k i) e) (m j l))) (saturated (m k l)) ≡ tighterW (sumW (sumW (m k i) e) (m j l)) (m k l)
+  way-tested i j k l hi hj hk hl =
+      test-same (omega arith) (atMost-sum (atMost-sum (h k i hk hi) g) (h j l hj hl)) (omega arith) (h k l hk hl)

@@ -8,6 +8,7 @@ use Prim.Native.Nat.{ℕ, zero, suc, _*_, _/_, _%_, _^_, _≤_, _<_}
 use native.Mathlib.Omega.{arith}
 use lib.Dec.{eqb}
 use lib.IntN.{ℤ, pos, _-ℤ_, _*ℤ_, *ℤ-zero}
+use Rattle.integer.specs.Apart.{apart}
 use Rattle.dbm.specs.Matrix.{Matrix, delayed, resetM, resetsM, Outcome, void, kept, guarded, keeps, State, Meets, moved, put, times}
 use Rattle.dbm.specs.Matrix.{Closed, After}
 use Rattle.dbm.specs.Weights.{keeps-≡, keeps-times}
@@ -17,11 +18,13 @@ use Rattle.dbm.specs.Guard.{guarded-right, after-none}
 use Rattle.dbm.specs.Delay.{delayed-closed, delayed-met, delayed-from}
 use Rattle.dbm.specs.Reset.{reset-closed, reset-met, reset-from}
 use Rattle.expr.specs.Affine.{Affine, value}
-use Rattle.expr.specs.Limit.{Limit, none, limit, atV}
-use Rattle.expr.specs.Three.{affine, limitOf, pickL}
+use Rattle.weight.specs.Upper.{Upper, none, upper}
+use Rattle.expr.specs.Bounds.{atV}
+use Rattle.expr.specs.Three.{affine, boundAs}
 use Rattle.guards.specs.declared.Guard.{Guard}
 use Rattle.guards.specs.Right.{GuardRight}
-use Rattle.timed.specs.Right.{AllOf, StepRight}
+use Rattle.timed.specs.Lists.{AllOf}
+use Rattle.timed.specs.Right.{StepRight}
 use Rattle.timed.specs.Runs.{Clocks, waited, afterResets, compared, Holds}
 use Rattle.timed.specs.Steps.{Step, delay, guard, resets}
 use Rattle.concrete.specs.Walk.{step, walk}
@@ -44,7 +47,7 @@ moved-state : {D : ℕ} {x : Clocks} (d : ℕ) → State D x → State D (moved 
 unfolding moved
 moved-state d s = record { parts = s .parts; clock0 = s .clock0 }
 
-waits-moves : {w : ℕ} {m : Matrix (Limit ℤ)} → Closed w m → Kept w m Waits (delayed w none m)
+waits-moves : {w : ℕ} {m : Matrix (Upper ℤ)} → Closed w m → Kept w m Waits (delayed w none m)
 waits-moves {w} {m} c = record {
   closed = delayed-closed c;
   forward = λ D x y s h (d, e). rw (e, waited-moved d x) (moved-state d s, delayed-met x d h);
@@ -82,18 +85,18 @@ waits-stable w = record {
 
 -- ---- a guard
 by-mark : (D : ℕ) (v : List ℤ) (d : ℤ) (e : Affine) (missing strict : Bool) → missing ≡ false
-    → compared strict d (pos D *ℤ value e v) ↔ keeps D d (atV v (pickL missing none (limit strict e)))
+    → compared strict d (pos D *ℤ value e v) ↔ keeps D d (atV v (cond missing none (upper strict e)))
 unfolding atV
-by-mark D v d e true strict h = absurd (let z : _≡_ {A = ℕ} 0 1 = cc in omega arith)
+by-mark D v d e true strict h = absurd (apart cc)
 by-mark D v d e false true h = (λ k. record { is-below = k }, λ k. k .is-below)
 by-mark D v d e false false h = (λ k. record { is-below = k }, λ k. k .is-below)
 
 -- a right guard holds exactly if the difference keeps its weight
 holds-keeps : (D : ℕ) (v : List ℤ) (x : Clocks) (g : Guard) → g .bound .none ≡ false
-    → Holds D v x g ↔ keeps D (x (g .left) -ℤ x (g .right)) (atV v (limitOf (g .bound)))
+    → Holds D v x g ↔ keeps D (x (g .left) -ℤ x (g .right)) (atV v (boundAs (g .bound)))
 holds-keeps D v x g h = by-mark D v (x (g .left) -ℤ x (g .right)) (affine (g .bound .expr)) (g .bound .none) (g .bound .strict) h
 
-after-iff : (w : ℕ) (m : Matrix (Limit ℤ)) (P Q : ℕ → Clocks → Type 0) → ((D : ℕ) (x : Clocks) → P D x ↔ Q D x)
+after-iff : (w : ℕ) (m : Matrix (Upper ℤ)) (P Q : ℕ → Clocks → Type 0) → ((D : ℕ) (x : Clocks) → P D x ↔ Q D x)
     → (r : Outcome) → After w m P r → After w m Q r
 after-iff w m P Q f void a = λ D x s h q. a D x s h (f D x .1 q)
 after-iff w m P Q f (kept m′) a =
@@ -104,13 +107,13 @@ abbrev pub Guarded : List ℤ → Guard → Relation
 Guarded v g = Asks (λ D x. Holds D v x g)
 
 module _ (parameters : ℕ) {w : ℕ} (v : List ℤ) (g : Guard) (r : GuardRight parameters w g) where
-  guard-moves : (m : Matrix (Limit ℤ)) → Closed w m
-      → Moves w m (Guarded v g) (guarded w (g .left) (g .right) (atV v (limitOf (g .bound))) m)
-  guard-moves m c = after-moves w m (λ D x. Holds D v x g) (guarded w (g .left) (g .right) (atV v (limitOf (g .bound))) m)
-      (after-iff w m (λ D x. keeps D (x (g .left) -ℤ x (g .right)) (atV v (limitOf (g .bound)))) (λ D x. Holds D v x g)
+  guard-moves : (m : Matrix (Upper ℤ)) → Closed w m
+      → Moves w m (Guarded v g) (guarded w (g .left) (g .right) (atV v (boundAs (g .bound))) m)
+  guard-moves m c = after-moves w m (λ D x. Holds D v x g) (guarded w (g .left) (g .right) (atV v (boundAs (g .bound))) m)
+      (after-iff w m (λ D x. keeps D (x (g .left) -ℤ x (g .right)) (atV v (boundAs (g .bound)))) (λ D x. Holds D v x g)
       (λ D x. let (to, from) = holds-keeps D v x g (r .some) in (from, to))
-      (guarded w (g .left) (g .right) (atV v (limitOf (g .bound))) m)
-      (guarded-right c (r .left) (r .right) (atV v (limitOf (g .bound)))))
+      (guarded w (g .left) (g .right) (atV v (boundAs (g .bound))) m)
+      (guarded-right c (r .left) (r .right) (atV v (boundAs (g .bound)))))
 
   holds-times : (K D : ℕ) (x : Clocks) → 1 ≤ K → Holds D v x g → Holds (K * D) v (times K x) g
   holds-times K D x k h = holds-keeps (K * D) v (times K x) g (r .some) .1
@@ -126,7 +129,7 @@ module _ (parameters : ℕ) {w : ℕ} (v : List ℤ) (g : Guard) (r : GuardRight
 abbrev Put : ℕ → Relation
 Put r D x y = y ≡ put r (pos 0) x
 
-put-moves : {w : ℕ} {m : Matrix (Limit ℤ)} (r : ℕ) → 1 ≤ r → r ≤ w → Closed w m → Kept w m (Put r) (resetM w r m)
+put-moves : {w : ℕ} {m : Matrix (Upper ℤ)} (r : ℕ) → 1 ≤ r → r ≤ w → Closed w m → Kept w m (Put r) (resetM w r m)
 put-moves {w} {m} r g hr c = record {
   closed = reset-closed c hr;
   forward = λ D x y s h e. rw e (
@@ -169,14 +172,14 @@ Puts : ℕ → ℕ → Relation
 Puts bits zero = Asks (λ D x. Unit)
 Puts bits (suc n) = pickR (eqb (bits / 2 ^ n % 2) 1) (Then (Puts bits n) (Put (suc n))) (Puts bits n)
 
-puts-step : {w : ℕ} {m before : Matrix (Limit ℤ)} (n : ℕ) (R : Relation) (b : Bool) → suc n ≤ w → Kept w m R before
+puts-step : {w : ℕ} {m before : Matrix (Upper ℤ)} (n : ℕ) (R : Relation) (b : Bool) → suc n ≤ w → Kept w m R before
     → Kept w m (pickR b (Then R (Put (suc n))) R) (cond b (resetM w (suc n) before) before)
 puts-step {w} {m} {before} n R true h a =
     andThen-moves w m R (Put (suc n)) (λ b. kept (resetM w (suc n) b)) (put-stable w (suc n))
     (λ m₁ c. put-moves (suc n) (omega arith) h c) (kept before) a
 puts-step n R false h a = a
 
-puts-moves : {w : ℕ} {m : Matrix (Limit ℤ)} (bits n : ℕ) → n ≤ w → Closed w m → Kept w m (Puts bits n) (resetsM w bits n m)
+puts-moves : {w : ℕ} {m : Matrix (Upper ℤ)} (bits n : ℕ) → n ≤ w → Closed w m → Kept w m (Puts bits n) (resetsM w bits n m)
 unfolding Puts resetsM
 puts-moves {w} {m} bits zero h c = after-moves w m (λ D x. Unit) (kept m) (after-none c)
 puts-moves bits (suc n) h c = puts-step n (Puts bits n) (eqb (bits / 2 ^ n % 2) 1) h (puts-moves bits n (omega arith) c)
@@ -236,7 +239,7 @@ puts-total bits (suc n) D x = total-step bits n D x (eqb (bits / 2 ^ n % 2) 1) (
 abbrev pub Resets : ℕ → Relation
 Resets bits D x y = y ≡ afterResets bits x
 
-resets-moves : {w : ℕ} {m : Matrix (Limit ℤ)} (bits : ℕ) → Closed w m → Kept w m (Resets bits) (resetsM w bits w m)
+resets-moves : {w : ℕ} {m : Matrix (Upper ℤ)} (bits : ℕ) → Closed w m → Kept w m (Resets bits) (resetsM w bits w m)
 resets-moves {w} {m} bits c = moves-as w m (Puts bits w) (Resets bits) to from (kept (resetsM w bits w m))
     (puts-moves bits w (omega arith) c)
   where
@@ -284,7 +287,7 @@ Along v [] = Asks (λ D x. Unit)
 Along v (s ∷ steps) = Then (Makes v s) (Along v steps)
 
 module _ (parameters : ℕ) {w : ℕ} (v : List ℤ) where
-  step-moves : (s : Step) → StepRight parameters w s → (m : Matrix (Limit ℤ)) → Closed w m → Moves w m (Makes v s) (step w v s m)
+  step-moves : (s : Step) → StepRight parameters w s → (m : Matrix (Upper ℤ)) → Closed w m → Moves w m (Makes v s) (step w v s m)
   unfolding step
   step-moves delay r m c = waits-moves c
   step-moves (guard visit g) r m c = guard-moves parameters v g r m c
@@ -304,7 +307,7 @@ module _ (parameters : ℕ) {w : ℕ} (v : List ℤ) where
   along-stable (s ∷ steps) r = then-stable (Makes v s) (Along v steps) (step-stable s (r .0)) (along-stable steps (r .1))
 
   -- the walk's outcome is right for the steps
-  pub walk-moves : (steps : List Step) → AllOf (StepRight parameters w) steps → (m : Matrix (Limit ℤ)) → Closed w m
+  pub walk-moves : (steps : List Step) → AllOf (StepRight parameters w) steps → (m : Matrix (Upper ℤ)) → Closed w m
       → Moves w m (Along v steps) (walk w v steps m)
   unfolding Along walk
   walk-moves [] r m c = after-moves w m (λ D x. Unit) (kept m) (after-none c)

@@ -8,7 +8,7 @@ use Rattle.expr.specs.declared.bound.Bound.{Bound}
 use Rattle.expr.specs.declared.bound.BoundSum.{BoundSum}
 use Rattle.expr.specs.declared.bound.Test.{Test}
 use Rattle.expr.specs.declared.bound.Test.the-variants.{No}
-use Rattle.zones.specs.Zone.{zeroBound}
+use Rattle.expr.specs.Three.{zeroBound}
 use Rattle.constrain.specs.Rules.{testSum, voidTest, tightTest, viaC, pushTest, askC}
 use Rattle.constrain.specs.declared.rule.Rule.{Rule}
 
@@ -22,7 +22,8 @@ module _ (r : Rule) (x : ℕ) where
   unfolding pushTest
   push-column h k = rw (le-ltb (r .clocks) (x / 5) h, lt-ltb (r .clocks) (x % 5) k) refl
 
-  pub push-in : x / 5 ≤ r .clocks → x % 5 ≤ r .clocks → (t : Test) (s : BoundSum) (b : Bound) → t ≡ testSum s b → s ≡ viaC r x → b ≡ getD (r .old) x zeroBound
+  pub push-in : x / 5 ≤ r .clocks → x % 5 ≤ r .clocks → (t : Test) (s : BoundSum) (b : Bound) → t ≡ testSum s b → s ≡ viaC r x
+      → b ≡ getD (r .old) x zeroBound
       → t ≡ pushTest r x
   unfolding pushTest
   push-in h k t s b e f g =

@@ -1,17 +1,16 @@
 -- What a guard asks of a matrix, test by test, on the code's records.
 use mathlib.Core.List.{List}
-use mathlib.Core.Bool.{Bool}
+use mathlib.Core.Bool.{cond}
 use Prim.Native.Nat.{ℕ, zero, suc, _+_, _*_, _/_, _%_}
 use lib.Dec.{ltb}
 use lib.ListN.{getD}
-use Rattle.expr.specs.Limit.{sumB, tighterB}
-use Rattle.expr.specs.Three.{limitOf, boundSum, test}
+use Rattle.expr.specs.Bounds.{sumB, tighterB}
+use Rattle.expr.specs.Three.{boundAs, boundSum, test, zeroBound}
 use Rattle.expr.specs.declared.bound.Bound.{Bound}
 use Rattle.expr.specs.declared.bound.BoundSum.{BoundSum}
 use Rattle.expr.specs.declared.bound.BoundSum.the-variants.{Sum, Wide as BoundWide}
 use Rattle.expr.specs.declared.bound.Test.{Test}
 use Rattle.expr.specs.declared.bound.Test.the-variants.{No, Wide as TestWide}
-use Rattle.zones.specs.Zone.{pick, zeroBound}
 use Rattle.constrain.specs.declared.rule.Rule.{Rule}
 
 -- entry (k, l) of a matrix, five rows of five
@@ -20,10 +19,10 @@ entryC m k l = getD m (5 * k + l) zeroBound
 
 -- the code's sum and test of bounds
 abbrev pub sumC : Bound → Bound → BoundSum
-sumC a b = boundSum (sumB (limitOf a) (limitOf b))
+sumC a b = boundSum (sumB (boundAs a) (boundAs b))
 
 abbrev pub tighterC : Bound → Bound → Test
-tighterC a b = test (tighterB (limitOf a) (limitOf b))
+tighterC a b = test (tighterB (boundAs a) (boundAs b))
 
 abbrev pub testSum : BoundSum → Bound → Test
 testSum (Sum a) b = tighterC a b
@@ -51,7 +50,7 @@ viaC r x = sumSum (sumC (entryC (r .old) (x / 5) (r .left)) (r .bound)) (entryC 
 
 -- against the entry; no, past the clocks
 unfoldable pub pushTest : Rule → ℕ → Test
-pushTest r x = pick (ltb (r .clocks) (x / 5)) No (pick (ltb (r .clocks) (x % 5)) No (testSum (viaC r x) (getD (r .old) x zeroBound)))
+pushTest r x = cond (ltb (r .clocks) (x / 5)) No (cond (ltb (r .clocks) (x % 5)) No (testSum (viaC r x) (getD (r .old) x zeroBound)))
 
 -- the test of a phase
 unfoldable pub askC : Rule → ℕ → Test

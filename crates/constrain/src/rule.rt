@@ -4,7 +4,7 @@ use expr::BoundSum;
 use expr::Test;
 ghost use mathlib.Core.Path.{_≡_};
 ghost use lib.ListN.{getD};
-ghost use Rattle.zones.specs.Zone.{zeroBound};
+ghost use Rattle.expr.specs.Three.{zeroBound};
 ghost use Rattle.constrain.specs.Rules.{entryC, testSum, sumSum, voidTest, tightTest, viaC, viaBound, pushTest, askC};
 
 // A guard left - right with a bound, for a sheet's clocks, and the matrix that it finds.

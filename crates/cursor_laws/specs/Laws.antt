@@ -3,18 +3,16 @@ use Prim.Native.Nat.{ℕ, _≤_, _<_}
 use mathlib.Core.Path.{_≡_, refl}
 use mathlib.Core.List.{List}
 use mathlib.Core.Bool.{Bool, true, false, cond}
-use native.Mathlib.Omega.{arith}
 use lib.Dec.{ltb, leb}
 use borrow.Author.Tests.{ltb-true, leb-true}
+use Rattle.integer.specs.Apart.{apart}
 use Rattle.cursor.specs.declared.Cursor.{Cursor}
 use Rattle.cursor.specs.Cursor.{within, stop, judged, byteTaken, wordTaken, signedTaken, byteField, belowField, signedField, finished}
 use Rattle.integer.specs.Bools.{and-left, and-right}
 
 -- false is not true
 pub no : {A : Type 0} → false ≡ true → A
-no h =
-    let z : _≡_ {A = ℕ} 0 1 = cc in
-    absurd (omega arith)
+no h = apart cc
 
 pub within-true : (low value high : ℕ) → within low value high ≡ true → (low ≤ value) × (value ≤ high)
 within-true low value high h =

@@ -9,13 +9,16 @@ use borrow.Author.Tests.{leb-true, eqb-true, le-leb, eq-eqb}
 use lib.Dec.{eqb, leb}
 use lib.IntN.{ℤ, pos}
 use lib.Signed.{leZ}
+use Rattle.integer.specs.Apart.{apart}
 use Rattle.dbm.specs.Matrix.{Matrix, inside, tighterOf, limitedM, Outcome, void, kept, guarded}
 use Rattle.expr.specs.Affine.{Affine, value, dot, Judged, fine, wide}
-use Rattle.expr.specs.Limit.{Limit, atV, sumW, tighterW, zeroW, sumB, tighterB, Question, yes′, no′, ask, wide′}
+use Rattle.weight.specs.Upper.{Upper, sumW, tighterW, zeroW}
+use Rattle.expr.specs.Bounds.{atV, sumB, tighterB, Question, yes′, no′, ask, wide′, zeroB}
 use Rattle.integer.specs.Bools.{and-left, and-right}
-use Rattle.expr.specs.Laws.{same-test, answer, sum-at, tighter-at}
-use Rattle.cutting.specs.Cutting.{Bounds, zeroB, Tree, cut, keep, wideTree, asks, summed, tested, Place, putEntry, rowFrom}
-use Rattle.cutting.specs.Cutting.{rowsFrom, places, pushed, guardTree}
+use Rattle.integer.specs.Bools.{same-test}
+use Rattle.expr.specs.Laws.{answer, sum-at, tighter-at}
+use Rattle.cutting.specs.Cutting.{Bounds, Tree, cut, keep, wideTree, asks, summed, tested, Place, putEntry, rowFrom, rowsFrom}
+use Rattle.cutting.specs.Cutting.{places, pushed, guardTree}
 use Rattle.cutting.specs.Held.{at}
 
 -- the path of v down the tree ends in r, unless it ends where a number leaves the range
@@ -27,16 +30,16 @@ Comes v (asks e f) r = Comes v (f (leZ (pos 0) (value e v))) r
 
 -- ---- sums and tests
 module _ (v : List ℤ) where
-  summed-comes : (a b : Limit Affine) (f : Limit Affine → Tree) (r : Outcome)
-      → ((c : Limit Affine) → atV v c ≡ sumW (atV v a) (atV v b) → Comes v (f c) r) → Comes v (summed (sumB a b) f) r
+  summed-comes : (a b : Upper Affine) (f : Upper Affine → Tree) (r : Outcome)
+      → ((c : Upper Affine) → atV v c ≡ sumW (atV v a) (atV v b) → Comes v (f c) r) → Comes v (summed (sumB a b) f) r
   unfolding summed
   summed-comes a b f r h = by (sumB a b) refl
     where
-      by : (j : Judged (Limit Affine)) → sumB a b ≡ j → Comes v (summed j f) r
+      by : (j : Judged (Upper Affine)) → sumB a b ≡ j → Comes v (summed j f) r
       by (fine c) e = h c (sum-at a b c v e)
       by wide e = tt
 
-  tested-comes : (a b : Limit Affine) (f : Bool → Tree) (r : Outcome) → Comes v (f (tighterW (atV v a) (atV v b))) r
+  tested-comes : (a b : Upper Affine) (f : Bool → Tree) (r : Outcome) → Comes v (f (tighterW (atV v a) (atV v b))) r
       → Comes v (tested (tighterB a b) f) r
   unfolding tested answer
   tested-comes a b f r h = by (tighterB a b) refl
@@ -45,9 +48,9 @@ module _ (v : List ℤ) where
       told q e n = subst (λ (k : Question). answer k v ≡ tighterW (atV v a) (atV v b)) e (tighter-at a b v (λ k. n (sym e ∙ k)))
 
       by : (q : Question) → tighterB a b ≡ q → Comes v (tested q f) r
-      by yes′ e = subst (λ (b : Bool). Comes v (f b) r) (sym (told yes′ e (λ k. let z : _≡_ {A = ℕ} 0 1 = cc in omega arith))) h
-      by no′ e = subst (λ (b : Bool). Comes v (f b) r) (sym (told no′ e (λ k. let z : _≡_ {A = ℕ} 0 1 = cc in omega arith))) h
-      by (ask x) e = subst (λ (b : Bool). Comes v (f b) r) (sym (told (ask x) e (λ k. let z : _≡_ {A = ℕ} 0 1 = cc in omega arith))) h
+      by yes′ e = subst (λ (b : Bool). Comes v (f b) r) (sym (told yes′ e (λ k. apart cc))) h
+      by no′ e = subst (λ (b : Bool). Comes v (f b) r) (sym (told no′ e (λ k. apart cc))) h
+      by (ask x) e = subst (λ (b : Bool). Comes v (f b) r) (sym (told (ask x) e (λ k. apart cc))) h
       by wide′ e = tt
 
 -- ---- rule 3 at one valuation, place by place
@@ -60,25 +63,25 @@ hits k l [] = false
 hits k l (p ∷ ps) = hit k l p || hits k l ps
 
 -- what (k, l) would take
-abbrev through : ℕ → ℕ → Limit ℤ → Matrix (Limit ℤ) → Matrix (Limit ℤ)
+abbrev through : ℕ → ℕ → Upper ℤ → Matrix (Upper ℤ) → Matrix (Upper ℤ)
 through i j e old k l = sumW (sumW (old k i) e) (old j l)
 
-unfoldable putW : Place → Limit ℤ → Matrix (Limit ℤ) → Matrix (Limit ℤ)
+unfoldable putW : Place → Upper ℤ → Matrix (Upper ℤ) → Matrix (Upper ℤ)
 putW p b m k l = cond (hit k l p) b (m k l)
 
-unfoldable pushW : ℕ → ℕ → Limit ℤ → Matrix (Limit ℤ) → List Place → Matrix (Limit ℤ) → Matrix (Limit ℤ)
+unfoldable pushW : ℕ → ℕ → Upper ℤ → Matrix (Upper ℤ) → List Place → Matrix (Upper ℤ) → Matrix (Upper ℤ)
 pushW i j e old [] new = new
 pushW i j e old (p ∷ ps) new =
     pushW i j e old ps
     (cond (tighterW (through i j e old (p .row) (p .column)) (old (p .row) (p .column)))
     (putW p (through i j e old (p .row) (p .column)) new) new)
 
-put-cond : (v : List ℤ) (x y : Bool) (b c : Limit Affine) → atV v (cond x (cond y b c) c) ≡ cond (x && y) (atV v b) (atV v c)
+put-cond : (v : List ℤ) (x y : Bool) (b c : Upper Affine) → atV v (cond x (cond y b c) c) ≡ cond (x && y) (atV v b) (atV v c)
 put-cond v true true b c = refl
 put-cond v true false b c = refl
 put-cond v false y b c = refl
 
-put-at : (v : List ℤ) (p : Place) (b : Limit Affine) (m : Bounds) → at v (putEntry p b m) ≡ putW p (atV v b) (at v m)
+put-at : (v : List ℤ) (p : Place) (b : Upper Affine) (m : Bounds) → at v (putEntry p b m) ≡ putW p (atV v b) (at v m)
 unfolding at putEntry putW
 put-at v p b m = fun-ext (λ k. fun-ext (λ l. put-cond v (eqb k (p .row)) (eqb l (p .column)) b (m k l)))
 
@@ -86,7 +89,7 @@ cond-at : (v : List ℤ) (x : Bool) (a b : Bounds) → at v (cond x a b) ≡ con
 cond-at v true a b = refl
 cond-at v false a b = refl
 
-pushed-comes : (v : List ℤ) (i j : ℕ) (e : Limit Affine) (old : Bounds) (ps : List Place) (new : Bounds)
+pushed-comes : (v : List ℤ) (i j : ℕ) (e : Upper Affine) (old : Bounds) (ps : List Place) (new : Bounds)
     → Comes v (pushed i j e old ps new) (kept (pushW i j (atV v e) (at v old) ps (at v new)))
 unfolding pushed pushW at
 pushed-comes v i j e old [] new = refl
@@ -94,21 +97,21 @@ pushed-comes v i j e old (p ∷ ps) new =
     summed-comes v (old (p .row) i) e _ end (λ s hs.
     summed-comes v s (old j (p .column)) _ end (λ t ht.
     tested-comes v t (old (p .row) (p .column)) _ end
-    (go t (ht ∙ ap (λ (x : Limit ℤ). sumW x (atV v (old j (p .column)))) hs) (pushed-comes v i j e old ps))))
+    (go t (ht ∙ ap (λ (x : Upper ℤ). sumW x (atV v (old j (p .column)))) hs) (pushed-comes v i j e old ps))))
   where
     end : Outcome
     end = kept (pushW i j (atV v e) (at v old) (p ∷ ps) (at v new))
 
-    go : (t : Limit Affine) → atV v t ≡ through i j (atV v e) (at v old) (p .row) (p .column)
+    go : (t : Upper Affine) → atV v t ≡ through i j (atV v e) (at v old) (p .row) (p .column)
         → ((n : Bounds) → Comes v (pushed i j e old ps n) (kept (pushW i j (atV v e) (at v old) ps (at v n))))
         → Comes v (pushed i j e old ps (cond (tighterW (atV v t) (atV v (old (p .row) (p .column)))) (putEntry p t new) new)) end
     go t h ih =
         let o = at v old (p .row) (p .column) in
         let next = cond (tighterW (atV v t) o) (putEntry p t new) new in
-        subst (λ (m : Matrix (Limit ℤ)). Comes v (pushed i j e old ps next) (kept (pushW i j (atV v e) (at v old) ps m)))
+        subst (λ (m : Matrix (Upper ℤ)). Comes v (pushed i j e old ps next) (kept (pushW i j (atV v e) (at v old) ps m)))
         (cond-at v (tighterW (atV v t) o) (putEntry p t new) new
-        ∙ ap (λ (m : Matrix (Limit ℤ)). cond (tighterW (atV v t) o) m (at v new)) (put-at v p t new)
-        ∙ ap (λ (x : Limit ℤ). cond (tighterW x o) (putW p x (at v new)) (at v new)) h)
+        ∙ ap (λ (m : Matrix (Upper ℤ)). cond (tighterW (atV v t) o) m (at v new)) (put-at v p t new)
+        ∙ ap (λ (x : Upper ℤ). cond (tighterW x o) (putW p x (at v new)) (at v new)) h)
         (ih next)
 
 -- ---- the places of a matrix
@@ -166,12 +169,12 @@ row-in k l c (suc n) a b = by (eqb l c) refl (row-in k l (suc c) n)
         → (hit k l (record { row = k; column = c }) || hits k l (rowFrom k (suc c) n)) ≡ true
     by true e ih = or-left (hit k l (record { row = k; column = c })) (hits k l (rowFrom k (suc c) n))
         (and-yes (eqb k k) (eqb l c) (eq-eqb k k refl) e)
-    by false e ih = let d : l ≢ c = λ q. let y = eq-eqb l c q in let z : _≡_ {A = ℕ} 0 1 = cc in omega arith in
+    by false e ih = let d : l ≢ c = λ q. let y = eq-eqb l c q in apart cc in
         or-right (hit k l (record { row = k; column = c })) (hits k l (rowFrom k (suc c) n)) (ih (omega arith) (omega arith))
 
 row-out : (k l r c n : ℕ) → hits k l (rowFrom r c n) ≡ true → (k ≡ r) × (c ≤ l) × (l < c + n)
 unfolding hits rowFrom
-row-out k l r c zero h = let z : _≡_ {A = ℕ} 0 1 = cc in absurd (omega arith)
+row-out k l r c zero h = apart cc
 row-out k l r c (suc n) h = by (or-which (hit k l (record { row = r; column = c })) (hits k l (rowFrom r (suc c) n)) h)
     (row-out k l r (suc c) n)
   where
@@ -192,12 +195,12 @@ rows-in w k l r (suc n) a b c = by (eqb k r) refl (rows-in w k l (suc r) n)
         → hits k l (rowFrom r 0 (suc w) ++ rowsFrom w (suc r) n) ≡ true
     by true e ih = hits-left k l (rowFrom r 0 (suc w)) (rowsFrom w (suc r) n)
         (subst (λ (q : ℕ). hits k l (rowFrom q 0 (suc w)) ≡ true) (eqb-true k r e) (row-in k l 0 (suc w) (omega arith) (omega arith)))
-    by false e ih = let d : k ≢ r = λ q. let y = eq-eqb k r q in let z : _≡_ {A = ℕ} 0 1 = cc in omega arith in
+    by false e ih = let d : k ≢ r = λ q. let y = eq-eqb k r q in apart cc in
         hits-right k l (rowFrom r 0 (suc w)) (rowsFrom w (suc r) n) (ih (omega arith) (omega arith) c)
 
 rows-out : (w k l r n : ℕ) → hits k l (rowsFrom w r n) ≡ true → (r ≤ k) × (k < r + n) × (l ≤ w)
 unfolding rowsFrom hits
-rows-out w k l r zero h = let z : _≡_ {A = ℕ} 0 1 = cc in absurd (omega arith)
+rows-out w k l r zero h = apart cc
 rows-out w k l r (suc n) h = by (hits-which k l (rowFrom r 0 (suc w)) (rowsFrom w (suc r) n) h) (rows-out w k l (suc r) n)
   where
     by : (hits k l (rowFrom r 0 (suc w)) ≡ true) ⊎ (hits k l (rowsFrom w (suc r) n) ≡ true)
@@ -219,30 +222,30 @@ cond-same : {A : Type 0} (b : Bool) (a : A) → cond b a a ≡ a
 cond-same true a = refl
 cond-same false a = refl
 
-settle : (b : Bool) (x o n : Limit ℤ) → (n ≡ o) ⊎ (n ≡ cond b x o) → cond b x n ≡ cond b x o
+settle : (b : Bool) (x o n : Upper ℤ) → (n ≡ o) ⊎ (n ≡ cond b x o) → cond b x n ≡ cond b x o
 settle true x o n h = refl
 settle false x o n (inl h) = h
 settle false x o n (inr h) = h
 
-module _ (i j : ℕ) (e : Limit ℤ) (old : Matrix (Limit ℤ)) where
-  abbrev taken : Matrix (Limit ℤ)
+module _ (i j : ℕ) (e : Upper ℤ) (old : Matrix (Upper ℤ)) where
+  abbrev taken : Matrix (Upper ℤ)
   taken k l = tighterOf (through i j e old k l) (old k l)
 
   -- an entry is still the old one, or has been dealt with
-  abbrev Either : Matrix (Limit ℤ) → ℕ → ℕ → Type 0
+  abbrev Either : Matrix (Upper ℤ) → ℕ → ℕ → Type 0
   Either new k l = (new k l ≡ old k l) ⊎ (new k l ≡ taken k l)
 
-  abbrev next : Place → Matrix (Limit ℤ) → Matrix (Limit ℤ)
+  abbrev next : Place → Matrix (Upper ℤ) → Matrix (Upper ℤ)
   next p new = cond (tighterW (through i j e old (p .row) (p .column)) (old (p .row) (p .column)))
       (putW p (through i j e old (p .row) (p .column)) new) new
 
-  cond-put : (b : Bool) (p : Place) (x : Limit ℤ) (new : Matrix (Limit ℤ)) (k l : ℕ)
+  cond-put : (b : Bool) (p : Place) (x : Upper ℤ) (new : Matrix (Upper ℤ)) (k l : ℕ)
       → cond b (putW p x new) new k l ≡ cond b (cond (hit k l p) x (new k l)) (new k l)
   unfolding putW
   cond-put true p x new k l = refl
   cond-put false p x new k l = refl
 
-  step-at : (p : Place) (new : Matrix (Limit ℤ)) (k l : ℕ) → Either new k l → next p new k l ≡ cond (hit k l p) (taken k l) (new k l)
+  step-at : (p : Place) (new : Matrix (Upper ℤ)) (k l : ℕ) → Either new k l → next p new k l ≡ cond (hit k l p) (taken k l) (new k l)
   step-at p new k l h =
       cond-put (tighterW (through i j e old (p .row) (p .column)) (old (p .row) (p .column))) p
       (through i j e old (p .row) (p .column)) new k l ∙ by (hit k l p) refl
@@ -259,11 +262,11 @@ module _ (i j : ℕ) (e : Limit ℤ) (old : Matrix (Limit ℤ)) where
           (eqb-true l (p .column) (and-right (eqb k (p .row)) (eqb l (p .column)) q))
           (settle (tighterW (through i j e old k l) (old k l)) (through i j e old k l) (old k l) (new k l) h))
 
-  follow : (new new′ : Matrix (Limit ℤ)) (k l : ℕ) → new′ k l ≡ new k l → Either new k l → Either new′ k l
+  follow : (new new′ : Matrix (Upper ℤ)) (k l : ℕ) → new′ k l ≡ new k l → Either new k l → Either new′ k l
   follow new new′ k l q (inl h) = inl (q ∙ h)
   follow new new′ k l q (inr h) = inr (q ∙ h)
 
-  push-at : (ps : List Place) (new : Matrix (Limit ℤ)) (k l : ℕ) → Either new k l
+  push-at : (ps : List Place) (new : Matrix (Upper ℤ)) (k l : ℕ) → Either new k l
       → pushW i j e old ps new k l ≡ cond (hits k l ps) (taken k l) (new k l)
   unfolding pushW hits
   push-at [] new k l h = refl
@@ -272,8 +275,8 @@ module _ (i j : ℕ) (e : Limit ℤ) (old : Matrix (Limit ℤ)) where
       by : (b : Bool) → next p new k l ≡ cond b (taken k l) (new k l)
           → (Either (next p new) k l → pushW i j e old ps (next p new) k l ≡ cond (hits k l ps) (taken k l) (next p new k l))
           → pushW i j e old ps (next p new) k l ≡ cond (b || hits k l ps) (taken k l) (new k l)
-      by true s ih = ih (inr s) ∙ ap (λ (x : Limit ℤ). cond (hits k l ps) (taken k l) x) s ∙ cond-same (hits k l ps) (taken k l)
-      by false s ih = ih (follow new (next p new) k l s h) ∙ ap (λ (x : Limit ℤ). cond (hits k l ps) (taken k l) x) s
+      by true s ih = ih (inr s) ∙ ap (λ (x : Upper ℤ). cond (hits k l ps) (taken k l) x) s ∙ cond-same (hits k l ps) (taken k l)
+      by false s ih = ih (follow new (next p new) k l s h) ∙ ap (λ (x : Upper ℤ). cond (hits k l ps) (taken k l) x) s
 
   push-all : (w : ℕ) → pushW i j e old (places w) old ≡ limitedM w i j e old
   unfolding limitedM
@@ -285,15 +288,15 @@ zero-at : (v : List ℤ) → atV v zeroB ≡ zeroW
 unfolding atV value dot
 zero-at v = refl
 
-stays-comes : (v : List ℤ) (w i j : ℕ) (e : Limit Affine) (m : Bounds) (b : Bool)
+stays-comes : (v : List ℤ) (w i j : ℕ) (e : Upper Affine) (m : Bounds) (b : Bool)
     → Comes v (cond b (pushed i j e m (places w) m) (keep m)) (kept (cond b (limitedM w i j (atV v e) (at v m)) (at v m)))
 stays-comes v w i j e m true =
-    subst (λ (x : Matrix (Limit ℤ)). Comes v (pushed i j e m (places w) m) (kept x)) (push-all i j (atV v e) (at v m) w)
+    subst (λ (x : Matrix (Upper ℤ)). Comes v (pushed i j e m (places w) m) (kept x)) (push-all i j (atV v e) (at v m) w)
     (pushed-comes v i j e m (places w) m)
 stays-comes v w i j e m false = refl
 
 -- a guard's tree comes to what the guard does to the matrix with v put in
-pub guard-comes : (v : List ℤ) (w i j : ℕ) (e : Limit Affine) (m : Bounds)
+pub guard-comes : (v : List ℤ) (w i j : ℕ) (e : Upper Affine) (m : Bounds)
     → Comes v (guardTree w i j e m) (guarded w i j (atV v e) (at v m))
 unfolding guardTree guarded at
 guard-comes v w i j e m =
@@ -306,7 +309,7 @@ guard-comes v w i j e m =
     end : Outcome
     end = guarded w i j (atV v e) (at v m)
 
-    by : (back : Limit Affine) (b : Bool) → tighterW (sumW (atV v e) (at v m j i)) zeroW ≡ b
+    by : (back : Upper Affine) (b : Bool) → tighterW (sumW (atV v e) (at v m j i)) zeroW ≡ b
         → Comes v (cond b cut (tested (tighterB e (m i j)) (λ tight. cond tight (pushed i j e m (places w) m) (keep m)))) end
     by back true q = ap (λ (b : Bool). cond b void stays) q
     by back false q =

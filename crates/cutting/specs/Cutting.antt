@@ -1,16 +1,19 @@
 -- The cutting of the ranges (paper 01, "Cutting the ranges"), for any number of parameters and clocks.
+use mathlib.Core.Path.{_≡_}
+use mathlib.Core.Logic.{_⊎_}
 use mathlib.Core.List.{List, [], _∷_, _++_, map}
 use mathlib.Core.Bool.{Bool, true, false, cond}
 use mathlib.Core.Option.{Option}
 use mathlib.Core.Option as option
 use Prim.Native.Nat.{ℕ, zero, suc}
 use lib.Dec.{eqb, ltb}
-use lib.IntN.{ℤ, pos}
+use lib.IntN.{ℤ}
 use lib.ListN.{length}
 use Rattle.dbm.specs.Matrix.{Matrix, delayed, resetsM}
 use Rattle.expr.specs.Affine.{Affine, opposite, Judged, fine, wide}
-use Rattle.expr.specs.Limit.{Limit, none, limit, sumB, tighterB, Question, yes′, no′, ask, wide′}
-use Rattle.expr.specs.Three.{limitOf, rangeList}
+use Rattle.weight.specs.Upper.{Upper, none}
+use Rattle.expr.specs.Bounds.{zeroB, sumB, tighterB, Question, yes′, no′, ask, wide′}
+use Rattle.expr.specs.Three.{boundAs, rangeList}
 use Rattle.search.specs.Valuations.{first}
 use Rattle.expr.specs.declared.range.Range.{Range}
 use Rattle.guards.specs.declared.Guard.{Guard}
@@ -20,11 +23,7 @@ use Rattle.timed.specs.Steps.{Step, delay, guard, resets, stepsOf}
 
 -- a matrix of bounds
 abbrev pub Bounds : Type 0
-Bounds = Matrix (Limit Affine)
-
--- zero, not strict
-abbrev pub zeroB : Limit Affine
-zeroB = limit false (record { constant = pos 0; coefs = [] })
+Bounds = Matrix (Upper Affine)
 
 -- all entries zero, not strict
 unfoldable pub startB : Bounds
@@ -37,9 +36,9 @@ pub record Zone : Type 0 where
 
 -- ---- one guard (paper: limit) on one matrix: what the rules ask, in order, knowing nothing of inequalities
 
--- the part is cut; it stays, with a matrix; a number leaves the range (refusal 9); or an expression is asked ≥ 0
--- Example: 1 - 0 ≤ p on the start's matrix after a wait asks -p - 1 (is p + (0, 1) tighter than zero?). If yes, it is `cut`; if no, p beats the none at
--- (1, 0) with no test, and the entries follow: -p - 1 is asked again for (0, 0), and so on to `keep`.
+-- the part is cut; it stays, with a matrix; a number leaves the range (refusal 9); or an expression is asked ≥ 0 Example: 1 - 0 ≤ p on
+-- the start's matrix after a wait asks -p - 1 (is p + (0, 1) tighter than zero?). If yes, it is `cut`; if no, p beats the none at (1, 0)
+-- with no test, and the entries follow: -p - 1 is asked again for (0, 0), and so on to `keep`.
 pub data Tree : Type 0 where
   cut : Tree
   keep : Bounds → Tree
@@ -47,7 +46,7 @@ pub data Tree : Type 0 where
   asks : Affine → (Bool → Tree) → Tree
 
 -- a sum, then what follows
-unfoldable pub summed : Judged (Limit Affine) → (Limit Affine → Tree) → Tree
+unfoldable pub summed : Judged (Upper Affine) → (Upper Affine → Tree) → Tree
 summed (fine b) f = f b
 summed wide f = wideTree
 
@@ -64,7 +63,7 @@ pub record Place : Type 0 where
   pub column : ℕ
 
 -- the matrix with one entry put in
-unfoldable pub putEntry : Place → Limit Affine → Bounds → Bounds
+unfoldable pub putEntry : Place → Upper Affine → Bounds → Bounds
 putEntry p b m i j = cond (eqb i (p .row)) (cond (eqb j (p .column)) b (m i j)) (m i j)
 
 -- n places of row k, from column l on
@@ -82,7 +81,7 @@ unfoldable pub places : ℕ → List Place
 places w = rowsFrom w 0 (suc w)
 
 -- rule (3): in row order, (k, l) takes (k, i) + e + (j, l) where that is tighter, old entries read throughout
-unfoldable pub pushed : ℕ → ℕ → Limit Affine → Bounds → List Place → Bounds → Tree
+unfoldable pub pushed : ℕ → ℕ → Upper Affine → Bounds → List Place → Bounds → Tree
 pushed i j e old [] new = keep new
 pushed i j e old (p ∷ ps) new =
     summed (sumB (old (p .row) i) e) (λ s.
@@ -90,9 +89,9 @@ pushed i j e old (p ∷ ps) new =
     tested (tighterB t (old (p .row) (p .column))) (λ b.
     pushed i j e old ps (cond b (putEntry p t new) new))))
 
--- the three rules for a guard i - j with the bound e: (1) cut if e + (j, i) is tighter than zero, not strict; (2) the part stays if e isn't
--- tighter than (i, j); (3) else pushed
-unfoldable pub guardTree : ℕ → ℕ → ℕ → Limit Affine → Bounds → Tree
+-- the three rules for a guard i - j with the bound e: (1) cut if e + (j, i) is tighter than zero, not strict; (2) the part stays if e
+-- isn't tighter than (i, j); (3) else pushed
+unfoldable pub guardTree : ℕ → ℕ → ℕ → Upper Affine → Bounds → Tree
 guardTree w i j e m =
     summed (sumB e (m j i)) (λ back.
     tested (tighterB back zeroB) (λ void.
@@ -106,6 +105,10 @@ guardTree w i j e m =
 pub data Listing : Type 0 where
   listed : List Zone → Listing
   refused : ℕ → ℕ → Listing
+
+-- the refusals of the cutting
+abbrev pub SevenToNine : ℕ → Type 0
+SevenToNine m = (m ≡ 7) ⊎ ((m ≡ 8) ⊎ (m ≡ 9))
 
 -- how many zones a limit may list, and how many inequalities a zone may have
 abbrev pub ZONES : ℕ
@@ -150,7 +153,7 @@ worked rs visit (asks e f) is (refused n k) = refused n k
 unfoldable pub guardZones : List Range → ℕ → ℕ → Guard → List Zone → Listing → Listing
 guardZones rs visit w g [] o = o
 guardZones rs visit w g (z ∷ zs) o =
-    guardZones rs visit w g zs (worked rs visit (guardTree w (g .left) (g .right) (limitOf (g .bound)) (z .bounds)) (z .ineqs) o)
+    guardZones rs visit w g zs (worked rs visit (guardTree w (g .left) (g .right) (boundAs (g .bound)) (z .bounds)) (z .ineqs) o)
 
 -- a step on every zone's matrix
 unfoldable pub onBounds : (Bounds → Bounds) → List Zone → List Zone

@@ -1,7 +1,7 @@
 -- No two zones hold the same valuation of the ranges: any steps leave it in no more zones than held it before, and one zone holds it at
 -- the start.
-use mathlib.Core.Path.{_≡_, refl, ap, subst, sym, _∙_}
-use mathlib.Core.List.{List, [], _∷_, _++_}
+use mathlib.Core.Path.{_≡_, refl, ap, subst, sym}
+use mathlib.Core.List.{List, [], _∷_}
 use mathlib.Core.Bool.{Bool, true, false, cond}
 use Prim.Native.Nat.{ℕ, zero, suc, _≤_, _<_}
 use native.Mathlib.Omega.{arith}
@@ -9,7 +9,7 @@ use lib.IntN.{ℤ}
 use lib.ListN.{length, getD, length-append}
 use Rattle.dbm.specs.Matrix.{Matrix, Outcome, void, kept, delayed, resetsM}
 use Rattle.expr.specs.Ranges.{Inside}
-use Rattle.expr.specs.Limit.{Limit, none}
+use Rattle.weight.specs.Upper.{Upper, none}
 use Rattle.expr.specs.Three.{rangeList}
 use Rattle.search.specs.Valuations.{satisfies}
 use Rattle.expr.specs.declared.range.Range.{Range}
@@ -43,13 +43,13 @@ at-most-one : (r : Outcome) → length (listOf r) ≤ 1
 at-most-one void = omega arith
 at-most-one (kept m) = omega arith
 
-each-fewer : (f : Matrix (Limit ℤ) → Outcome) (ms : List (Matrix (Limit ℤ))) → length (each f ms) ≤ length ms
+each-fewer : (f : Matrix (Upper ℤ) → Outcome) (ms : List (Matrix (Upper ℤ))) → length (each f ms) ≤ length ms
 unfolding each
 each-fewer f [] = omega arith
 each-fewer f (m ∷ ms) = omega (arith, at-most-one (f m), each-fewer f ms, length-append (listOf (f m)) (each f ms))
 
-as-many : (f : Matrix (Limit ℤ) → Outcome) (xs ms : List (Matrix (Limit ℤ))) → xs ≡ each f ms → length xs ≤ length ms
-as-many f xs ms e = subst (λ (l : List (Matrix (Limit ℤ))). length l ≤ length ms) (sym e) (each-fewer f ms)
+as-many : (f : Matrix (Upper ℤ) → Outcome) (xs ms : List (Matrix (Upper ℤ))) → xs ≡ each f ms → length xs ≤ length ms
+as-many f xs ms e = subst (λ (l : List (Matrix (Upper ℤ))). length l ≤ length ms) (sym e) (each-fewer f ms)
 
 module _ (rs : List Range) (v : List ℤ) (inside-ranges : Inside v rs) (w : ℕ) where
   step-fewer : (s : Step) (zs zs′ : List Zone) → stepZones rs w s zs ≡ listed zs′ → length (found v zs′) ≤ length (found v zs)
@@ -82,11 +82,11 @@ holder-counts v (z ∷ zs) d (suc i) h k = by (holds v z) (holder-counts v zs d 
     by true g = omega arith
     by false g = g
 
-fewer : (b : Bool) (m : Matrix (Limit ℤ)) (ms : List (Matrix (Limit ℤ))) → length (cond b (m ∷ ms) ms) ≤ 1 → length ms ≤ 1
+fewer : (b : Bool) (m : Matrix (Upper ℤ)) (ms : List (Matrix (Upper ℤ))) → length (cond b (m ∷ ms) ms) ≤ 1 → length ms ≤ 1
 fewer true m ms h = omega arith
 fewer false m ms h = h
 
-both-count : (m : Matrix (Limit ℤ)) (ms : List (Matrix (Limit ℤ))) → length (m ∷ ms) ≤ 1 → 1 ≤ length ms → ⊥
+both-count : (m : Matrix (Upper ℤ)) (ms : List (Matrix (Upper ℤ))) → length (m ∷ ms) ≤ 1 → 1 ≤ length ms → ⊥
 both-count m ms h k = omega arith
 
 one-place : (v : List ℤ) (zs : List Zone) → length (found v zs) ≤ 1 → (d : Zone) (i j : ℕ) → i < length zs → j < length zs

@@ -5,7 +5,8 @@ use mathlib.Core.Bool.{Bool, true, cond}
 use lib.IntN.{ℤ}
 use Rattle.dbm.specs.Matrix.{Matrix, Outcome, void, kept}
 use Rattle.expr.specs.Ranges.{Inside}
-use Rattle.expr.specs.Limit.{Limit, atV}
+use Rattle.weight.specs.Upper.{Upper}
+use Rattle.expr.specs.Bounds.{atV}
 use Rattle.expr.specs.Three.{rangeList}
 use Rattle.search.specs.Valuations.{satisfies}
 use Rattle.sheet.specs.declared.Sheet.{Sheet}
@@ -16,16 +17,16 @@ abbrev pub holds : List ℤ → Zone → Bool
 holds v z = satisfies (z .ineqs) v
 
 -- a matrix of bounds with v put in
-unfoldable pub at : List ℤ → Bounds → Matrix (Limit ℤ)
+unfoldable pub at : List ℤ → Bounds → Matrix (Upper ℤ)
 at v m i j = atV v (m i j)
 
 -- the matrices, with v put in, of the zones that hold v, in order
-unfoldable pub found : List ℤ → List Zone → List (Matrix (Limit ℤ))
+unfoldable pub found : List ℤ → List Zone → List (Matrix (Upper ℤ))
 found v [] = []
 found v (z ∷ zs) = cond (holds v z) (at v (z .bounds) ∷ found v zs) (found v zs)
 
 -- an outcome as a list: nothing where it is void, else one matrix
-abbrev pub listOf : Outcome → List (Matrix (Limit ℤ))
+abbrev pub listOf : Outcome → List (Matrix (Upper ℤ))
 listOf void = []
 listOf (kept m) = m ∷ []
 

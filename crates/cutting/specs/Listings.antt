@@ -2,10 +2,10 @@
 use mathlib.Core.Path.{_≡_, refl, ap, _∙_}
 use mathlib.Core.List.{List, [], _∷_, _++_}
 use Prim.Native.Nat.{ℕ, suc}
-use native.Mathlib.Omega.{arith}
 use lib.ListN.{length}
+use Rattle.integer.specs.Apart.{apart}
 use Rattle.expr.specs.Affine.{Affine}
-use Rattle.expr.specs.Three.{limitOf}
+use Rattle.expr.specs.Three.{boundAs}
 use Rattle.expr.specs.declared.range.Range.{Range}
 use Rattle.guards.specs.declared.Guard.{Guard}
 use Rattle.timed.specs.Steps.{Step}
@@ -16,7 +16,7 @@ pub listed-same : {xs ys : List Zone} → listed xs ≡ listed ys → xs ≡ ys
 listed-same h = cc
 
 pub not-listed : {n k : ℕ} {ys : List Zone} → refused n k ≡ listed ys → ⊥
-not-listed h = let z : _≡_ {A = ℕ} 0 1 = cc in omega arith
+not-listed h = apart cc
 
 pub worked-refused : (rs : List Range) (visit : ℕ) (t : Tree) (is : List Affine) (n k : ℕ)
     → worked rs visit t is (refused n k) ≡ refused n k
@@ -32,7 +32,7 @@ unfolding guardZones
 guards-refused rs visit w g [] n k = refl
 guards-refused rs visit w g (z ∷ zs) n k =
     ap (guardZones rs visit w g zs)
-    (worked-refused rs visit (guardTree w (g .left) (g .right) (limitOf (g .bound)) (z .bounds)) (z .ineqs) n k)
+    (worked-refused rs visit (guardTree w (g .left) (g .right) (boundAs (g .bound)) (z .bounds)) (z .ineqs) n k)
     ∙ guards-refused rs visit w g zs n k
 
 pub listed-first : (o : Listing) (f : List Zone → Listing) (zs′ : List Zone) → andThen o f ≡ listed zs′

@@ -1,15 +1,16 @@
 -- The cutting is refused by 7, 8 or 9 alone.
 use mathlib.Core.Path.{_≡_, refl, subst}
-use mathlib.Core.Logic.{_⊎_, inl, inr}
+use mathlib.Core.Logic.{inl, inr}
 use mathlib.Core.List.{List, [], _∷_, _++_}
 use mathlib.Core.Bool.{Bool, true, false, cond}
-use Prim.Native.Nat.{ℕ, suc}
+use Prim.Native.Nat.{ℕ}
 use lib.Dec.{ltb}
 use lib.ListN.{length}
 use Rattle.cutting.specs.Cutting.{startZone, Zone, Tree, cut, keep, wideTree, asks, guardTree, Listing, listed, refused, ZONES}
 use Rattle.cutting.specs.Cutting.{INEQS, never, listZone, worked, guardZones, andThen, stepZones, cutSteps, zonesAlong, zonesOf}
+use Rattle.cutting.specs.Cutting.{SevenToNine}
 use Rattle.expr.specs.Affine.{Affine, opposite}
-use Rattle.expr.specs.Three.{limitOf, rangeList}
+use Rattle.expr.specs.Three.{boundAs, rangeList}
 use Rattle.expr.specs.declared.range.Range.{Range}
 use Rattle.guards.specs.declared.Guard.{Guard}
 use Rattle.sheet.specs.declared.Sheet.{Sheet}
@@ -17,9 +18,6 @@ use Rattle.timed.specs.Automaton.{routeOf}
 use Rattle.timed.specs.Steps.{Step, delay, guard, resets, stepsOf}
 
 -- ---- the statement
-abbrev pub SevenToNine : ℕ → Type 0
-SevenToNine m = (m ≡ 7) ⊎ ((m ≡ 8) ⊎ (m ≡ 9))
-
 -- along any route, and along the sheet's own
 abbrev pub AlongNumbered : Type 0
 AlongNumbered = (s : Sheet) (route : List ℕ) (m visit : ℕ) → zonesAlong s route ≡ refused m visit → SevenToNine m
@@ -64,7 +62,7 @@ module _ (rs : List Range) (visit : ℕ) where
     unfolding guardZones
     guard-numbered g [] o h = h
     guard-numbered g (z ∷ zs) o h =
-        guard-numbered g zs _ (worked-numbered (guardTree w (g .left) (g .right) (limitOf (g .bound)) (z .bounds)) (z .ineqs) o h)
+        guard-numbered g zs _ (worked-numbered (guardTree w (g .left) (g .right) (boundAs (g .bound)) (z .bounds)) (z .ineqs) o h)
 
 -- any list of steps
 module _ (rs : List Range) (w : ℕ) where

@@ -1,5 +1,5 @@
 -- The shape of what is listed: at most 32 zones, each of at most 24 inequalities, and past the sheet's clocks zero, not strict.
-use mathlib.Core.Path.{_≡_, refl, sym, ap, subst, _∙_}
+use mathlib.Core.Path.{_≡_, refl, sym, subst, _∙_}
 use mathlib.Core.Logic.{_⊎_, inl, inr}
 use mathlib.Core.List.{List, [], _∷_, _++_, List·Memᴰ, List·Memᴰ·not-nil, List·Memᴰ·cases-cons}
 use mathlib.Core.Bool.{Bool, true, false, cond}
@@ -8,19 +8,19 @@ use native.Mathlib.Omega.{arith}
 use borrow.Author.Tests.{ltb-true, eqb-true}
 use lib.Dec.{eqb, ltb}
 use lib.ListN.{length, length-append}
-use Rattle.dbm.specs.Matrix.{delayed, resetsM}
-use Rattle.dbm.specs.Matrix.{Outside}
+use Rattle.dbm.specs.Matrix.{delayed, resetsM, Outside}
 use Rattle.dbm.specs.Entries.{delayed-outside, resets-outside}
 use Rattle.expr.specs.Affine.{Affine, opposite, Judged, fine, wide}
-use Rattle.expr.specs.Limit.{Limit, none, sumB, tighterB, Question, yes′, no′, ask, wide′}
-use Rattle.expr.specs.Three.{limitOf, rangeList}
+use Rattle.weight.specs.Upper.{Upper, none}
+use Rattle.expr.specs.Bounds.{sumB, tighterB, Question, yes′, no′, ask, wide′, zeroB}
+use Rattle.expr.specs.Three.{boundAs, rangeList}
 use Rattle.expr.specs.declared.range.Range.{Range}
 use Rattle.guards.specs.declared.Guard.{Guard}
 use Rattle.sheet.specs.declared.Sheet.{Sheet}
 use Rattle.timed.specs.Automaton.{routeOf}
 use Rattle.timed.specs.Steps.{Step, delay, guard, resets, stepsOf}
 use Rattle.cutting.specs.Listings.{listed-same, not-listed, worked-refused, guards-refused, listed-first, on-length}
-use Rattle.cutting.specs.Cutting.{Bounds, zeroB, startB, startZone, Zone, Tree, cut, keep, wideTree, asks, summed, tested, Place}
+use Rattle.cutting.specs.Cutting.{Bounds, startB, startZone, Zone, Tree, cut, keep, wideTree, asks, summed, tested, Place}
 use Rattle.cutting.specs.Cutting.{putEntry, rowFrom, rowsFrom, places, pushed, guardTree, Listing, listed, refused, INEQS, ZONES}
 use Rattle.cutting.specs.Cutting.{never, listZone, worked, guardZones, onBounds, stepZones, cutSteps, zonesAlong, zonesOf}
 
@@ -70,7 +70,7 @@ Leaves w (keep m) = Blank w m
 Leaves w wideTree = Unit {0}
 Leaves w (asks e f) = (b : Bool) → Leaves w (f b)
 
-summed-leaves : (w : ℕ) (j : Judged (Limit Affine)) (f : Limit Affine → Tree) → ((c : Limit Affine) → Leaves w (f c))
+summed-leaves : (w : ℕ) (j : Judged (Upper Affine)) (f : Upper Affine → Tree) → ((c : Upper Affine) → Leaves w (f c))
     → Leaves w (summed j f)
 unfolding summed
 summed-leaves w (fine c) f h = h c
@@ -103,7 +103,7 @@ rows-placed w k zero a = tt
 rows-placed w k (suc n) a = placed-append w (rowFrom k 0 (suc w)) (rowsFrom w (suc k) n)
     (row-placed w k 0 (suc w) (omega arith) (omega arith)) (rows-placed w (suc k) n (omega arith))
 
-put-blank : (w : ℕ) (p : Place) (t : Limit Affine) (m : Bounds) → p .row ≤ w → p .column ≤ w → Blank w m → Blank w (putEntry p t m)
+put-blank : (w : ℕ) (p : Place) (t : Upper Affine) (m : Bounds) → p .row ≤ w → p .column ≤ w → Blank w m → Blank w (putEntry p t m)
 unfolding putEntry
 put-blank w p t m a b h i j o = by (eqb i (p .row)) (eqb j (p .column)) refl refl o
   where
@@ -117,7 +117,7 @@ cond-blank : (w : ℕ) (b : Bool) (x y : Bounds) → Blank w x → Blank w y →
 cond-blank w true x y h k = h
 cond-blank w false x y h k = k
 
-pushed-leaves : (w i j : ℕ) (e : Limit Affine) (old : Bounds) (ps : List Place) (new : Bounds) → Placed w ps → Blank w new
+pushed-leaves : (w i j : ℕ) (e : Upper Affine) (old : Bounds) (ps : List Place) (new : Bounds) → Placed w ps → Blank w new
     → Leaves w (pushed i j e old ps new)
 unfolding pushed
 pushed-leaves w i j e old [] new h k = k
@@ -128,7 +128,7 @@ pushed-leaves w i j e old (p ∷ ps) new h k =
     pushed-leaves w i j e old ps (cond b (putEntry p t new) new) (h .2)
     (cond-blank w b (putEntry p t new) new (put-blank w p t new (h .0) (h .1) k) k))))
 
-guard-leaves : (w i j : ℕ) (e : Limit Affine) (m : Bounds) → Blank w m → Leaves w (guardTree w i j e m)
+guard-leaves : (w i j : ℕ) (e : Upper Affine) (m : Bounds) → Blank w m → Leaves w (guardTree w i j e m)
 unfolding guardTree places
 guard-leaves w i j e m h =
     summed-leaves w (sumB e (m j i)) _ (λ back.
@@ -208,13 +208,13 @@ module _ (rs : List Range) (visit w : ℕ) where
   guard-right g (z ∷ zs) os zs′ a r q = by (worked rs visit tree (z .ineqs) (listed os)) refl q (λ os₁. guard-right g zs os₁ zs′ (a .1))
     where
       tree : Tree
-      tree = guardTree w (g .left) (g .right) (limitOf (g .bound)) (z .bounds)
+      tree = guardTree w (g .left) (g .right) (boundAs (g .bound)) (z .bounds)
 
       by : (o : Listing) → worked rs visit tree (z .ineqs) (listed os) ≡ o → guardZones rs visit w g zs o ≡ listed zs′
           → ((os₁ : List Zone) → Right w os₁ → guardZones rs visit w g zs (listed os₁) ≡ listed zs′ → Right w zs′) → Right w zs′
       by (refused n k) e q ih = absurd (not-listed (sym (guards-refused rs visit w g zs n k) ∙ q))
       by (listed os₁) e q ih =
-          ih os₁ (tree-keeps tree (guard-leaves w (g .left) (g .right) (limitOf (g .bound)) (z .bounds) (a .0 .blank)) (z .ineqs) os os₁
+          ih os₁ (tree-keeps tree (guard-leaves w (g .left) (g .right) (boundAs (g .bound)) (z .bounds) (a .0 .blank)) (z .ineqs) os os₁
           (a .0 .few) r e) q
 
 -- ---- steps on every zone's matrix

@@ -6,25 +6,26 @@ use mathlib.Core.Bool.{Bool, true, false, _&&_, not, cond}
 use mathlib.Core.Option.{Option}
 use mathlib.Core.Option as option
 use Prim.Native.Nat.{ℕ, zero, suc, _/_, _%_, _^_}
-use native.Mathlib.Omega.{arith}
 use lib.Dec.{eqb, ltb, leb}
 use lib.IntN.{ℤ, pos}
 use lib.ListN.{length}
 use lib.Signed.{leZ}
+use Rattle.integer.specs.Apart.{apart}
 use Rattle.dbm.specs.Matrix.{Matrix, start, inside, delayed, resetAt, resetM, resetsM, Outcome, void, kept, guarded}
 use Rattle.expr.specs.Affine.{Affine, value, dot, opposite}
-use Rattle.expr.specs.Limit.{Limit, none, atV}
+use Rattle.weight.specs.Upper.{Upper, none}
+use Rattle.expr.specs.Bounds.{atV}
 use Rattle.expr.specs.Ranges.{Inside}
 use Rattle.integer.specs.Bools.{and-left, and-right}
 use Rattle.expr.specs.Laws.{opposite-holds}
 use Rattle.search.specs.SearchLaws.{first-none}
-use Rattle.expr.specs.Three.{limitOf}
+use Rattle.expr.specs.Three.{boundAs}
 use Rattle.search.specs.Valuations.{satisfies, first}
 use Rattle.expr.specs.declared.range.Range.{Range}
 use Rattle.guards.specs.declared.Guard.{Guard}
 use Rattle.timed.specs.Steps.{delay, guard, resets}
-use Rattle.cutting.specs.Cutting.{Bounds, startB, Zone, Tree, cut, keep, wideTree, asks, guardTree, Listing, listed, refused, INEQS}
-use Rattle.cutting.specs.Cutting.{ZONES, never, listZone, worked, guardZones, onBounds, stepZones}
+use Rattle.cutting.specs.Cutting.{Bounds, startB, Zone, Tree, cut, keep, wideTree, asks, guardTree, Listing, listed, refused}
+use Rattle.cutting.specs.Cutting.{INEQS, ZONES, never, listZone, worked, guardZones, onBounds, stepZones}
 use Rattle.cutting.specs.Held.{holds, at, found, listOf}
 use Rattle.cutting.specs.Listings.{listed-same, not-listed, worked-refused, guards-refused}
 use Rattle.cutting.specs.Comes.{Comes, guard-comes}
@@ -42,7 +43,7 @@ found-append v (z ∷ xs) ys = by (holds v z) (found-append v xs ys)
     by : (b : Bool) → found v (xs ++ ys) ≡ found v xs ++ found v ys
         → cond b (at v (z .bounds) ∷ found v (xs ++ ys)) (found v (xs ++ ys))
         ≡ cond b (at v (z .bounds) ∷ found v xs) (found v xs) ++ found v ys
-    by true ih = ap (λ (l : List (Matrix (Limit ℤ))). at v (z .bounds) ∷ l) ih
+    by true ih = ap (λ (l : List (Matrix (Upper ℤ))). at v (z .bounds) ∷ l) ih
     by false ih = ih
 
 satisfies-one-more : (is : List Affine) (e : Affine) (v : List ℤ)
@@ -67,7 +68,7 @@ never-none rs is e h = by (first rs (is ++ (e ∷ []))) refl
   where
     by : (o : Option (List ℤ)) → first rs (is ++ (e ∷ [])) ≡ o → first rs (is ++ (e ∷ [])) ≡ option.none
     by option.none q = q
-    by (option.some u) q = let k = rw q at h in let z : _≡_ {A = ℕ} 0 1 = cc in absurd (omega arith)
+    by (option.some u) q = let k = rw q at h in apart cc
 
 never-fails : (rs : List Range) (is : List Affine) (e : Affine) (v : List ℤ) → Inside v rs → never rs is e ≡ true → satisfies is v ≡ true
     → leZ (pos 0) (value e v) ≡ false
@@ -77,13 +78,13 @@ never-fails rs is e v i h s =
 
 -- ---- a tree worked on a zone's inequalities
 -- the zones of an outcome that stands for v if b
-abbrev ofV : Bool → Outcome → List (Matrix (Limit ℤ))
+abbrev ofV : Bool → Outcome → List (Matrix (Upper ℤ))
 ofV b r = cond b (listOf r) []
 
-halves : (a b c : Bool) (xs : List (Matrix (Limit ℤ))) (r : Outcome) → c ≡ not b → (xs ++ ofV (a && b) r) ++ ofV (a && c) r ≡ xs ++ ofV a r
+halves : (a b c : Bool) (xs : List (Matrix (Upper ℤ))) (r : Outcome) → c ≡ not b → (xs ++ ofV (a && b) r) ++ ofV (a && c) r ≡ xs ++ ofV a r
 halves true true true xs r h = cc
 halves true true false xs r h = append-nil (xs ++ listOf r)
-halves true false true xs r h = ap (λ (l : List (Matrix (Limit ℤ))). l ++ listOf r) (append-nil xs)
+halves true false true xs r h = ap (λ (l : List (Matrix (Upper ℤ))). l ++ listOf r) (append-nil xs)
 halves true false false xs r h = cc
 halves false b c xs r h = append-nil (xs ++ [])
 
@@ -105,9 +106,9 @@ module _ (rs : List Range) (visit : ℕ) (v : List ℤ) (inside-ranges : Inside 
   cut-works : Works rs visit v cut
   unfolding worked
   cut-works is zs zs′ r h q = ap (found v) (sym (listed-same q)) ∙ sym (append-nil (found v zs))
-      ∙ ap (λ (l : List (Matrix (Limit ℤ))). found v zs ++ l) (by (satisfies is v) h)
+      ∙ ap (λ (l : List (Matrix (Upper ℤ))). found v zs ++ l) (by (satisfies is v) h)
     where
-      by : (b : Bool) → (b ≡ true → r ≡ void) → _≡_ {A = List (Matrix (Limit ℤ))} [] (ofV b r)
+      by : (b : Bool) → (b ≡ true → r ≡ void) → _≡_ {A = List (Matrix (Upper ℤ))} [] (ofV b r)
       by true k = ap listOf (sym (k refl))
       by false k = refl
 
@@ -115,7 +116,7 @@ module _ (rs : List Range) (visit : ℕ) (v : List ℤ) (inside-ranges : Inside 
   unfolding worked listZone found
   keep-works m is zs zs′ r h q =
       by (ltb (length zs) ZONES) q ∙ found-append v zs (record { ineqs = is; bounds = m } ∷ [])
-      ∙ ap (λ (l : List (Matrix (Limit ℤ))). found v zs ++ l) (one (satisfies is v) h)
+      ∙ ap (λ (l : List (Matrix (Upper ℤ))). found v zs ++ l) (one (satisfies is v) h)
     where
       by : (b : Bool) → cond b (listed (zs ++ (record { ineqs = is; bounds = m } ∷ []))) (refused 7 visit) ≡ listed zs′
           → found v zs′ ≡ found v (zs ++ (record { ineqs = is; bounds = m } ∷ []))
@@ -144,7 +145,7 @@ module _ (rs : List Range) (visit : ℕ) (v : List ℤ) (inside-ranges : Inside 
     split-works (refused n k) o q = absurd (not-listed (sym (worked-refused rs visit (f false) (is ++ (opposite e ∷ [])) n k) ∙ q))
     split-works (listed zs₁) o q =
         ih false (is ++ (opposite e ∷ [])) zs₁ zs′ r no-comes q
-        ∙ ap (λ (l : List (Matrix (Limit ℤ))). l ++ ofV (satisfies (is ++ (opposite e ∷ [])) v) r)
+        ∙ ap (λ (l : List (Matrix (Upper ℤ))). l ++ ofV (satisfies (is ++ (opposite e ∷ [])) v) r)
         (ih true (is ++ (e ∷ [])) zs zs₁ r yes-comes o)
         ∙ ap (λ (b : Bool). (found v zs ++ ofV b r) ++ ofV (satisfies (is ++ (opposite e ∷ [])) v) r) (satisfies-one-more is e v)
         ∙ ap (λ (b : Bool). (found v zs ++ ofV (satisfies is v && leZ (pos 0) (value e v)) r) ++ ofV b r)
@@ -195,25 +196,25 @@ module _ (rs : List Range) (visit : ℕ) (v : List ℤ) (inside-ranges : Inside 
   tree-works (asks e f) = asks-works e f (λ b. tree-works (f b))
 
 -- ---- steps on all matrices of a list
-unfoldable pub each : (Matrix (Limit ℤ) → Outcome) → List (Matrix (Limit ℤ)) → List (Matrix (Limit ℤ))
+unfoldable pub each : (Matrix (Upper ℤ) → Outcome) → List (Matrix (Upper ℤ)) → List (Matrix (Upper ℤ))
 each f [] = []
 each f (m ∷ ms) = listOf (f m) ++ each f ms
 
-pub each-kept : (ms : List (Matrix (Limit ℤ))) → each kept ms ≡ ms
+pub each-kept : (ms : List (Matrix (Upper ℤ))) → each kept ms ≡ ms
 unfolding each
 each-kept [] = refl
-each-kept (m ∷ ms) = ap (λ (l : List (Matrix (Limit ℤ))). m ∷ l) (each-kept ms)
+each-kept (m ∷ ms) = ap (λ (l : List (Matrix (Upper ℤ))). m ∷ l) (each-kept ms)
 
 -- ---- a guard
-one-more : (b : Bool) (f : Matrix (Limit ℤ) → Outcome) (m : Matrix (Limit ℤ)) (xs ms : List (Matrix (Limit ℤ)))
+one-more : (b : Bool) (f : Matrix (Upper ℤ) → Outcome) (m : Matrix (Upper ℤ)) (xs ms : List (Matrix (Upper ℤ)))
     → (xs ++ ofV b (f m)) ++ each f ms ≡ xs ++ each f (cond b (m ∷ ms) ms)
 unfolding each
 one-more true f m xs ms = append-assoc xs (listOf (f m)) (each f ms)
-one-more false f m xs ms = ap (λ (l : List (Matrix (Limit ℤ))). l ++ each f ms) (append-nil xs)
+one-more false f m xs ms = ap (λ (l : List (Matrix (Upper ℤ))). l ++ each f ms) (append-nil xs)
 
 -- the guard's rules at v
-abbrev pub guardAt : ℕ → List ℤ → Guard → Matrix (Limit ℤ) → Outcome
-guardAt w v g m = guarded w (g .left) (g .right) (atV v (limitOf (g .bound))) m
+abbrev pub guardAt : ℕ → List ℤ → Guard → Matrix (Upper ℤ) → Outcome
+guardAt w v g m = guarded w (g .left) (g .right) (atV v (boundAs (g .bound))) m
 
 module _ (rs : List Range) (visit : ℕ) (v : List ℤ) (inside-ranges : Inside v rs) (w : ℕ) where
   guard-zones : (g : Guard) (zs os zs′ : List Zone) → guardZones rs visit w g zs (listed os) ≡ listed zs′
@@ -223,7 +224,7 @@ module _ (rs : List Range) (visit : ℕ) (v : List ℤ) (inside-ranges : Inside 
   guard-zones g (z ∷ zs) os zs′ q = by (worked rs visit tree (z .ineqs) (listed os)) refl q (λ os₁. guard-zones g zs os₁ zs′)
     where
       tree : Tree
-      tree = guardTree w (g .left) (g .right) (limitOf (g .bound)) (z .bounds)
+      tree = guardTree w (g .left) (g .right) (boundAs (g .bound)) (z .bounds)
 
       by : (o : Listing) → worked rs visit tree (z .ineqs) (listed os) ≡ o → guardZones rs visit w g zs o ≡ listed zs′
           → ((os₁ : List Zone) → guardZones rs visit w g zs (listed os₁) ≡ listed zs′
@@ -232,13 +233,13 @@ module _ (rs : List Range) (visit : ℕ) (v : List ℤ) (inside-ranges : Inside 
       by (refused n k) e q ih = absurd (not-listed (sym (guards-refused rs visit w g zs n k) ∙ q))
       by (listed os₁) e q ih =
           ih os₁ q
-          ∙ ap (λ (l : List (Matrix (Limit ℤ))). l ++ each (guardAt w v g) (found v zs))
+          ∙ ap (λ (l : List (Matrix (Upper ℤ))). l ++ each (guardAt w v g) (found v zs))
           (tree-works rs visit v inside-ranges tree (z .ineqs) os os₁ (guardAt w v g (at v (z .bounds)))
-          (λ s. guard-comes v w (g .left) (g .right) (limitOf (g .bound)) (z .bounds)) e)
+          (λ s. guard-comes v w (g .left) (g .right) (boundAs (g .bound)) (z .bounds)) e)
           ∙ one-more (holds v z) (guardAt w v g) (at v (z .bounds)) (found v os) (found v zs)
 
 -- ---- steps on every zone's matrix
-on-found : (v : List ℤ) (f : Bounds → Bounds) (f′ : Matrix (Limit ℤ) → Matrix (Limit ℤ)) → ((m : Bounds) → at v (f m) ≡ f′ (at v m))
+on-found : (v : List ℤ) (f : Bounds → Bounds) (f′ : Matrix (Upper ℤ) → Matrix (Upper ℤ)) → ((m : Bounds) → at v (f m) ≡ f′ (at v m))
     → (zs : List Zone) → found v (onBounds f zs) ≡ each (λ m. kept (f′ m)) (found v zs)
 unfolding onBounds found each
 on-found v f f′ h [] = refl
@@ -250,7 +251,7 @@ on-found v f f′ h (z ∷ zs) = by (holds v z) (on-found v f f′ h zs)
     by true ih = rw (h (z .bounds), ih) refl
     by false ih = ih
 
-at-cond : (v : List ℤ) (b : Bool) (x y : Limit Affine) → atV v (cond b x y) ≡ cond b (atV v x) (atV v y)
+at-cond : (v : List ℤ) (b : Bool) (x y : Upper Affine) → atV v (cond b x y) ≡ cond b (atV v x) (atV v y)
 at-cond v true x y = refl
 at-cond v false x y = refl
 
@@ -269,7 +270,7 @@ reset-at : (v : List ℤ) (w r : ℕ) (m : Bounds) → at v (resetM w r m) ≡ r
 unfolding at resetM
 reset-at v w r m = fun-ext (λ i. fun-ext (λ j.
     at-cond v (inside w i j) (resetAt m (eqb i r) (eqb j r) i j) (m i j)
-    ∙ ap (λ (x : Limit ℤ). cond (inside w i j) x (at v m i j)) (resetAt-at v m (eqb i r) (eqb j r) i j)))
+    ∙ ap (λ (x : Upper ℤ). cond (inside w i j) x (at v m i j)) (resetAt-at v m (eqb i r) (eqb j r) i j)))
 
 resets-at : (v : List ℤ) (w bits n : ℕ) (m : Bounds) → at v (resetsM w bits n m) ≡ resetsM w bits n (at v m)
 unfolding resetsM

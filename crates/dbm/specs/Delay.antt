@@ -1,4 +1,5 @@
--- A delay (paper 01: a wait) on a closed matrix: the result is closed, every state moved on meets it, and each of its states, doubled, is a state moved on.
+-- A delay (paper 01: a wait) on a closed matrix: the result is closed, every state moved on meets it, and each of its states, doubled, is
+-- a state moved on.
 use mathlib.Core.Path.{_≡_, refl, sym, _∙_}
 use Prim.Native.Nat.{ℕ, zero, suc, _*_, _≤_}
 use native.Mathlib.Omega.{arith}
@@ -6,22 +7,23 @@ use lib.IntN.{ℤ, pos, negsuc, _+ℤ_, _-ℤ_, -ℤ-+ℤ-cancel}
 use lib.Signed.{_≤ℤ_}
 use Rattle.integer.specs.Parts.{p, n, +-parts, -parts, pos-parts, zs}
 use Rattle.integer.specs.Split.{split, split-all}
-use Rattle.expr.specs.Limit.{Limit, none, sumW, zeroW}
+use Rattle.weight.specs.Upper.{Upper, none, sumW, zeroW}
 use Rattle.dbm.specs.Matrix.{Matrix, delayed, keeps, State, Meets, moved, times, _⊑_, Closed}
-use Rattle.dbm.specs.Weights.{⊑-refl, ⊑-≡, ⊑-trans, ⊑-none, sum-mono, sum-comm, sum-none, keeps-⊑, keeps-≤, keeps-≡, keeps-in, keeps-times}
+use Rattle.dbm.specs.Weights.{⊑-refl, ⊑-≡, ⊑-trans, ⊑-none, sum-mono, sum-comm, sum-none, keeps-⊑, keeps-≤, keeps-≡, keeps-in}
+use Rattle.dbm.specs.Weights.{keeps-times}
 use Rattle.dbm.specs.Entries.{delayed-none, delayed-zero, delayed-stays}
 use Rattle.dbm.specs.Density.{density}
 use Rattle.dbm.specs.State.{difference-times, times-state, keeps-none, keeps-diagonal}
 
 -- ---- the new matrix is closed
-module _ (w : ℕ) (m : Matrix (Limit ℤ)) where
+module _ (w : ℕ) (m : Matrix (Upper ℤ)) where
   pub delayed-looser : (i j : ℕ) → i ≤ w → m i j ⊑ delayed w none m i j
   delayed-looser zero zero h = ⊑-≡ (sym (delayed-zero w none m 0))
   delayed-looser zero (suc j) h = ⊑-≡ (sym (delayed-zero w none m (suc j)))
   delayed-looser (suc i) zero h = rw (delayed-none w none m i h) (⊑-none (m (suc i) 0))
   delayed-looser (suc i) (suc j) h = ⊑-≡ (sym (delayed-stays w none m (suc i) j))
 
-module _ {w : ℕ} {m : Matrix (Limit ℤ)} (c : Closed w m) where
+module _ {w : ℕ} {m : Matrix (Upper ℤ)} (c : Closed w m) where
   old-triangle : (i k j : ℕ) → i ≤ w → k ≤ w → j ≤ w → m i j ⊑ sumW (delayed w none m i k) (delayed w none m k j)
   old-triangle i k j hi hk hj = ⊑-trans (c .triangle i k j hi hk hj) (sum-mono (delayed-looser w m i k hi) (delayed-looser w m k j hk))
 
@@ -47,10 +49,11 @@ both-moved : (x y : ℤ) (d : ℕ) → (x +ℤ pos d) -ℤ (y +ℤ pos d) ≡ x 
 both-moved x y d = rw (split x, split y) (simp split-all (omega arith))
 
 -- a state moved on
-pub delayed-met : {w : ℕ} {m : Matrix (Limit ℤ)} {D : ℕ} (x : ℕ → ℤ) (d : ℕ) → Meets w m D x → Meets w (delayed w none m) D (moved d x)
+pub delayed-met : {w : ℕ} {m : Matrix (Upper ℤ)} {D : ℕ} (x : ℕ → ℤ) (d : ℕ) → Meets w m D x → Meets w (delayed w none m) D (moved d x)
 unfolding moved
 delayed-met {w} {m} x d h zero zero hi hj = rw (delayed-zero w none m 0) (h 0 0 hi hj)
-delayed-met {w} {m} x d h zero (suc j) hi hj = rw (delayed-zero w none m (suc j)) (keeps-≤ (less-by (x 0) (x (suc j)) d) (h 0 (suc j) hi hj))
+delayed-met {w} {m} x d h zero (suc j) hi hj =
+    rw (delayed-zero w none m (suc j)) (keeps-≤ (less-by (x 0) (x (suc j)) d) (h 0 (suc j) hi hj))
 delayed-met {w} {m} {D} x d h (suc i) zero hi hj = rw (delayed-none w none m i hi) (keeps-none D ((x (suc i) +ℤ pos d) -ℤ x 0))
 delayed-met {w} {m} x d h (suc i) (suc j) hi hj =
     rw (delayed-stays w none m (suc i) j) (keeps-≡ (both-moved (x (suc i)) (x (suc j)) d) (h (suc i) (suc j) hi hj))
@@ -82,9 +85,9 @@ as-natural : (v : ℤ) → pos 0 ≤ℤ v → (d : ℕ) × (v ≡ pos d)
 as-natural (pos d) h = (d, refl)
 as-natural (negsuc d) h = absurd (h .le)
 
-module _ {w : ℕ} {m : Matrix (Limit ℤ)} (c : Closed w m) {D : ℕ} {y : ℕ → ℤ} (s : State D y) (h : Meets w (delayed w none m) D y) where
+module _ {w : ℕ} {m : Matrix (Upper ℤ)} (c : Closed w m) {D : ℕ} {y : ℕ → ℤ} (s : State D y) (h : Meets w (delayed w none m) D y) where
   -- how much the delay may be, by each clock: the bounds of clock 0 against the others, and that it is not negative
-  tops : ℕ → Limit ℤ
+  tops : ℕ → Upper ℤ
   tops zero = none
   tops (suc j) = m 0 (suc j)
 
@@ -110,7 +113,8 @@ module _ {w : ℕ} {m : Matrix (Limit ℤ)} (c : Closed w m) {D : ℕ} {y : ℕ 
     before-meets zero zero hi hj = keeps-diagonal c (2 * D) (times 2 y 0) 0 hi
     before-meets zero (suc j) hi hj = rw zero2 (keeps-≡ (from-zero (times 2 y (suc j)) (pos d)) (f (suc j) hj))
     before-meets (suc i) zero hi hj = rw zero2 (keeps-≡ (to-zero (times 2 y (suc i) -ℤ pos d)) (g (suc i) hi))
-    before-meets (suc i) (suc j) hi hj = keeps-≡ (both-back (times 2 y (suc i)) (times 2 y (suc j)) (pos d) ∙ difference-times 2 y (suc i) (suc j))
+    before-meets (suc i) (suc j) hi hj =
+        keeps-≡ (both-back (times 2 y (suc i)) (times 2 y (suc j)) (pos d) ∙ difference-times 2 y (suc i) (suc j))
         (keeps-times 2 (omega arith) (rw (delayed-stays w none m (suc i) j) at (h (suc i) (suc j) hi hj)))
 
     before-state : State (2 * D) (moved-back d (times 2 y))

@@ -9,7 +9,7 @@ use lib.IntN.{ℤ, pos, _+ℤ_, _-ℤ_, _*ℤ_}
 use lib.Signed.{_≤ℤ_, _<ℤ_}
 use Rattle.integer.specs.Order.{≤ℤ-total}
 use Rattle.integer.specs.Parts.{+-parts, -parts, pos-parts, zs}
-use Rattle.expr.specs.Limit.{Limit, none, limit, sumW}
+use Rattle.weight.specs.Upper.{Upper, none, upper, sumW}
 use Rattle.dbm.specs.Matrix.{keeps}
 use Rattle.dbm.specs.Weights.{bit, LinearKeeps, keeps-in, keeps-out, or-bits, D-parts}
 use Rattle.dbm.specs.Entries.{same-or-not}
@@ -110,19 +110,19 @@ fitted (suc N) u l h = next (fitted N u l (λ i j hi hj. h i j (omega arith) (om
 
 -- ---- weights as whole bounds, at two parts for one
 -- the most that v may be, where v - u keeps a
-most : ℕ → ℤ → Limit ℤ → Option ℤ
+most : ℕ → ℤ → Upper ℤ → Option ℤ
 most D u none = unbounded
-most D u (limit s c) = some (((pos 2 *ℤ u) +ℤ (pos (2 * D) *ℤ c)) -ℤ pos (bit s))
+most D u (upper s c) = some (((pos 2 *ℤ u) +ℤ (pos (2 * D) *ℤ c)) -ℤ pos (bit s))
 
 -- the least that v may be, where l - v keeps b
-least : ℕ → ℤ → Limit ℤ → Option ℤ
+least : ℕ → ℤ → Upper ℤ → Option ℤ
 least D l none = unbounded
-least D l (limit s c) = some (((pos 2 *ℤ l) -ℤ (pos (2 * D) *ℤ c)) +ℤ pos (bit s))
+least D l (upper s c) = some (((pos 2 *ℤ l) -ℤ (pos (2 * D) *ℤ c)) +ℤ pos (bit s))
 
-most-keeps : (D : ℕ) (u v : ℤ) (a : Limit ℤ) → UpTo (most D u a) v → LinearKeeps (2 * D) (v -ℤ (pos 2 *ℤ u)) a
+most-keeps : (D : ℕ) (u v : ℤ) (a : Upper ℤ) → UpTo (most D u a) v → LinearKeeps (2 * D) (v -ℤ (pos 2 *ℤ u)) a
 unfolding most
 most-keeps D u v none h = tt
-most-keeps D u v (limit s c) h = omega (
+most-keeps D u v (upper s c) h = omega (
   zs,
   -parts v (pos 2 *ℤ u),
   D-parts (2 * D) c,
@@ -131,10 +131,10 @@ most-keeps D u v (limit s c) h = omega (
   pos-parts (bit s),
 )
 
-least-keeps : (D : ℕ) (l v : ℤ) (b : Limit ℤ) → From (least D l b) v → LinearKeeps (2 * D) ((pos 2 *ℤ l) -ℤ v) b
+least-keeps : (D : ℕ) (l v : ℤ) (b : Upper ℤ) → From (least D l b) v → LinearKeeps (2 * D) ((pos 2 *ℤ l) -ℤ v) b
 unfolding least
 least-keeps D l v none h = tt
-least-keeps D l v (limit s c) h = omega (
+least-keeps D l v (upper s c) h = omega (
   zs,
   -parts (pos 2 *ℤ l) v,
   D-parts (2 * D) c,
@@ -143,12 +143,12 @@ least-keeps D l v (limit s c) h = omega (
   pos-parts (bit s),
 )
 
-least-most : (D : ℕ) (u l : ℤ) (a b : Limit ℤ) → LinearKeeps D (l -ℤ u) (sumW a b) → Before (least D l b) (most D u a)
+least-most : (D : ℕ) (u l : ℤ) (a b : Upper ℤ) → LinearKeeps D (l -ℤ u) (sumW a b) → Before (least D l b) (most D u a)
 unfolding least most sumW
 least-most D u l none none h = tt
-least-most D u l (limit s x) none h = tt
-least-most D u l none (limit t y) h = tt
-least-most D u l (limit s x) (limit t y) h = omega (
+least-most D u l (upper s x) none h = tt
+least-most D u l none (upper t y) h = tt
+least-most D u l (upper s x) (upper t y) h = omega (
   zs,
   -parts l u,
   D-parts 2 l,
@@ -166,8 +166,9 @@ least-most D u l (limit s x) (limit t y) h = omega (
 )
 
 -- ---- the lemma
--- upper bounds v - u i and lower bounds l j - v, for indices up to w: if each l j - u i keeps the sum, some v keeps all, at two parts for one
-pub density : (w D : ℕ) (u l : ℕ → ℤ) (a b : ℕ → Limit ℤ)
+-- upper bounds v - u i and lower bounds l j - v, for indices up to w: if each l j - u i keeps the sum, some v keeps all, at two parts for
+-- one
+pub density : (w D : ℕ) (u l : ℕ → ℤ) (a b : ℕ → Upper ℤ)
     → ((i j : ℕ) → i ≤ w → j ≤ w → keeps D (l j -ℤ u i) (sumW (a i) (b j)))
     → (v : ℤ)
     × ((i : ℕ) → i ≤ w → keeps (2 * D) (v -ℤ (pos 2 *ℤ u i)) (a i))
@@ -178,7 +179,8 @@ density w D u l a b h = told (fitted (suc w) (λ i. most D (u i) (a i)) (λ j. l
     apart i j hi hj = least-most D (u i) (l j) (a i) (b j) (keeps-in (sumW (a i) (b j)) (h i j (omega arith) (omega arith)))
 
     told : Fitted (suc w) (λ i. most D (u i) (a i)) (λ j. least D (l j) (b j))
-        → (v : ℤ) × ((i : ℕ) → i ≤ w → keeps (2 * D) (v -ℤ (pos 2 *ℤ u i)) (a i)) × ((j : ℕ) → j ≤ w → keeps (2 * D) ((pos 2 *ℤ l j) -ℤ v) (b j))
+        → (v : ℤ) × ((i : ℕ) → i ≤ w → keeps (2 * D) (v -ℤ (pos 2 *ℤ u i)) (a i))
+        × ((j : ℕ) → j ≤ w → keeps (2 * D) ((pos 2 *ℤ l j) -ℤ v) (b j))
     told (v, tops, bottoms) = (
       v,
       λ i k. keeps-out (a i) (2 * D) (v -ℤ (pos 2 *ℤ u i)) (most-keeps D (u i) v (a i) (tops i (omega arith))),

@@ -7,7 +7,8 @@ use native.Mathlib.Nat.{div-one}
 use native.Mathlib.Omega.{arith}
 use lib.Dec.{T, leb, ltb, eqb, le→leb, leb→le, eqb→eq, eqb-refl, lt→ltb}
 use lib.IntN.{ℤ}
-use Rattle.expr.specs.Limit.{Limit, sumW, tighterW}
+use Rattle.integer.specs.Apart.{apart}
+use Rattle.weight.specs.Upper.{Upper, sumW, tighterW}
 use Rattle.dbm.specs.Matrix.{Outside, Matrix, inside, delayed, resetAt, resetM, resetsM, tighterOf, limitedM, put, _⊑_}
 use Rattle.dbm.specs.Weights.{⊑-refl, tighter-⊑}
 
@@ -40,7 +41,7 @@ by-test i r true h = inl (eqb→eq i r (subst T (sym h) tt))
 by-test i r false h = inr (λ e. differ e)
   where
     differ : i ≡ r → ⊥
-    differ e = let k : eqb i i ≡ false = rw (← e) at h in let z : _≡_ {A = Bool} true false = sym (eqb-yes i) ∙ k in let o : _≡_ {A = ℕ} 0 1 = cc in omega arith
+    differ e = let k : eqb i i ≡ false = rw (← e) at h in let z : _≡_ {A = Bool} true false = sym (eqb-yes i) ∙ k in apart cc
 
 pub same-or-not : (i r : ℕ) → (i ≡ r) ⊎ (i ≢ r)
 same-or-not i r = by-test i r (eqb i r) refl
@@ -66,31 +67,31 @@ inside-no w i j (inl h) = rw (leb-no i w h) refl
 inside-no w i j (inr h) = rw (leb-no j w h) (and-false (leb i w))
 
 -- ---- the tighter of two weights
-module _ (a b : Limit ℤ) where
+module _ (a b : Upper ℤ) where
   pub tighterOf-yes : tighterW a b ≡ true → tighterOf a b ≡ a
   tighterOf-yes h = rw h refl
 
   pub tighterOf-no : b ⊑ a → tighterOf a b ≡ b
   tighterOf-no h = rw (h .as-tight) refl
 
-by-answer : (a b : Limit ℤ) (t : Bool) → tighterW a b ≡ t → (tighterOf a b ⊑ a) × (tighterOf a b ⊑ b)
+by-answer : (a b : Upper ℤ) (t : Bool) → tighterW a b ≡ t → (tighterOf a b ⊑ a) × (tighterOf a b ⊑ b)
 by-answer a b true h = (rw h (⊑-refl a), rw h (tighter-⊑ a b h))
 by-answer a b false h = (rw h (record { as-tight = h }), rw h (⊑-refl b))
 
 -- it is at least as tight as either
-pub tighterOf-⊑ : (a b : Limit ℤ) → (tighterOf a b ⊑ a) × (tighterOf a b ⊑ b)
+pub tighterOf-⊑ : (a b : Upper ℤ) → (tighterOf a b ⊑ a) × (tighterOf a b ⊑ b)
 tighterOf-⊑ a b = by-answer a b (tighterW a b) refl
 
-which : (a b : Limit ℤ) (t : Bool) → tighterW a b ≡ t → ((tighterOf a b ≡ a) × (tighterW a b ≡ true)) ⊎ (tighterOf a b ≡ b)
+which : (a b : Upper ℤ) (t : Bool) → tighterW a b ≡ t → ((tighterOf a b ≡ a) × (tighterW a b ≡ true)) ⊎ (tighterOf a b ≡ b)
 which a b true h = inl (tighterOf-yes a b h, h)
 which a b false h = inr (tighterOf-no a b (record { as-tight = h }))
 
 -- and it is one of them
-pub tighterOf-which : (a b : Limit ℤ) → ((tighterOf a b ≡ a) × (tighterW a b ≡ true)) ⊎ (tighterOf a b ≡ b)
+pub tighterOf-which : (a b : Upper ℤ) → ((tighterOf a b ≡ a) × (tighterW a b ≡ true)) ⊎ (tighterOf a b ≡ b)
 tighterOf-which a b = which a b (tighterW a b) refl
 
 -- ---- a limit
-module _ (w i j : ℕ) (e : Limit ℤ) (m : Matrix (Limit ℤ)) (k l : ℕ) where
+module _ (w i j : ℕ) (e : Upper ℤ) (m : Matrix (Upper ℤ)) (k l : ℕ) where
   pub limited-inside : k ≤ w → l ≤ w → limitedM w i j e m k l ≡ tighterOf (sumW (sumW (m k i) e) (m j l)) (m k l)
   unfolding limitedM
   limited-inside hk hl = rw (inside-yes w k l hk hl) refl

@@ -3,28 +3,29 @@ use mathlib.Core.Path.{_≡_, refl, sym, subst, _∙_}
 use mathlib.Core.Logic.{_⊎_, inl, inr, _↔_}
 use mathlib.Core.Bool.{Bool, true, false, cond}
 use Prim.Native.Nat.{ℕ, _≤_}
-use native.Mathlib.Omega.{arith}
 use lib.IntN.{ℤ, _-ℤ_}
-use Rattle.expr.specs.Limit.{Limit, sumW, tighterW, zeroW}
-use Rattle.dbm.specs.Matrix.{Matrix, limitedM, Outcome, void, kept, guarded, keeps, State, Meets, _⊑_, Closed, After}
-use Rattle.dbm.specs.Weights.{⊑-refl, ⊑-≡, ⊑-trans, sum-mono, sum-assoc, sum-comm, sum-zero, zero-sum, keeps-⊑, keeps-via, keeps-≡, keeps-zero, no-difference}
-use Rattle.dbm.specs.Matrix.{Outside}
+use Rattle.integer.specs.Apart.{apart}
+use Rattle.weight.specs.Upper.{Upper, sumW, tighterW, zeroW}
+use Rattle.dbm.specs.Matrix.{Matrix, limitedM, void, kept, guarded, keeps, State, Meets, _⊑_, Closed, After, Outside}
+use Rattle.dbm.specs.Weights.{⊑-refl, ⊑-≡, ⊑-trans, sum-mono, sum-assoc, sum-comm, sum-zero, zero-sum, keeps-⊑, keeps-via}
+use Rattle.dbm.specs.Weights.{keeps-≡, keeps-zero, no-difference}
 use Rattle.dbm.specs.Entries.{limited-inside, limited-outside, tighterOf-⊑, tighterOf-which, tighterOf-no}
 
 -- the guard's way from clock k to clock l
-abbrev pub way : ℕ → ℕ → Limit ℤ → Matrix (Limit ℤ) → Matrix (Limit ℤ)
+abbrev pub way : ℕ → ℕ → Upper ℤ → Matrix (Upper ℤ) → Matrix (Upper ℤ)
 way i j e m k l = sumW (sumW (m k i) e) (m j l)
 
 -- an entry after the guard is the way by the guard, where that is tighter, or stays
-abbrev pub Which : ℕ → ℕ → ℕ → Limit ℤ → Matrix (Limit ℤ) → ℕ → ℕ → Type 0
-Which w i j e m k l = ((limitedM w i j e m k l ≡ way i j e m k l) × (tighterW (way i j e m k l) (m k l) ≡ true)) ⊎ (limitedM w i j e m k l ≡ m k l)
+abbrev pub Which : ℕ → ℕ → ℕ → Upper ℤ → Matrix (Upper ℤ) → ℕ → ℕ → Type 0
+Which w i j e m k l =
+    ((limitedM w i j e m k l ≡ way i j e m k l) × (tighterW (way i j e m k l) (m k l) ≡ true)) ⊎ (limitedM w i j e m k l ≡ m k l)
 
 -- ---- sums that a proof regroups
-end-round : (a e b : Limit ℤ) → sumW e (sumW b a) ≡ sumW (sumW a e) b
+end-round : (a e b : Upper ℤ) → sumW e (sumW b a) ≡ sumW (sumW a e) b
 end-round a e b = sym (sum-assoc e b a) ∙ sum-comm (sumW e b) a ∙ sym (sum-assoc a e b)
 
 -- ---- the entries after a guard
-module _ (w i j : ℕ) (e : Limit ℤ) (m : Matrix (Limit ℤ)) where
+module _ (w i j : ℕ) (e : Upper ℤ) (m : Matrix (Upper ℤ)) where
   module _ (k l : ℕ) (hk : k ≤ w) (hl : l ≤ w) where
     pub limited-way : limitedM w i j e m k l ⊑ way i j e m k l
     limited-way = rw (limited-inside w i j e m k l hk hl) (tighterOf-⊑ (way i j e m k l) (m k l) .0)
@@ -38,7 +39,7 @@ module _ (w i j : ℕ) (e : Limit ℤ) (m : Matrix (Limit ℤ)) where
     pub limited-stays : m k l ⊑ way i j e m k l → limitedM w i j e m k l ≡ m k l
     limited-stays h = limited-inside w i j e m k l hk hl ∙ tighterOf-no (way i j e m k l) (m k l) h
 
-module _ {w i j : ℕ} {m : Matrix (Limit ℤ)} (c : Closed w m) (hi : i ≤ w) (hj : j ≤ w) (e : Limit ℤ) where
+module _ {w i j : ℕ} {m : Matrix (Upper ℤ)} (c : Closed w m) (hi : i ≤ w) (hj : j ≤ w) (e : Upper ℤ) where
   -- ---- the new matrix is closed
   module _ (open-loop : zeroW ⊑ sumW e (m j i)) where
     -- a round by the guard is never tighter than zero
@@ -59,7 +60,8 @@ module _ {w i j : ℕ} {m : Matrix (Limit ℤ)} (c : Closed w m) (hi : i ≤ w) 
         ⊑-trans (⊑-≡ {b = sumW (sumW (m k i) zeroW) (sumW e (m j l))} (simp (sum-zero, sum-assoc)))
         (⊑-trans (sum-mono (sum-mono (⊑-refl (m k i)) (around q hq)) (⊑-refl (sumW e (m j l)))) (⊑-≡ (simp sum-assoc)))
 
-    limited-triangle : (k q l : ℕ) → k ≤ w → q ≤ w → l ≤ w → limitedM w i j e m k l ⊑ sumW (limitedM w i j e m k q) (limitedM w i j e m q l)
+    limited-triangle : (k q l : ℕ) → k ≤ w → q ≤ w → l ≤ w
+        → limitedM w i j e m k l ⊑ sumW (limitedM w i j e m k q) (limitedM w i j e m q l)
     limited-triangle k q l hk hq hl = by (limited-which w i j e m k q hk hq) (limited-which w i j e m q l hq hl)
       where
         by : Which w i j e m k q
@@ -101,14 +103,15 @@ module _ {w i j : ℕ} {m : Matrix (Limit ℤ)} (c : Closed w m) (hi : i ≤ w) 
 
     -- a state that meets the guard shows that the guard does not leave it void
     pub limited-empty : Meets w m D x → keeps D (x i -ℤ x j) e → zeroW ⊑ sumW e (m j i)
-    limited-empty h g = keeps-zero (sumW e (m j i)) (s .parts) (keeps-≡ (sym (no-difference (x i))) (keeps-via (x i) (x j) (x i) g (h j i hj hi)))
+    limited-empty h g =
+        keeps-zero (sumW e (m j i)) (s .parts) (keeps-≡ (sym (no-difference (x i))) (keeps-via (x i) (x j) (x i) g (h j i hj hi)))
 
     -- where the guard is no tighter than the entry, every state meets it
     pub guard-idle : m i j ⊑ e → Meets w m D x → keeps D (x i -ℤ x j) e
     guard-idle a h = keeps-⊑ (s .parts) a (h i j hi hj)
 
 -- ---- the whole rule
-module _ {w i j : ℕ} {m : Matrix (Limit ℤ)} (c : Closed w m) (hi : i ≤ w) (hj : j ≤ w) (e : Limit ℤ) where
+module _ {w i j : ℕ} {m : Matrix (Upper ℤ)} (c : Closed w m) (hi : i ≤ w) (hj : j ≤ w) (e : Upper ℤ) where
   abbrev Meant : ℕ → (ℕ → ℤ) → Type 0
   Meant D x = keeps D (x i -ℤ x j) e
 
@@ -116,11 +119,12 @@ module _ {w i j : ℕ} {m : Matrix (Limit ℤ)} (c : Closed w m) (hi : i ≤ w) 
   kept-after a true h = (limited-closed c hi hj e a, λ D x s. limited-met c hi hj e s)
   kept-after a false h = (c, λ D x s. (λ g. (g, guard-idle c hi hj e s (record { as-tight = h }) g), λ g. g .0))
 
-  by-tests : (b : Bool) → tighterW (sumW e (m j i)) zeroW ≡ b → After w m Meant (cond b void (kept (cond (tighterW e (m i j)) (limitedM w i j e m) m)))
+  by-tests : (b : Bool) → tighterW (sumW e (m j i)) zeroW ≡ b
+      → After w m Meant (cond b void (kept (cond (tighterW e (m i j)) (limitedM w i j e m) m)))
   by-tests true h = λ D x s g k. never (limited-empty c hi hj e s g k)
     where
       never : zeroW ⊑ sumW e (m j i) → ⊥
-      never a = let z : _≡_ {A = Bool} true false = sym h ∙ a .as-tight in let o : _≡_ {A = ℕ} 0 1 = cc in omega arith
+      never a = let z : _≡_ {A = Bool} true false = sym h ∙ a .as-tight in apart cc
   by-tests false h = kept-after (record { as-tight = h }) (tighterW e (m i j)) refl
 
   pub guarded-right : After w m (λ D x. keeps D (x i -ℤ x j) e) (guarded w i j e m)
@@ -132,21 +136,22 @@ module _ {w i j : ℕ} {m : Matrix (Limit ℤ)} (c : Closed w m) (hi : i ≤ w) 
   guarded-void h = subst (After w m (λ D x. keeps D (x i -ℤ x j) e)) h guarded-right
 
   -- kept: a closed matrix, whose states are the states of the matrix that meet the guard
-  pub guarded-after : {m′ : Matrix (Limit ℤ)} → guarded w i j e m ≡ kept m′
+  pub guarded-after : {m′ : Matrix (Upper ℤ)} → guarded w i j e m ≡ kept m′
       → Closed w m′ × ((D : ℕ) (x : ℕ → ℤ) → State D x → (Meets w m′ D x ↔ (Meets w m D x × keeps D (x i -ℤ x j) e)))
   guarded-after h = subst (After w m (λ D x. keeps D (x i -ℤ x j) e)) h guarded-right
 
 -- ---- nothing asked: the matrix itself
-pub after-none : {w : ℕ} {m : Matrix (Limit ℤ)} → Closed w m → After w m (λ D x. Unit {0}) (kept m)
+pub after-none : {w : ℕ} {m : Matrix (Upper ℤ)} → Closed w m → After w m (λ D x. Unit {0}) (kept m)
 after-none c = (c, λ D x s. (λ h. (h, tt), λ h. h .0))
 
 -- ---- padding: a guard leaves what lies past w
-by-padding : (w i j : ℕ) (e : Limit ℤ) (m : Matrix (Limit ℤ)) (k l : ℕ) → Outside w k l → (t u : Bool) {m′ : Matrix (Limit ℤ)}
+by-padding : (w i j : ℕ) (e : Upper ℤ) (m : Matrix (Upper ℤ)) (k l : ℕ) → Outside w k l → (t u : Bool) {m′ : Matrix (Upper ℤ)}
     → cond t void (kept (cond u (limitedM w i j e m) m)) ≡ kept m′ → m′ k l ≡ m k l
-by-padding w i j e m k l h true u g = let o : _≡_ {A = ℕ} 0 1 = cc in absurd (omega arith)
+by-padding w i j e m k l h true u g = apart cc
 by-padding w i j e m k l h false true {m′} g = let f : limitedM w i j e m ≡ m′ = cc in rw (← f) (limited-outside w i j e m k l h)
 by-padding w i j e m k l h false false {m′} g = let f : m ≡ m′ = cc in rw (← f) refl
 
-pub guarded-outside : (w i j : ℕ) (e : Limit ℤ) (m : Matrix (Limit ℤ)) {m′ : Matrix (Limit ℤ)} → guarded w i j e m ≡ kept m′ → (k l : ℕ) → Outside w k l → m′ k l ≡ m k l
+pub guarded-outside : (w i j : ℕ) (e : Upper ℤ) (m : Matrix (Upper ℤ)) {m′ : Matrix (Upper ℤ)} → guarded w i j e m ≡ kept m′ → (k l : ℕ)
+    → Outside w k l → m′ k l ≡ m k l
 unfolding guarded
 guarded-outside w i j e m g k l h = by-padding w i j e m k l h (tighterW (sumW e (m j i)) zeroW) (tighterW e (m i j)) g

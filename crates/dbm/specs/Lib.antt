@@ -1,6 +1,6 @@
--- Difference bound matrices. What is read first: Matrix, with the rules, the states and what the theorems say.
--- Then the theorems: Guard, Delay and Reset (what each rule does to the states), State (a closed matrix has one), Tight (its entries are reached),
--- Size (how large its numbers grow). Weights, Entries and Density serve them.
+-- Difference bound matrices. What is read first: Matrix, with the rules, the states and what the theorems say. Then the theorems: Guard,
+-- Delay and Reset (what each rule does to the states), State (a closed matrix has one), Tight (its entries are reached), Size (how large
+-- its numbers grow). Weights, Entries and Density serve them.
 pub mod Delay
 pub mod Density
 pub mod Entries

@@ -1,4 +1,5 @@
--- A reset of a clock on a closed matrix: the result is closed, every state with the clock put to 0 meets it, and each of its states, doubled, is such a state.
+-- A reset of a clock on a closed matrix: the result is closed, every state with the clock put to 0 meets it, and each of its states,
+-- doubled, is such a state.
 use mathlib.Core.Path.{_≡_, refl, sym, _∙_}
 use mathlib.Core.Logic.{_⊎_, inl, inr, _≢_}
 use mathlib.Core.Bool.{Bool, true, false, cond}
@@ -7,13 +8,13 @@ use native.Mathlib.Omega.{arith}
 use lib.Dec.{eqb}
 use lib.IntN.{ℤ, pos, _-ℤ_, *ℤ-zero}
 use Rattle.integer.specs.Parts.{p, n, -parts, zs}
-use Rattle.expr.specs.Limit.{Limit, zeroW}
+use Rattle.weight.specs.Upper.{Upper, zeroW}
 use Rattle.dbm.specs.Matrix.{Matrix, resetM, keeps, State, Meets, put, times, Closed}
 use Rattle.dbm.specs.Weights.{keeps-in}
 use Rattle.dbm.specs.Entries.{same-or-not, source, source-≤, source-same, source-0, source-other, reset-inside, put-same, put-other}
 use Rattle.dbm.specs.State.{times-state, chosen}
 
-module _ {w r : ℕ} {m : Matrix (Limit ℤ)} (c : Closed w m) (hr : r ≤ w) where
+module _ {w r : ℕ} {m : Matrix (Upper ℤ)} (c : Closed w m) (hr : r ≤ w) where
   -- in a closed matrix a reset reads clock 0 for clock r
   pub reset-entry : (i j : ℕ) → i ≤ w → j ≤ w → resetM w r m i j ≡ m (source r i) (source r j)
   reset-entry i j hi hj = reset-inside w r m i j hi hj (λ e. c .diagonal r hr ∙ sym (c .diagonal 0 (omega arith)))

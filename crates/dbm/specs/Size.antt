@@ -1,6 +1,7 @@
--- How large the numbers of a matrix grow: from B before a delay to at most 2 * (B + C) before the next one, through any guards and resets between them,
--- where the guards' numbers are at most C and each guard is on one clock, so that one of its two clocks is clock 0.
--- Between two delays (`Visit`), row and column 0 stay within B + C; any other entry is as small as it was before, or is the sum of its way over clock 0.
+-- How large the numbers of a matrix grow: from B before a delay to at most 2 * (B + C) before the next one, through any guards and resets
+-- between them, where the guards' numbers are at most C and each guard is on one clock, so that one of its two clocks is clock 0. Between
+-- two delays (`Visit`), row and column 0 stay within B + C; any other entry is as small as it was before, or is the sum of its way over
+-- clock 0.
 use mathlib.Core.Path.{_≡_, refl, sym, subst}
 use mathlib.Core.Logic.{_⊎_, inl, inr}
 use mathlib.Core.Bool.{Bool, true, false, cond}
@@ -9,7 +10,7 @@ use native.Mathlib.Omega.{arith}
 use lib.IntN.{ℤ, natAbs}
 use Rattle.integer.specs.Parts.{natAbs-parts}
 use Rattle.integer.specs.Product.{sum-size}
-use Rattle.expr.specs.Limit.{Limit, none, limit, sumW, tighterW, zeroW}
+use Rattle.weight.specs.Upper.{Upper, none, upper, sumW, tighterW, zeroW}
 use Rattle.dbm.specs.Matrix.{Matrix, delayed, resetM, limitedM, Outcome, void, kept, guarded, _⊑_, Closed}
 use Rattle.dbm.specs.Weights.{⊑-refl, ⊑-≡, ⊑-trans, ⊑-antisym, sum-mono, sum-assoc, sum-comm, sum-zero, zero-sum}
 use Rattle.dbm.specs.Entries.{delayed-none, delayed-zero, delayed-stays, source, source-0, source-≤}
@@ -18,19 +19,19 @@ use Rattle.dbm.specs.Delay.{delayed-closed}
 use Rattle.dbm.specs.Reset.{reset-entry, reset-closed}
 
 -- the weight's number, if it has one, is at most B in absolute value
-abbrev pub numbered : ℕ → Limit ℤ → Type 0
+abbrev pub numbered : ℕ → Upper ℤ → Type 0
 numbered B none = Unit
-numbered B (limit s c) = natAbs c ≤ B
+numbered B (upper s c) = natAbs c ≤ B
 
-pub record AtMost (B : ℕ) (a : Limit ℤ) : Type 0 where
+pub record AtMost (B : ℕ) (a : Upper ℤ) : Type 0 where
   pub size : numbered B a
 
 -- so is every number of the matrix
-abbrev pub Small : ℕ → ℕ → Matrix (Limit ℤ) → Type 0
+abbrev pub Small : ℕ → ℕ → Matrix (Upper ℤ) → Type 0
 Small w B m = (i j : ℕ) → i ≤ w → j ≤ w → AtMost B (m i j)
 
 -- what holds from one delay to the next
-pub record Visit (w B C : ℕ) (m : Matrix (Limit ℤ)) : Type 0 where
+pub record Visit (w B C : ℕ) (m : Matrix (Upper ℤ)) : Type 0 where
   pub closed : Closed w m
   pub row : (l : ℕ) → l ≤ w → AtMost (B + C) (m 0 l)
   pub column : (k : ℕ) → k ≤ w → AtMost (B + C) (m k 0)
@@ -40,30 +41,30 @@ pub record Visit (w B C : ℕ) (m : Matrix (Limit ℤ)) : Type 0 where
 pub none-atMost : (B : ℕ) → AtMost B none
 none-atMost B = record { size = tt }
 
-numbered-more : (a : Limit ℤ) (A B : ℕ) → A ≤ B → numbered A a → numbered B a
+numbered-more : (a : Upper ℤ) (A B : ℕ) → A ≤ B → numbered A a → numbered B a
 numbered-more none A B g h = tt
-numbered-more (limit s c) A B g h = omega arith
+numbered-more (upper s c) A B g h = omega arith
 
-pub atMost-more : {a : Limit ℤ} {A B : ℕ} → A ≤ B → AtMost A a → AtMost B a
+pub atMost-more : {a : Upper ℤ} {A B : ℕ} → A ≤ B → AtMost A a → AtMost B a
 atMost-more {a} {A} {B} g h = record { size = numbered-more a A B g (h .size) }
 
-numbered-sum : (a b : Limit ℤ) (A B : ℕ) → numbered A a → numbered B b → numbered (A + B) (sumW a b)
+numbered-sum : (a b : Upper ℤ) (A B : ℕ) → numbered A a → numbered B b → numbered (A + B) (sumW a b)
 unfolding sumW
 numbered-sum none b A B h k = tt
-numbered-sum (limit s x) none A B h k = tt
-numbered-sum (limit s x) (limit t y) A B h k = rw natAbs-parts (sum-size x y (rw natAbs-parts at h) (rw natAbs-parts at k))
+numbered-sum (upper s x) none A B h k = tt
+numbered-sum (upper s x) (upper t y) A B h k = rw natAbs-parts (sum-size x y (rw natAbs-parts at h) (rw natAbs-parts at k))
 
-pub atMost-sum : {a b : Limit ℤ} {A B : ℕ} → AtMost A a → AtMost B b → AtMost (A + B) (sumW a b)
+pub atMost-sum : {a b : Upper ℤ} {A B : ℕ} → AtMost A a → AtMost B b → AtMost (A + B) (sumW a b)
 atMost-sum {a} {b} {A} {B} h k = record { size = numbered-sum a b A B (h .size) (k .size) }
 
 -- ---- it begins after a delay
-pub delayed-small : {w B : ℕ} {m : Matrix (Limit ℤ)} → Small w B m → Small w B (delayed w none m)
+pub delayed-small : {w B : ℕ} {m : Matrix (Upper ℤ)} → Small w B m → Small w B (delayed w none m)
 delayed-small {w} {B} {m} h zero zero hi hj = rw (delayed-zero w none m 0) (h 0 0 hi hj)
 delayed-small {w} {B} {m} h zero (suc j) hi hj = rw (delayed-zero w none m (suc j)) (h 0 (suc j) hi hj)
 delayed-small {w} {B} {m} h (suc i) zero hi hj = rw (delayed-none w none m i hi) (none-atMost B)
 delayed-small {w} {B} {m} h (suc i) (suc j) hi hj = rw (delayed-stays w none m (suc i) j) (h (suc i) (suc j) hi hj)
 
-pub small-visit : {w B : ℕ} {m : Matrix (Limit ℤ)} (C : ℕ) → Closed w m → Small w B m → Visit w B C m
+pub small-visit : {w B : ℕ} {m : Matrix (Upper ℤ)} (C : ℕ) → Closed w m → Small w B m → Visit w B C m
 small-visit {w} {B} {m} C c h = record {
   closed = c;
   row = λ l hl. atMost-more (omega arith) (h 0 l (omega arith) hl);
@@ -71,11 +72,11 @@ small-visit {w} {B} {m} C c h = record {
   rest = λ k l hk hl. inl (h k l hk hl);
 }
 
-pub delayed-visit : {w B : ℕ} {m : Matrix (Limit ℤ)} (C : ℕ) → Closed w m → Small w B m → Visit w B C (delayed w none m)
+pub delayed-visit : {w B : ℕ} {m : Matrix (Upper ℤ)} (C : ℕ) → Closed w m → Small w B m → Visit w B C (delayed w none m)
 delayed-visit C c h = small-visit C (delayed-closed c) (delayed-small h)
 
 -- ---- what it says of every number
-pub visit-small : {w B C : ℕ} {m : Matrix (Limit ℤ)} → Visit w B C m → Small w (2 * (B + C)) m
+pub visit-small : {w B C : ℕ} {m : Matrix (Upper ℤ)} → Visit w B C m → Small w (2 * (B + C)) m
 visit-small {w} {B} {C} {m} v k l hk hl = by (v .rest k l hk hl)
   where
     by : AtMost B (m k l) ⊎ (sumW (m k 0) (m 0 l) ⊑ m k l) → AtMost (2 * (B + C)) (m k l)
@@ -84,7 +85,7 @@ visit-small {w} {B} {C} {m} v k l hk hl = by (v .rest k l hk hl)
         (atMost-more (omega arith) (atMost-sum (v .column k hk) (v .row l hl)))
 
 -- ---- a guard keeps it
-module _ {w B C : ℕ} {m : Matrix (Limit ℤ)} (v : Visit w B C m) {e : Limit ℤ} (small : AtMost C e) where
+module _ {w B C : ℕ} {m : Matrix (Upper ℤ)} (v : Visit w B C m) {e : Upper ℤ} (small : AtMost C e) where
   corner : m 0 0 ≡ zeroW
   corner = v .closed .diagonal 0 (omega arith)
 
@@ -201,11 +202,11 @@ module _ {w B C : ℕ} {m : Matrix (Limit ℤ)} (v : Visit w B C m) {e : Limit �
     unfolding guarded
     guarded-kept = by-tests (tighterW (sumW e (m j i)) zeroW) (tighterW e (m i j)) refl
 
-    pub guarded-visit : {m′ : Matrix (Limit ℤ)} → guarded w i j e m ≡ kept m′ → Visit w B C m′
+    pub guarded-visit : {m′ : Matrix (Upper ℤ)} → guarded w i j e m ≡ kept m′ → Visit w B C m′
     guarded-visit h = subst Kept h guarded-kept
 
 -- ---- a reset keeps it
-pub reset-visit : {w B C : ℕ} {m : Matrix (Limit ℤ)} (r : ℕ) → r ≤ w → Visit w B C m → Visit w B C (resetM w r m)
+pub reset-visit : {w B C : ℕ} {m : Matrix (Upper ℤ)} (r : ℕ) → r ≤ w → Visit w B C m → Visit w B C (resetM w r m)
 reset-visit {w} {B} {C} {m} r hr v = record {
   closed = reset-closed (v .closed) hr;
   row = λ l hl. rw (entry 0 l (omega arith) hl, source-0 r) (v .row (source r l) (source-≤ w r l hl));

@@ -8,7 +8,7 @@ use native.Mathlib.Omega.{arith}
 use lib.Dec.{eqb}
 use lib.IntN.{ℤ, pos, _-ℤ_, _*ℤ_, *ℤ-zero}
 use Rattle.integer.specs.Product.{*ℤ-assoc, *ℤ-distribl, *ℤ-distribl-sub}
-use Rattle.expr.specs.Limit.{Limit, none, sumW, zeroW}
+use Rattle.weight.specs.Upper.{Upper, none, sumW, zeroW}
 use Rattle.dbm.specs.Matrix.{Matrix, start, keeps, State, Meets, moved, put, times, Closed, HasState}
 use Rattle.dbm.specs.Weights.{⊑-≡, ⊑-trans, sum-comm, sum-none, zero-sum, keeps-⊑, keeps-≡, keeps-times, zero-keeps, no-difference}
 use Rattle.dbm.specs.Entries.{eqb-yes, eqb-no, same-or-not, put-same, put-other}
@@ -24,7 +24,7 @@ unfolding times
 times-state K g s = record { parts = one-le-mul g (s .parts); clock0 = ap (λ z. pos K *ℤ z) (s .clock0) ∙ *ℤ-zero (pos K) }
 
 -- a state times K is a state of the same matrix
-pub times-meets : {w : ℕ} {m : Matrix (Limit ℤ)} {D : ℕ} (x : ℕ → ℤ) (K : ℕ) → 1 ≤ K → Meets w m D x → Meets w m (K * D) (times K x)
+pub times-meets : {w : ℕ} {m : Matrix (Upper ℤ)} {D : ℕ} (x : ℕ → ℤ) (K : ℕ) → 1 ≤ K → Meets w m D x → Meets w m (K * D) (times K x)
 times-meets x K g h i j hi hj = keeps-≡ (difference-times K x i j) (keeps-times K g (h i j hi hj))
 
 pub times-times : (K L : ℕ) (x : ℕ → ℤ) (i : ℕ) → times K (times L x) i ≡ times (K * L) x i
@@ -46,13 +46,14 @@ times-put K r x i = by (eqb i r)
     by false = refl
 
 -- ---- only what lies within w counts
-pub meets-same : {w : ℕ} {m : Matrix (Limit ℤ)} {D : ℕ} (x y : ℕ → ℤ) → ((i : ℕ) → i ≤ w → x i ≡ y i) → Meets w m D x → Meets w m D y
+pub meets-same : {w : ℕ} {m : Matrix (Upper ℤ)} {D : ℕ} (x y : ℕ → ℤ) → ((i : ℕ) → i ≤ w → x i ≡ y i) → Meets w m D x → Meets w m D y
 meets-same x y e h i j hi hj = rw (← e i hi, ← e j hj) (h i j hi hj)
 
-pub meets-alike : {w : ℕ} {m m′ : Matrix (Limit ℤ)} {D : ℕ} (x : ℕ → ℤ) → ((i j : ℕ) → i ≤ w → j ≤ w → m i j ≡ m′ i j) → Meets w m D x → Meets w m′ D x
+pub meets-alike : {w : ℕ} {m m′ : Matrix (Upper ℤ)} {D : ℕ} (x : ℕ → ℤ) → ((i j : ℕ) → i ≤ w → j ≤ w → m i j ≡ m′ i j) → Meets w m D x
+    → Meets w m′ D x
 meets-alike x e h i j hi hj = rw (← e i j hi hj) (h i j hi hj)
 
-pub closed-alike : {w : ℕ} {m m′ : Matrix (Limit ℤ)} → ((i j : ℕ) → i ≤ w → j ≤ w → m i j ≡ m′ i j) → Closed w m → Closed w m′
+pub closed-alike : {w : ℕ} {m m′ : Matrix (Upper ℤ)} → ((i j : ℕ) → i ≤ w → j ≤ w → m i j ≡ m′ i j) → Closed w m → Closed w m′
 closed-alike e c = record {
   diagonal = λ i hi. sym (e i i hi hi) ∙ c .diagonal i hi;
   triangle = λ i k j hi hk hj. rw (← e i j hi hj, ← e i k hi hk, ← e k j hk hj) (c .triangle i k j hi hk hj);
@@ -62,17 +63,17 @@ closed-alike e c = record {
 pub keeps-none : (D : ℕ) (d : ℤ) → keeps D d none
 keeps-none D d = record { is-below = tt }
 
-pub keeps-diagonal : {w : ℕ} {m : Matrix (Limit ℤ)} → Closed w m → (D : ℕ) (v : ℤ) (i : ℕ) → i ≤ w → keeps D (v -ℤ v) (m i i)
+pub keeps-diagonal : {w : ℕ} {m : Matrix (Upper ℤ)} → Closed w m → (D : ℕ) (v : ℤ) (i : ℕ) → i ≤ w → keeps D (v -ℤ v) (m i i)
 keeps-diagonal c D v i hi = rw (c .diagonal i hi) (keeps-≡ (no-difference v) (zero-keeps D))
 
 -- ---- one clock more: a state of all clocks but r, doubled, has a value for clock r
-module _ {w : ℕ} {m : Matrix (Limit ℤ)} (c : Closed w m) (D : ℕ) (y : ℕ → ℤ) (parts : 1 ≤ D) (r : ℕ) (hr : r ≤ w)
+module _ {w : ℕ} {m : Matrix (Upper ℤ)} (c : Closed w m) (D : ℕ) (y : ℕ → ℤ) (parts : 1 ≤ D) (r : ℕ) (hr : r ≤ w)
     (h : (i j : ℕ) → i ≤ w → j ≤ w → i ≢ r → j ≢ r → keeps D (y i -ℤ y j) (m i j)) where
   -- clock r's bounds against the other clocks, none against itself
-  tops : ℕ → Limit ℤ
+  tops : ℕ → Upper ℤ
   tops i = cond (eqb i r) none (m r i)
 
-  bottoms : ℕ → Limit ℤ
+  bottoms : ℕ → Upper ℤ
   bottoms j = cond (eqb j r) none (m j r)
 
   apart : (i j : ℕ) → i ≤ w → j ≤ w → (i ≡ r) ⊎ (i ≢ r) → (j ≡ r) ⊎ (j ≢ r) → keeps D (y j -ℤ y i) (sumW (tops i) (bottoms j))
@@ -83,7 +84,9 @@ module _ {w : ℕ} {m : Matrix (Limit ℤ)} (c : Closed w m) (D : ℕ) (y : ℕ 
       (keeps-⊑ parts (⊑-trans (c .triangle j r i hj hr hi) (⊑-≡ (sum-comm (m j r) (m r i)))) (h j i hj hi b a))
 
   Found : ℤ → Type 0
-  Found v = ((i : ℕ) → i ≤ w → keeps (2 * D) (v -ℤ (pos 2 *ℤ y i)) (tops i)) × ((j : ℕ) → j ≤ w → keeps (2 * D) ((pos 2 *ℤ y j) -ℤ v) (bottoms j))
+  Found v =
+      ((i : ℕ) → i ≤ w → keeps (2 * D) (v -ℤ (pos 2 *ℤ y i)) (tops i))
+      × ((j : ℕ) → j ≤ w → keeps (2 * D) ((pos 2 *ℤ y j) -ℤ v) (bottoms j))
 
   found-meets : (v : ℤ) → Found v → (i j : ℕ) → i ≤ w → j ≤ w → (i ≡ r) ⊎ (i ≢ r) → (j ≡ r) ⊎ (j ≢ r)
       → keeps (2 * D) (put r v (times 2 y) i -ℤ put r v (times 2 y) j) (m i j)
@@ -101,21 +104,25 @@ module _ {w : ℕ} {m : Matrix (Limit ℤ)} (c : Closed w m) (D : ℕ) (y : ℕ 
       (v, λ i j hi hj. found-meets v (f, g) i j hi hj (same-or-not i r) (same-or-not j r))
 
 -- ---- a closed matrix has a state
-pub closed-less : {v w : ℕ} {m : Matrix (Limit ℤ)} → v ≤ w → Closed w m → Closed v m
+pub closed-less : {v w : ℕ} {m : Matrix (Upper ℤ)} → v ≤ w → Closed w m → Closed v m
 closed-less {v} {w} h c = record {
   diagonal = λ i hi. c .diagonal i (omega arith);
   triangle = λ i k j hi hk hj. c .triangle i k j (omega arith) (omega arith) (omega arith);
 }
 
-next-state : {n : ℕ} {m : Matrix (Limit ℤ)} → Closed (suc n) m → HasState n m → HasState (suc n) m
+next-state : {n : ℕ} {m : Matrix (Upper ℤ)} → Closed (suc n) m → HasState n m → HasState (suc n) m
 next-state {n} {m} c (D, x, s, h) =
-    let (v, g) = chosen c D x (s .parts) (suc n) (omega arith) (λ i j hi hj a b. h i j (omega arith) (omega arith)) in
-    (2 * D, put (suc n) v (times 2 x), record { parts = two .parts; clock0 = put-other (suc n) v (times 2 x) 0 (omega arith) ∙ two .clock0 }, g)
+    let (v, g) = chosen c D x (s .parts) (suc n) (omega arith) (λ i j hi hj a b. h i j (omega arith) (omega arith)) in (
+      2 * D,
+      put (suc n) v (times 2 x),
+      record { parts = two .parts; clock0 = put-other (suc n) v (times 2 x) 0 (omega arith) ∙ two .clock0 },
+      g,
+    )
   where
     two : State (2 * D) (times 2 x)
     two = times-state 2 (omega arith) s
 
-pub closed-state : (w : ℕ) {m : Matrix (Limit ℤ)} → Closed w m → HasState w m
+pub closed-state : (w : ℕ) {m : Matrix (Upper ℤ)} → Closed w m → HasState w m
 closed-state zero {m} c = (1, λ i. pos 0, record { parts = omega arith; clock0 = refl }, only)
   where
     only : Meets 0 m 1 (λ i. pos 0)

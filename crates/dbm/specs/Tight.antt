@@ -8,14 +8,14 @@ use lib.IntN.{ℤ, pos, negℤ, _+ℤ_, _-ℤ_, _*ℤ_, *ℤ-comm}
 use lib.Signed.{_<ℤ_}
 use Rattle.integer.specs.Parts.{p, n, +-parts, -parts, neg-parts, pos-parts, zs}
 use Rattle.integer.specs.Product.{*ℤ-assoc, *ℤ-distribl-sub}
-use Rattle.expr.specs.Limit.{Limit, none, limit, sumW, zeroW}
+use Rattle.weight.specs.Upper.{Upper, none, upper, sumW, zeroW}
 use Rattle.dbm.specs.Matrix.{Matrix, keeps, Meets, scaleW, scaled, _⊑_, Closed, SomeState, Reached}
 use Rattle.dbm.specs.Weights.{⊑-none, ⊑-out, keeps-in, D-parts, scale-mono, scale-sum, scale-zero, keeps-scaled}
 use Rattle.dbm.specs.Guard.{limited-closed, limited-met}
 use Rattle.dbm.specs.State.{closed-state}
 
 -- ---- scaled matrices
-pub scaled-closed : {w : ℕ} {m : Matrix (Limit ℤ)} (N : ℕ) → 1 ≤ N → Closed w m → Closed w (scaled N m)
+pub scaled-closed : {w : ℕ} {m : Matrix (Upper ℤ)} (N : ℕ) → 1 ≤ N → Closed w m → Closed w (scaled N m)
 unfolding scaled
 scaled-closed {w} {m} N g c = record {
   diagonal = λ i hi. ap (scaleW N) (c .diagonal i hi) ∙ scale-zero N;
@@ -23,13 +23,13 @@ scaled-closed {w} {m} N g c = record {
 }
 
 -- a state of N times the matrix is a state of the matrix, with N times as many parts to a minute
-pub scaled-meets : {w : ℕ} (m : Matrix (Limit ℤ)) (N D : ℕ) (x : ℕ → ℤ) → Meets w (scaled N m) D x → Meets w m (D * N) x
+pub scaled-meets : {w : ℕ} (m : Matrix (Upper ℤ)) (N D : ℕ) (x : ℕ → ℤ) → Meets w (scaled N m) D x → Meets w m (D * N) x
 unfolding scaled
 scaled-meets m N D x h i j hi hj = keeps-scaled N D (x i -ℤ x j) (m i j) (h i j hi hj)
 
 -- ---- a state that meets a guard
 -- a guard that does not leave a closed matrix void is met by one of its states
-pub guard-state : {w i j : ℕ} {m : Matrix (Limit ℤ)} → Closed w m → i ≤ w → j ≤ w → (e : Limit ℤ) → zeroW ⊑ sumW e (m j i)
+pub guard-state : {w i j : ℕ} {m : Matrix (Upper ℤ)} → Closed w m → i ≤ w → j ≤ w → (e : Upper ℤ) → zeroW ⊑ sumW e (m j i)
     → SomeState w m (λ D x. keeps D (x i -ℤ x j) e)
 guard-state {w} {i} {j} {m} c hi hj e a =
     let (D, x, s, h) = closed-state w (limited-closed c hi hj e a) in
@@ -38,22 +38,22 @@ guard-state {w} {i} {j} {m} c hi hj e a =
 
 -- ---- tightness
 -- the opposite guards do not leave the matrix void
-opposite-≤ : (c : ℤ) → zeroW ⊑ sumW (limit false (negℤ c)) (limit false c)
+opposite-≤ : (c : ℤ) → zeroW ⊑ sumW (upper false (negℤ c)) (upper false c)
 unfolding sumW p n
-opposite-≤ c = ⊑-out zeroW (limit false (negℤ c +ℤ c)) (omega (arith, +-parts (negℤ c) c, neg-parts c))
+opposite-≤ c = ⊑-out zeroW (upper false (negℤ c +ℤ c)) (omega (arith, +-parts (negℤ c) c, neg-parts c))
 
-opposite-< : (c : ℤ) → zeroW ⊑ sumW (limit true (pos 1 -ℤ c)) (limit true c)
+opposite-< : (c : ℤ) → zeroW ⊑ sumW (upper true (pos 1 -ℤ c)) (upper true c)
 unfolding sumW p n
-opposite-< c = ⊑-out zeroW (limit true ((pos 1 -ℤ c) +ℤ c)) (omega (arith, +-parts (pos 1 -ℤ c) c, -parts (pos 1) c))
+opposite-< c = ⊑-out zeroW (upper true ((pos 1 -ℤ c) +ℤ c)) (omega (arith, +-parts (pos 1 -ℤ c) c, -parts (pos 1) c))
 
-opposite-none : (c : ℤ) → zeroW ⊑ sumW (limit true (negℤ c)) none
+opposite-none : (c : ℤ) → zeroW ⊑ sumW (upper true (negℤ c)) none
 unfolding sumW
 opposite-none c = ⊑-none zeroW
 
-above : (D : ℕ) (a b N : ℤ) → keeps D (b -ℤ a) (limit true (negℤ N)) → (pos D *ℤ N) <ℤ (a -ℤ b)
+above : (D : ℕ) (a b N : ℤ) → keeps D (b -ℤ a) (upper true (negℤ N)) → (pos D *ℤ N) <ℤ (a -ℤ b)
 above D a b N h = omega (
   zs,
-  keeps-in (limit true (negℤ N)) h,
+  keeps-in (upper true (negℤ N)) h,
   -parts a b,
   -parts b a,
   D-parts D N,
@@ -61,11 +61,11 @@ above D a b N h = omega (
   ap (λ (k : ℕ). D * k) (neg-parts N .1),
 )
 
-reached : (D : ℕ) (a b c : ℤ) → keeps D (a -ℤ b) (limit false c) → keeps D (b -ℤ a) (limit false (negℤ c)) → a -ℤ b ≡ pos D *ℤ c
+reached : (D : ℕ) (a b c : ℤ) → keeps D (a -ℤ b) (upper false c) → keeps D (b -ℤ a) (upper false (negℤ c)) → a -ℤ b ≡ pos D *ℤ c
 reached D a b c h k = omega (
   zs,
-  keeps-in (limit false c) h,
-  keeps-in (limit false (negℤ c)) k,
+  keeps-in (upper false c) h,
+  keeps-in (upper false (negℤ c)) k,
   -parts a b,
   -parts b a,
   D-parts D c,
@@ -73,10 +73,10 @@ reached D a b c h k = omega (
   ap (λ (k : ℕ). D * k) (neg-parts c .1),
 )
 
-near-scaled : (D N : ℕ) (a b c : ℤ) → keeps D (b -ℤ a) (limit true (pos 1 -ℤ (pos N *ℤ c))) → ((pos (D * N) *ℤ c) -ℤ (a -ℤ b)) <ℤ pos D
+near-scaled : (D N : ℕ) (a b c : ℤ) → keeps D (b -ℤ a) (upper true (pos 1 -ℤ (pos N *ℤ c))) → ((pos (D * N) *ℤ c) -ℤ (a -ℤ b)) <ℤ pos D
 near-scaled D N a b c h = omega (
   zs,
-  keeps-in (limit true (pos 1 -ℤ (pos N *ℤ c))) h,
+  keeps-in (upper true (pos 1 -ℤ (pos N *ℤ c))) h,
   -parts a b,
   -parts b a,
   D-parts (D * N) c,
@@ -93,22 +93,23 @@ times-less D N t g h =
     let l : p t + 1 ≤ D + n t = omega (zs, pos-parts D) in
     omega (zs, mul-le-mul-left N l, D-parts N t, pos-parts (D * N))
 
-module _ {w i j : ℕ} {m : Matrix (Limit ℤ)} (c : Closed w m) (hi : i ≤ w) (hj : j ≤ w) where
+module _ {w i j : ℕ} {m : Matrix (Upper ℤ)} (c : Closed w m) (hi : i ≤ w) (hj : j ≤ w) where
   reached-none : m i j ≡ none → Reached w m i j none
   reached-none e N =
-      let (D, x, s, h, k) = guard-state c hj hi (limit true (negℤ N)) (rw e (opposite-none N)) in
+      let (D, x, s, h, k) = guard-state c hj hi (upper true (negℤ N)) (rw e (opposite-none N)) in
       (D, x, s, h, above D (x i) (x j) N k)
 
-  reached-≤ : (b : ℤ) → m i j ≡ limit false b → Reached w m i j (limit false b)
+  reached-≤ : (b : ℤ) → m i j ≡ upper false b → Reached w m i j (upper false b)
   reached-≤ b e =
-      let (D, x, s, h, k) = guard-state c hj hi (limit false (negℤ b)) (rw e (opposite-≤ b)) in
+      let (D, x, s, h, k) = guard-state c hj hi (upper false (negℤ b)) (rw e (opposite-≤ b)) in
       (D, x, s, h, reached D (x i) (x j) b (rw e at (h i j hi hj)) k)
 
   -- the matrix is scaled by N first, so that the guard may leave a whole minute's room
-  reached-< : (b : ℤ) → m i j ≡ limit true b → Reached w m i j (limit true b)
+  reached-< : (b : ℤ) → m i j ≡ upper true b → Reached w m i j (upper true b)
   unfolding scaled scaleW
   reached-< b e N g =
-      let (D, x, s, h, k) = guard-state (scaled-closed N g c) hj hi (limit true (pos 1 -ℤ (pos N *ℤ b))) (rw e (opposite-< (pos N *ℤ b))) in (
+      let (D, x, s, h, k) = guard-state (scaled-closed N g c) hj hi (upper true (pos 1 -ℤ (pos N *ℤ b)))
+      (rw e (opposite-< (pos N *ℤ b))) in (
         D * N,
         x,
         record { parts = one-le-mul (s .parts) g; clock0 = s .clock0 },
@@ -116,10 +117,10 @@ module _ {w i j : ℕ} {m : Matrix (Limit ℤ)} (c : Closed w m) (hi : i ≤ w) 
         times-less D N ((pos (D * N) *ℤ b) -ℤ (x i -ℤ x j)) g (near-scaled D N (x i) (x j) b k),
       )
 
-  by-entry : (a : Limit ℤ) → m i j ≡ a → Reached w m i j a
+  by-entry : (a : Upper ℤ) → m i j ≡ a → Reached w m i j a
   by-entry none e = reached-none e
-  by-entry (limit true b) e = reached-< b e
-  by-entry (limit false b) e = reached-≤ b e
+  by-entry (upper true b) e = reached-< b e
+  by-entry (upper false b) e = reached-≤ b e
 
   -- every entry of a closed matrix is reached
   pub closed-tight : Reached w m i j (m i j)

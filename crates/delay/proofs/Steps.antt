@@ -7,11 +7,10 @@ use native.Mathlib.Numerals.{add-one}
 use native.Mathlib.Omega.{arith}
 use borrow.Author.Tests.{lt-ltb, le-ltb, eq-eqb, ne-eqb}
 use lib.ListN.{length, getD, set}
-use Rattle.expr.specs.Limit.{none}
-use Rattle.expr.specs.Three.{boundOf}
+use Rattle.weight.specs.Upper.{none}
+use Rattle.expr.specs.Three.{boundOf, zeroBound}
 use Rattle.expr.specs.declared.bound.Bound.{Bound}
-use Rattle.zones.specs.Zone.{zeroBound}
-use Rattle.coded.specs.Walked.{noneIf, resetPair, resetB, resetIfB, onFirst}
+use Rattle.delay.specs.Delayed.{noneIf, resetPair, resetB, resetIfB, onFirst}
 use Rattle.zones.specs.declared.zone.Zone.{Zone}
 use Rattle.zones.specs.declared.zone.Zones.{Zones}
 
@@ -29,7 +28,8 @@ module _ (w r j : ℕ) (m : List Bound) where
   pair-same h k = rw (le-ltb w j h, eq-eqb j r k) refl
 
   pub pair-other : j ≤ w → (j ≡ r → ⊥)
-      → set (set m (5 * r + j) (getD m j zeroBound)) (5 * j + r) (getD (set m (5 * r + j) (getD m j zeroBound)) (5 * j) zeroBound) ≡ resetPair w r j m
+      → set (set m (5 * r + j) (getD m j zeroBound)) (5 * j + r) (getD (set m (5 * r + j) (getD m j zeroBound)) (5 * j) zeroBound)
+      ≡ resetPair w r j m
   unfolding resetPair
   pair-other h k = rw (le-ltb w j h, ne-eqb j r k) refl
 
@@ -47,7 +47,8 @@ module _ (w r bit : ℕ) (m : List Bound) where
   if-not h = rw (ne-eqb bit 1 h) refl
 
 -- ---- a step on the first zones of a list
-on-first-turn : (f : Zone → Zone) (i : ℕ) (l : List Zone) (d : Zone) → i < length l → set (onFirst f i l) i (f (getD (onFirst f i l) i d)) ≡ onFirst f (suc i) l
+on-first-turn : (f : Zone → Zone) (i : ℕ) (l : List Zone) (d : Zone) → i < length l
+    → set (onFirst f i l) i (f (getD (onFirst f i l) i d)) ≡ onFirst f (suc i) l
 unfolding onFirst
 on-first-turn f zero [] d h = absurd (omega arith)
 on-first-turn f zero (z ∷ l) d h = refl
@@ -88,7 +89,8 @@ changed-starts f n zs e l = record { few = omega arith; most = e; below = omega 
 pub changed-long : (f : Zone → Zone) (n i : ℕ) (zs next : Zones) → Changed f n zs next i → length (next .list) ≡ 32
 changed-long f n i zs next c = ap (λ (z : Zones). length (z .list)) (c .same) ∙ on-first-length f i (zs .list) ∙ c .long
 
-pub changed-turn : (f : Zone → Zone) (n i : ℕ) (zs next : Zones) (d z : Zone) → Changed f n zs next i → i < n → z ≡ f (getD (next .list) i d)
+pub changed-turn : (f : Zone → Zone) (n i : ℕ) (zs next : Zones) (d z : Zone) → Changed f n zs next i → i < n
+    → z ≡ f (getD (next .list) i d)
     → Changed f n zs (record { refusal = next .refusal; visit = next .visit; count = next .count; list = set (next .list) i z }) (i + 1)
 changed-turn f n i zs next d z c h e =
     record {
@@ -96,11 +98,15 @@ changed-turn f n i zs next d z c h e =
       most = c .most;
       below = omega arith;
       long = c .long;
-      same = rw (e, c .same, add-one i) (ap (λ (l : List Zone). record { refusal = zs .refusal; visit = zs .visit; count = zs .count; list = l })
+      same =
+          rw (e, c .same, add-one i)
+          (ap (λ (l : List Zone). record { refusal = zs .refusal; visit = zs .visit; count = zs .count; list = l })
           (on-first-turn f i (zs .list) d (omega (arith, c .few, c .long))));
     }
 
 pub changed-done : (f : Zone → Zone) (n i : ℕ) (zs next : Zones) → Changed f n zs next i → n ≤ i → next ≡ changed f (zs .count) zs
 changed-done f n i zs next c h =
     let same : i ≡ min (zs .count) (length (zs .list)) = rw (c .long) (omega (arith, c .most, c .below)) in
-    c .same ∙ ap (λ (l : List Zone). record { refusal = zs .refusal; visit = zs .visit; count = zs .count; list = l }) (on-first-most f i (zs .count) (zs .list) same)
+    c .same
+    ∙ ap (λ (l : List Zone). record { refusal = zs .refusal; visit = zs .visit; count = zs .count; list = l })
+    (on-first-most f i (zs .count) (zs .list) same)

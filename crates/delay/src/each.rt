@@ -3,8 +3,7 @@ use crate::matrix;
 use zones::Zone;
 use zones::Zones;
 ghost use mathlib.Core.Path.{_≡_};
-ghost use Prim.Native.Nat.{min};
-ghost use Rattle.coded.specs.Walked.{delayedZone, resetsZone, delayedAll, resetsAll};
+ghost use Rattle.delay.specs.Delayed.{delayedZone, resetsZone, delayedAll, resetsAll};
 
 // A zone after a wait.
 fn delayed_zone(z: Zone, clocks: usize) -> Zone

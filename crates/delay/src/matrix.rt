@@ -2,7 +2,7 @@
 use expr::Bound;
 ghost use mathlib.Core.Path.{_≡_};
 ghost use Prim.Native.Nat.{_<_};
-ghost use Rattle.coded.specs.Walked.{noneIf, delayedB, resetPair, resetB, resetIfB, resetsB};
+ghost use Rattle.delay.specs.Delayed.{noneIf, delayedB, resetPair, resetB, resetIfB, resetsB};
 
 // The matrix with none at x, if there is such a clock.
 fn none_if(m: [Bound; 25], there: bool, x: usize) -> [Bound; 25]

@@ -1,12 +1,11 @@
 -- What judging says, and the code's records put together from their numbers.
-use mathlib.Core.Path.{_≡_, refl, sym, _∙_}
-use mathlib.Core.Bool.{Bool, true, false}
-use mathlib.Core.List.{List, [], _∷_}
+use mathlib.Core.Path.{_≡_, refl}
+use mathlib.Core.Bool.{true, false}
+use mathlib.Core.List.{[], _∷_}
 use lib.IntN.{ℤ}
-use Rattle.expr.specs.Affine.{Affine, Judged, fine, wide, judge, allWithin, pickJ}
-use Rattle.expr.specs.Three.{affine, inequality, exprOf}
+use Rattle.expr.specs.Affine.{Affine, fine, wide, judge, allWithin}
+use Rattle.expr.specs.Three.{inequality, exprOf}
 use Rattle.expr.specs.declared.number.Expr.{Expr}
-use Rattle.expr.specs.declared.number.Inequality.{Inequality}
 use Rattle.expr.specs.declared.number.Inequality.the-variants.{Is, Wide}
 
 pub judge-yes : (l : ℤ) (e : Affine) → allWithin l (e .constant ∷ e .coefs) ≡ true → judge l e ≡ fine e

@@ -1,17 +1,19 @@
 -- Sizes: sums and differences of narrow numbers fit the wide width.
 use mathlib.Core.Path.{_≡_, refl, sym, _∙_}
-use mathlib.Core.Bool.{Bool, true, false, _&&_, and-true}
+use mathlib.Core.Bool.{Bool, true, false, _&&_, and-true, cond}
 use mathlib.Core.List.{List, [], _∷_}
 use Prim.{Unit}
-use lib.Signed.{leZ, _≤ℤ_}
+use lib.Signed.{leZ}
 use Rattle.expr.specs.Affine.{within, allWithin}
-use lib.IntN.{ℤ, pos, negsuc, negℤ, _+ℤ_, _-ℤ_, _*ℤ_, +ℤ-idr}
-use mir.Syntax.{w16, w32, w64}
-use mir.Val.{SFits, toZ, ofZ}
+use lib.IntN.{ℤ, pos, negℤ, _+ℤ_, _-ℤ_, +ℤ-idr}
+use mir.Syntax.{w32, w64}
+use mir.Facts.{sfits-lit}
+use mir.Val.{SFits, toZ, ofZ, boolByte}
 use mir.ValLaws.{toZ-ofZ}
 use native.Mathlib.Omega.{arith}
 use Rattle.integer.specs.Product.{Small}
 use Rattle.integer.specs.Split.{split, split-all}
+use Rattle.integer.specs.Bits.{op-fits, op-back}
 use Rattle.integer.specs.Bools.{and-left, and-right}
 
 -- a fact of each element
@@ -25,8 +27,21 @@ sum-fits x y = rw (split x, split y) (simp split-all (omega arith))
 pub difference-fits : (x y : ℤ) → SFits w32 x → SFits w32 y → SFits w64 (x -ℤ y)
 difference-fits x y = rw (split x, split y) (simp split-all (omega arith))
 
-pub less-one-fits : (x y : ℤ) → SFits w32 x → SFits w32 y → SFits w64 ((x -ℤ y) -ℤ pos 1)
-less-one-fits x y = rw (split x, split y) (simp split-all (omega arith))
+pub less-one-is : (v : ℤ) → SFits w64 v → SFits w64 (v -ℤ pos 1) → toZ w64 (ofZ w64 (toZ w64 (ofZ w64 v) -ℤ pos 1)) ≡ v -ℤ pos 1
+less-one-is v f g = op-back _-ℤ_ w64 v (pos 1) v (pos 1) refl refl f (sfits-lit tt) g
+
+-- a Bool as a number is 1 or 0
+zero-more : (v : ℤ) → SFits w64 v → SFits w64 (v +ℤ pos 0)
+zero-more v = rw (split v) (simp split-all (omega arith))
+
+pub plus-where-fits : (v : ℤ) (b : Bool) → SFits w64 v → SFits w64 (v +ℤ pos 1) → SFits w64 (toZ w64 (ofZ w64 v) +ℤ toZ w64 (boolByte b))
+plus-where-fits v true f g = op-fits _+ℤ_ w64 v (pos 1) v (pos 1) refl refl f (sfits-lit tt) g
+plus-where-fits v false f g = op-fits _+ℤ_ w64 v (pos 0) v (pos 0) refl refl f (sfits-lit tt) (zero-more v f)
+
+pub plus-where-is : (v : ℤ) (b : Bool) → SFits w64 v → SFits w64 (v +ℤ pos 1)
+    → toZ w64 (ofZ w64 (toZ w64 (ofZ w64 v) +ℤ toZ w64 (boolByte b))) ≡ v +ℤ cond b (pos 1) (pos 0)
+plus-where-is v true f g = op-back _+ℤ_ w64 v (pos 1) v (pos 1) refl refl f (sfits-lit tt) g
+plus-where-is v false f g = op-back _+ℤ_ w64 v (pos 0) v (pos 0) refl refl f (sfits-lit tt) (zero-more v f)
 
 pub negation-fits : (x : ℤ) → SFits w32 x → SFits w64 (pos 0 -ℤ x)
 negation-fits x = rw (split x) (simp split-all (omega arith))
@@ -77,8 +92,11 @@ within-fits l x = rw (split l, split x) (simp split-all (omega arith))
 pub all-fits : (l : ℤ) (xs : List ℤ) → SFits w32 l → allWithin l xs ≡ true → All (SFits w32) xs
 all-fits l [] f e = tt
 all-fits l (x ∷ xs) f e =
-    let h = and-left (within l x) (allWithin l xs) e in
-    (within-fits l x f (and-left (leZ (negℤ l) x) (leZ x l) h) (and-right (leZ (negℤ l) x) (leZ x l) h), all-fits l xs f (and-right (within l x) (allWithin l xs) e))
+    let h = and-left (within l x) (allWithin l xs) e in (
+      within-fits l x f (and-left (leZ (negℤ l) x) (leZ x l) h) (and-right (leZ (negℤ l) x) (leZ x l) h),
+      all-fits l xs f
+          (and-right (within l x) (allWithin l xs) e),
+    )
 
 -- what `all_within` says of a limit that was passed as its bits, with the branch's test
 pub told-all : (l : ℤ) (xs : List ℤ) (b t : Bool) → b ≡ allWithin (toZ w32 (ofZ w32 l)) xs → SFits w32 l → b ≡ t → allWithin l xs ≡ t

@@ -1,6 +1,6 @@
 -- Expressions over any number of parameters (paper 01, "Cutting the ranges").
 use mathlib.Core.List.{List, [], _∷_, map}
-use mathlib.Core.Bool.{Bool, true, false, _&&_}
+use mathlib.Core.Bool.{Bool, true, _&&_, cond}
 use lib.IntN.{ℤ, pos, negsuc, negℤ, _+ℤ_, _-ℤ_, _*ℤ_}
 use lib.Signed.{leZ}
 
@@ -47,31 +47,26 @@ lessOne e = record { constant = e .constant -ℤ pos 1; coefs = e .coefs }
 unfoldable pub opposite : Affine → Affine
 opposite e = record { constant = negsuc 0 -ℤ e .constant; coefs = map negℤ (e .coefs) }
 
--- whether x lies from -limit to limit
+-- whether x lies from -most to most
 abbrev pub within : ℤ → ℤ → Bool
-within limit x = leZ (negℤ limit) x && leZ x limit
+within most x = leZ (negℤ most) x && leZ x most
 
 abbrev pub allWithin : ℤ → List ℤ → Bool
-allWithin limit [] = true
-allWithin limit (x ∷ xs) = within limit x && allWithin limit xs
-
-abbrev pub pickZ : Bool → ℤ → ℤ → ℤ
-pickZ true a b = a
-pickZ false a b = b
+allWithin most [] = true
+allWithin most (x ∷ xs) = within most x && allWithin most xs
 
 -- something judged: fine, or wide (paper: a constant or coefficient leaves the range)
 pub data Judged (A : Type 0) : Type 0 where
   fine : A → Judged A
   wide : Judged A
 
-abbrev pub pickJ : {A : Type 0} → Bool → Judged A → Judged A → Judged A
-pickJ true a b = a
-pickJ false a b = b
-
--- the expression, if its constant and all coefficients lie from -limit to limit
+-- the expression, if its constant and all coefficients lie from -most to most
 unfoldable pub judge : ℤ → Affine → Judged Affine
-judge limit e = pickJ (allWithin limit (e .constant ∷ e .coefs)) (fine e) wide
+judge most e = cond (allWithin most (e .constant ∷ e .coefs)) (fine e) wide
 
--- refusal 9: what a number of a sum or a test may not leave
-abbrev pub LIMIT : ℤ
-LIMIT = pos 1000000
+-- refusal 9: a number of a sum or a test is wide past this; an opposite's constant may lie one past it
+abbrev pub WIDEST : ℤ
+WIDEST = pos 1000000
+
+abbrev pub OPPOSITE : ℤ
+OPPOSITE = pos 1000001

@@ -1,15 +1,16 @@
 -- What sums, tests and opposites mean at a valuation, for any number of parameters.
 use mathlib.Core.Path.{_≡_, refl, sym, ap, _∙_}
 use mathlib.Core.List.{List, [], _∷_, map}
-use mathlib.Core.Bool.{Bool, true, false, not, _||_}
-use Prim.Native.Nat.{ℕ}
+use mathlib.Core.Bool.{Bool, true, false, not, _||_, cond}
 use native.Mathlib.Omega.{arith}
 use lib.IntN.{ℤ, pos, negsuc, negℤ, _+ℤ_, _-ℤ_, _*ℤ_, +ℤ-idl, +ℤ-idr}
-use lib.Signed.{leZ, _≤ℤ_}
-use Rattle.integer.specs.Order.{true-leZ}
+use lib.Signed.{leZ}
+use Rattle.integer.specs.Apart.{apart}
 use Rattle.integer.specs.Split.{split, split-all}
-use Rattle.expr.specs.Affine.{Affine, dot, value, plusL, minusL, plus, minus, lessOne, opposite, allWithin, Judged, fine, wide, judge, pickJ, LIMIT}
-use Rattle.expr.specs.Limit.{Limit, none, limit, atV, sumW, marked, sumB, slack, slackE, tighterW, Question, yes′, no′, ask, wide′, asked, tighterB, MOST, saturate, saturated}
+use Rattle.expr.specs.Affine.{Affine, dot, value, plusL, minusL, plus, minus, lessOne, opposite, allWithin, Judged, fine, wide}
+use Rattle.expr.specs.Affine.{judge, WIDEST}
+use Rattle.weight.specs.Upper.{Upper, none, upper, sumW, slack, tighterW}
+use Rattle.expr.specs.Bounds.{atV, marked, sumB, slackE, Question, yes′, no′, ask, wide′, asked, tighterB}
 
 -- ---- values
 plus-step : (c d x a b : ℤ) → ((c +ℤ d) *ℤ x) +ℤ (a +ℤ b) ≡ ((c *ℤ x) +ℤ a) +ℤ ((d *ℤ x) +ℤ b)
@@ -77,11 +78,6 @@ unfolding value opposite
 opposite-value e v = rw (neg-dot (e .coefs) v) (turn-both (e .constant) (dot (e .coefs) v))
 
 -- ---- the opposite: at every valuation exactly one of an inequality and its opposite holds
-pub same-test : (a b : Bool) → (a ≡ true → b ≡ true) → (b ≡ true → a ≡ true) → a ≡ b
-same-test true b f g = sym (f refl)
-same-test false true f g = g refl
-same-test false false f g = refl
-
 holds-not : (x : ℤ) → leZ (pos 0) x ≡ true → leZ (pos 0) (negsuc 0 -ℤ x) ≡ false
 holds-not x = rw (split x) (simp split-all (omega arith))
 
@@ -96,26 +92,27 @@ pub opposite-holds : (e : Affine) (v : List ℤ) → leZ (pos 0) (value (opposit
 opposite-holds e v = rw (opposite-value e v) (turned (value e v) (leZ (pos 0) (value e v)) refl)
 
 -- ---- judging changes nothing
-judged-same : (b : Bool) (e x : Affine) → pickJ b (fine e) wide ≡ fine x → e ≡ x
+judged-same : (b : Bool) (e x : Affine) → cond b (fine e) wide ≡ fine x → e ≡ x
 judged-same true e x h = cc
-judged-same false e x h = let z : _≡_ {A = ℕ} 0 1 = cc in absurd (omega arith)
+judged-same false e x h = apart cc
 
 pub judge-same : (l : ℤ) (e x : Affine) → judge l e ≡ fine x → e ≡ x
 unfolding judge
 judge-same l e x h = judged-same (allWithin l (e .constant ∷ e .coefs)) e x h
 
 -- ---- sums: a sum of bounds that is not wide is, at every valuation, the sum of the weights
-marked-same : (s : Bool) (j : Judged Affine) (e : Affine) (c : Limit Affine) → ((x : Affine) → j ≡ fine x → e ≡ x) → marked s j ≡ fine c → c ≡ limit s e
+marked-same : (s : Bool) (j : Judged Affine) (e : Affine) (c : Upper Affine) → ((x : Affine) → j ≡ fine x → e ≡ x) → marked s j
+    ≡ fine c → c ≡ upper s e
 unfolding marked
 marked-same s (fine x) e c f h = let g = f x refl in cc
-marked-same s wide e c f h = let z : _≡_ {A = ℕ} 0 1 = cc in absurd (omega arith)
+marked-same s wide e c f h = apart cc
 
-pub sum-at : (a b c : Limit Affine) (v : List ℤ) → sumB a b ≡ fine c → atV v c ≡ sumW (atV v a) (atV v b)
+pub sum-at : (a b c : Upper Affine) (v : List ℤ) → sumB a b ≡ fine c → atV v c ≡ sumW (atV v a) (atV v b)
 unfolding sumB sumW atV
 sum-at none b c v h = let e : c ≡ none = cc in rw e refl
-sum-at (limit s a) none c v h = let e : c ≡ none = cc in rw e refl
-sum-at (limit s a) (limit t b) c v h =
-    let e : c ≡ limit (s || t) (plus a b) = marked-same (s || t) (judge LIMIT (plus a b)) (plus a b) c (judge-same LIMIT (plus a b)) h in
+sum-at (upper s a) none c v h = let e : c ≡ none = cc in rw e refl
+sum-at (upper s a) (upper t b) c v h =
+    let e : c ≡ upper (s || t) (plus a b) = marked-same (s || t) (judge WIDEST (plus a b)) (plus a b) c (judge-same WIDEST (plus a b)) h in
     rw (e, plus-value a b v) refl
 
 -- ---- tests: the answer of a test that is not wide is, at every valuation, whether the first weight is tighter
@@ -130,22 +127,16 @@ slack-value true true a b v = rw (lessOne-value (minus b a) v, minus-value b a v
 slack-value true false a b v = minus-value b a v
 slack-value false t a b v = rw (lessOne-value (minus b a) v, minus-value b a v) refl
 
-asked-same : (j : Judged Affine) (e : Affine) (v : List ℤ) → ((x : Affine) → j ≡ fine x → e ≡ x) → (asked j ≡ wide′ → ⊥) → answer (asked j) v ≡ leZ (pos 0) (value e v)
+asked-same : (j : Judged Affine) (e : Affine) (v : List ℤ) → ((x : Affine) → j ≡ fine x → e ≡ x) → (asked j ≡ wide′ → ⊥)
+    → answer (asked j) v ≡ leZ (pos 0) (value e v)
 unfolding asked answer
 asked-same (fine x) e v f h = rw (f x refl) refl
 asked-same wide e v f h = absurd (h refl)
 
-pub tighter-at : (a b : Limit Affine) (v : List ℤ) → (tighterB a b ≡ wide′ → ⊥) → answer (tighterB a b) v ≡ tighterW (atV v a) (atV v b)
+pub tighter-at : (a b : Upper Affine) (v : List ℤ) → (tighterB a b ≡ wide′ → ⊥) → answer (tighterB a b) v ≡ tighterW (atV v a) (atV v b)
 unfolding tighterB tighterW atV answer
 tighter-at none b v h = refl
-tighter-at (limit s a) none v h = refl
-tighter-at (limit s a) (limit t b) v h =
-    asked-same (judge LIMIT (slackE s t a b)) (slackE s t a b) v (judge-same LIMIT (slackE s t a b)) h ∙ ap (λ (x : ℤ). leZ (pos 0) x) (slack-value s t a b v)
-
--- ---- weights that are far from the ends of 64 bits are not touched
-pub saturate-same : (x : ℤ) → negℤ MOST ≤ℤ x → x ≤ℤ MOST → saturate x ≡ x
-unfolding saturate
-saturate-same x h k =
-    let a : leZ x MOST ≡ true = true-leZ k in
-    let b : leZ (negℤ MOST) x ≡ true = true-leZ h in
-    rw (a, b) refl
+tighter-at (upper s a) none v h = refl
+tighter-at (upper s a) (upper t b) v h =
+    asked-same (judge WIDEST (slackE s t a b)) (slackE s t a b) v (judge-same WIDEST (slackE s t a b)) h
+    ∙ ap (λ (x : ℤ). leZ (pos 0) x) (slack-value s t a b v)

@@ -1,7 +1,8 @@
--- What is read first: Affine (expressions), Limit (bounds and weights) and Ranges, for any number of parameters; then Three, which says how the
--- code's records stand for them. Laws are laws of these.
+-- What is read first: Affine (expressions), Bounds and Ranges, for any number of parameters; then Three, which says how the code's records
+-- stand for them. TestBySum is request (e); Laws are laws of these.
 pub mod Affine
+pub mod Bounds
 pub mod Laws
-pub mod Limit
 pub mod Ranges
+pub mod TestBySum
 pub mod Three

@@ -1,10 +1,11 @@
 -- The code's records at three parameters, as the lists that the definitions are about, and back.
 use mathlib.Core.List.{List, [], _∷_}
-use mathlib.Core.Bool.{Bool, true, false}
+use mathlib.Core.Bool.{true, false, cond}
 use lib.IntN.{ℤ, pos}
 use lib.ListN.{getD}
-use Rattle.expr.specs.Affine.{Affine, Judged, fine, wide, judge, LIMIT}
-use Rattle.expr.specs.Limit.{Limit, none, limit, Question, yes′, no′, ask, wide′}
+use Rattle.expr.specs.Affine.{Affine, Judged, fine, wide}
+use Rattle.weight.specs.Upper.{Upper, none, upper}
+use Rattle.expr.specs.Bounds.{zeroB, Question, yes′, no′, ask, wide′}
 use Rattle.expr.specs.declared.bound.Bound.{Bound}
 use Rattle.expr.specs.declared.bound.BoundSum.{BoundSum}
 use Rattle.expr.specs.declared.bound.BoundSum.the-variants.{Sum, Wide as BoundWide}
@@ -12,7 +13,6 @@ use Rattle.expr.specs.declared.bound.Test.{Test}
 use Rattle.expr.specs.declared.bound.Test.the-variants.{Yes, No, Ask, Wide as TestWide}
 use Rattle.expr.specs.declared.range.Range.{Range}
 use Rattle.expr.specs.declared.range.Ranges.{Ranges}
-use Rattle.expr.specs.declared.weight.Weight.{Weight}
 use Rattle.expr.specs.declared.number.Expr.{Expr}
 use Rattle.expr.specs.declared.number.Sums.{Sums}
 use Rattle.expr.specs.declared.number.Valuation.{Valuation}
@@ -34,28 +34,30 @@ point v = v .p ∷ v .q ∷ v .r ∷ []
 abbrev pub exprOf : Affine → Expr
 exprOf e = record { constant = e .constant; p = getD (e .coefs) 0 (pos 0); q = getD (e .coefs) 1 (pos 0); r = getD (e .coefs) 2 (pos 0) }
 
+abbrev pub zeroExpr : Expr
+zeroExpr = record { constant = pos 0; p = pos 0; q = pos 0; r = pos 0 }
+
 abbrev pub inequality : Judged Affine → Inequality
 inequality (fine e) = Is (exprOf e)
 inequality wide = Wide
 
--- an opposite's constant may lie one past the range of a test
-abbrev pub OPPOSITE : ℤ
-OPPOSITE = pos 1000001
-
-abbrev pub pickL : {A : Type 0} → Bool → Limit A → Limit A → Limit A
-pickL true a b = a
-pickL false a b = b
-
 -- a bound of the code
-abbrev pub limitOf : Bound → Limit Affine
-limitOf b = pickL (b .none) none (limit (b .strict) (affine (b .expr)))
+abbrev pub boundAs : Bound → Upper Affine
+boundAs b = cond (b .none) none (upper (b .strict) (affine (b .expr)))
 
 -- the code's record of a bound; none has a zero expression and is not strict
-abbrev pub boundOf : Limit Affine → Bound
-boundOf none = record { none = true; strict = false; expr = record { constant = pos 0; p = pos 0; q = pos 0; r = pos 0 } }
-boundOf (limit s e) = record { none = false; strict = s; expr = exprOf e }
+abbrev pub boundOf : Upper Affine → Bound
+boundOf none = record { none = true; strict = false; expr = zeroExpr }
+boundOf (upper s e) = record { none = false; strict = s; expr = exprOf e }
 
-abbrev pub boundSum : Judged (Limit Affine) → BoundSum
+-- the code's none, and its zero, not strict
+abbrev pub noneBound : Bound
+noneBound = boundOf none
+
+abbrev pub zeroBound : Bound
+zeroBound = boundOf zeroB
+
+abbrev pub boundSum : Judged (Upper Affine) → BoundSum
 boundSum (fine b) = Sum (boundOf b)
 boundSum wide = BoundWide
 
@@ -64,15 +66,6 @@ test yes′ = Yes
 test no′ = No
 test (ask e) = Ask (exprOf e)
 test wide′ = TestWide
-
--- a weight of the code
-abbrev pub weighed : Weight → Limit ℤ
-weighed w = pickL (w .none) none (limit (w .strict) (w .value))
-
--- the code's record of a weight; none has the number 0 and is not strict
-abbrev pub weightOf : Limit ℤ → Weight
-weightOf none = record { none = true; strict = false; value = pos 0 }
-weightOf (limit s x) = record { none = false; strict = s; value = x }
 
 -- the ranges of the code
 abbrev pub rangeList : Ranges → List Range

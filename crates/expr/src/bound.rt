@@ -2,13 +2,12 @@
 use crate::number;
 use crate::number::Expr;
 use crate::number::Inequality;
-use crate::number::Sums;
 use crate::number::Valuation;
-use crate::weight::Weight;
+use weight::Weight;
 ghost use mathlib.Core.Path.{_≡_};
-ghost use Rattle.expr.specs.Affine.{plus, minus, lessOne, judge, LIMIT};
-ghost use Rattle.expr.specs.Limit.{sumB, tighterB, slackE, atV};
-ghost use Rattle.expr.specs.Three.{affine, point, inequality, limitOf, boundSum, test, weightOf};
+ghost use Rattle.expr.specs.Bounds.{sumB, tighterB, atV};
+ghost use Rattle.expr.specs.Three.{point, boundAs, boundSum, test};
+ghost use Rattle.weight.specs.Records.{weightOf};
 
 // A bound: none, or an expression with a strict mark. None has a zero expression and is not strict.
 pub struct Bound {
@@ -32,58 +31,6 @@ pub enum Test {
     Wide,
 }
 
-// a + b, judged.
-fn added(a: Expr, b: Expr) -> Inequality
-    ensures { λ r. ⌜ r ≡ inequality (judge LIMIT (plus (affine a) (affine b))) ⌝ }
-{
-    let s = Sums {
-        constant: number::sum(a.constant, b.constant),
-        p: number::sum(a.p, b.p),
-        q: number::sum(a.q, b.q),
-        r: number::sum(a.r, b.r),
-    };
-    number::judged(s, 1000000)
-}
-
-// a - b, judged.
-fn subtracted(a: Expr, b: Expr) -> Inequality
-    ensures { λ r. ⌜ r ≡ inequality (judge LIMIT (minus (affine a) (affine b))) ⌝ }
-{
-    let s = Sums {
-        constant: number::difference(a.constant, b.constant),
-        p: number::difference(a.p, b.p),
-        q: number::difference(a.q, b.q),
-        r: number::difference(a.r, b.r),
-    };
-    number::judged(s, 1000000)
-}
-
-// a - b - 1, judged.
-fn subtracted_less_one(a: Expr, b: Expr) -> Inequality
-    ensures { λ r. ⌜ r ≡ inequality (judge LIMIT (lessOne (minus (affine a) (affine b)))) ⌝ }
-{
-    let s = Sums {
-        constant: number::difference_less_one(a.constant, b.constant),
-        p: number::difference(a.p, b.p),
-        q: number::difference(a.q, b.q),
-        r: number::difference(a.r, b.r),
-    };
-    number::judged(s, 1000000)
-}
-
-// The expression that is at least 0 exactly if a with the mark s is tighter than b with the mark t, judged.
-fn slack(s: bool, t: bool, a: Expr, b: Expr) -> Inequality
-    ensures { λ r. ⌜ r ≡ inequality (judge LIMIT (slackE s t (affine a) (affine b))) ⌝ }
-{
-    if s {
-        if t {
-            return subtracted_less_one(b, a);
-        }
-        return subtracted(b, a);
-    }
-    subtracted_less_one(b, a)
-}
-
 impl Bound {
     // No bound (paper: none).
     pub const NONE: Bound = Bound {
@@ -101,7 +48,7 @@ impl Bound {
 
     // The sum: expressions added; strict if either is; none if either is.
     pub fn sum(self, other: Bound) -> BoundSum
-        ensures { λ r. ⌜ r ≡ boundSum (sumB (limitOf self) (limitOf other)) ⌝ }
+        ensures { λ r. ⌜ r ≡ boundSum (sumB (boundAs self) (boundAs other)) ⌝ }
     {
         if self.none {
             return BoundSum::Sum(Bound::NONE);
@@ -109,21 +56,20 @@ impl Bound {
         if other.none {
             return BoundSum::Sum(Bound::NONE);
         }
-        let strict = number::either(self.strict, other.strict);
-        let judged = added(self.expr, other.expr);
+        let judged = number::judged(self.expr.plus(other.expr), 1000000);
         match judged {
             Inequality::Is(expr) => BoundSum::Sum(Bound {
                 none: false,
-                strict,
+                strict: self.strict | other.strict,
                 expr,
             }),
             Inequality::Wide => BoundSum::Wide,
         }
     }
 
-    // Whether self is tighter than other.
+    // Whether self is tighter than other: the second less the first, less one, plus one where only the first is strict, is at least 0.
     pub fn tighter(self, other: Bound) -> Test
-        ensures { λ r. ⌜ r ≡ test (tighterB (limitOf self) (limitOf other)) ⌝ }
+        ensures { λ r. ⌜ r ≡ test (tighterB (boundAs self) (boundAs other)) ⌝ }
     {
         if self.none {
             return Test::No;
@@ -131,7 +77,11 @@ impl Bound {
         if other.none {
             return Test::Yes;
         }
-        let judged = slack(self.strict, other.strict, self.expr, other.expr);
+        let first = self.expr;
+        let second = other.expr;
+        let only_first = self.strict & !other.strict;
+        let sum = second.less(first).less_one().plus_one_where(only_first);
+        let judged = number::judged(sum, 1000000);
         match judged {
             Inequality::Is(expr) => Test::Ask(expr),
             Inequality::Wide => Test::Wide,
@@ -140,7 +90,7 @@ impl Bound {
 
     // The bound with v put in: its expression's value and its mark; none stays none.
     pub fn at(self, v: Valuation) -> Weight
-        ensures { λ r. ⌜ r ≡ weightOf (atV (point v) (limitOf self)) ⌝ }
+        ensures { λ r. ⌜ r ≡ weightOf (atV (point v) (boundAs self)) ⌝ }
     {
         if self.none {
             return Weight::NONE;

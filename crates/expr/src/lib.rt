@@ -1,8 +1,7 @@
-// Expressions over parameters, their ranges, bounds and weights: the arithmetic under Windows and Sweep.
+// Expressions over parameters, their ranges and bounds: the arithmetic under Windows and Sweep.
 mod bound;
 mod number;
 mod range;
-mod weight;
 
 pub use bound::Bound;
 pub use bound::BoundSum;
@@ -12,4 +11,3 @@ pub use number::Inequality;
 pub use number::Valuation;
 pub use range::Range;
 pub use range::Ranges;
-pub use weight::Weight;

@@ -1,13 +1,13 @@
 // Numbers without a wrap, and expressions: every sum and product is taken at a width that holds it, and then judged.
 ghost use mathlib.Core.Path.{_≡_};
-ghost use mathlib.Core.Bool.{_&&_, _||_};
 ghost use lib.IntN.{pos, negsuc, negℤ, _+ℤ_, _-ℤ_, _*ℤ_};
 ghost use lib.Signed.{leZ};
-ghost use mir.Syntax.{w32};
+ghost use mir.Syntax.{w32, w64};
 ghost use mir.Val.{SFits};
 ghost use mathlib.Core.List.{[], _∷_};
-ghost use Rattle.expr.specs.Affine.{value, within, allWithin, opposite, judge};
-ghost use Rattle.expr.specs.Three.{affine, point, sums, inequality, OPPOSITE};
+ghost use Rattle.expr.specs.Affine.{value, within, allWithin, plus, minus, lessOne, opposite, judge, OPPOSITE};
+ghost use Rattle.expr.specs.TestBySum.{plusOneWhere};
+ghost use Rattle.expr.specs.Three.{affine, point, sums, inequality};
 
 // An expression: a constant and a coefficient for each of three parameters (paper: allowances).
 pub struct Expr {
@@ -43,18 +43,8 @@ pub enum Inequality {
     Wide,
 }
 
-// Whether a or b.
-pub(crate) fn either(a: bool, b: bool) -> bool
-    ensures { λ r. ⌜ r ≡ (a || b) ⌝ }
-{
-    if a {
-        return true;
-    }
-    b
-}
-
 // x + y.
-pub(crate) fn sum(x: i32, y: i32) -> Number
+fn sum(x: i32, y: i32) -> Number
     ensures { λ r. ⌜ r .value ≡ x +ℤ y ⌝ }
 {
     Number {
@@ -63,7 +53,7 @@ pub(crate) fn sum(x: i32, y: i32) -> Number
 }
 
 // x - y.
-pub(crate) fn difference(x: i32, y: i32) -> Number
+fn difference(x: i32, y: i32) -> Number
     ensures { λ r. ⌜ r .value ≡ x -ℤ y ⌝ }
 {
     Number {
@@ -71,41 +61,32 @@ pub(crate) fn difference(x: i32, y: i32) -> Number
     }
 }
 
-// x - y - 1.
-pub(crate) fn difference_less_one(x: i32, y: i32) -> Number
-    ensures { λ r. ⌜ r .value ≡ ((x -ℤ y) -ℤ pos 1) ⌝ }
-{
-    Number {
-        value: numbers::wide(x) - numbers::wide(y) - 1,
-    }
-}
-
 // x · y.
-pub(crate) fn product(x: i32, y: i16) -> i64
+fn product(x: i32, y: i16) -> i64
     ensures { λ r. ⌜ r ≡ x *ℤ y ⌝ }
 {
     numbers::wide(x) * numbers::wide16(y)
 }
 
-// Whether x lies from -limit to limit.
-fn is_within(x: Number, limit: i32) -> bool
-    ensures { λ r. ⌜ r ≡ within limit (x .value) ⌝ }
+// Whether x lies from -most to most.
+fn is_within(x: Number, most: i32) -> bool
+    ensures { λ r. ⌜ r ≡ within most (x .value) ⌝ }
 {
-    let high = numbers::wide(limit);
+    let high = numbers::wide(most);
     if 0 - high <= x.value {
         return x.value <= high;
     }
     false
 }
 
-// Whether every number of s lies from -limit to limit.
-fn all_within(s: Sums, limit: i32) -> bool
-    ensures { λ r. ⌜ r ≡ allWithin limit (s .constant .value ∷ s .p .value ∷ s .q .value ∷ s .r .value ∷ []) ⌝ }
+// Whether every number of s lies from -most to most.
+fn all_within(s: Sums, most: i32) -> bool
+    ensures { λ r. ⌜ r ≡ allWithin most (s .constant .value ∷ s .p .value ∷ s .q .value ∷ s .r .value ∷ []) ⌝ }
 {
-    if is_within(s.constant, limit) {
-        if is_within(s.p, limit) {
-            if is_within(s.q, limit) {
-                return is_within(s.r, limit);
+    if is_within(s.constant, most) {
+        if is_within(s.p, most) {
+            if is_within(s.q, most) {
+                return is_within(s.r, most);
             }
         }
     }
@@ -120,11 +101,11 @@ fn narrow(x: Number) -> i32
     x.value as i32
 }
 
-// s as an expression, if each of its numbers lies from -limit to limit.
-pub(crate) fn judged(s: Sums, limit: i32) -> Inequality
-    ensures { λ r. ⌜ r ≡ inequality (judge limit (sums s)) ⌝ }
+// s as an expression, if each of its numbers lies from -most to most.
+pub(crate) fn judged(s: Sums, most: i32) -> Inequality
+    ensures { λ r. ⌜ r ≡ inequality (judge most (sums s)) ⌝ }
 {
-    if all_within(s, limit) {
+    if all_within(s, most) {
         return Inequality::Is(Expr {
             constant: narrow(s.constant),
             p: narrow(s.p),
@@ -133,6 +114,46 @@ pub(crate) fn judged(s: Sums, limit: i32) -> Inequality
         });
     }
     Inequality::Wide
+}
+
+impl Sums {
+    // s - 1.
+    pub(crate) fn less_one(self) -> Sums
+        requires { ⌜ SFits w64 (self .constant .value -ℤ pos 1) ⌝ }
+        ensures { λ r. ⌜ sums r ≡ lessOne (sums self) ⌝ }
+    {
+        let constant = self.constant;
+        let p = self.p;
+        let q = self.q;
+        let r = self.r;
+        Sums {
+            constant: Number {
+                value: constant.value - 1,
+            },
+            p,
+            q,
+            r,
+        }
+    }
+
+    // s + 1 where b, else s.
+    pub(crate) fn plus_one_where(self, b: bool) -> Sums
+        requires { ⌜ SFits w64 (self .constant .value +ℤ pos 1) ⌝ }
+        ensures { λ r. ⌜ sums r ≡ plusOneWhere b (sums self) ⌝ }
+    {
+        let constant = self.constant;
+        let p = self.p;
+        let q = self.q;
+        let r = self.r;
+        Sums {
+            constant: Number {
+                value: constant.value + b as i64,
+            },
+            p,
+            q,
+            r,
+        }
+    }
 }
 
 impl Expr {
@@ -149,6 +170,30 @@ impl Expr {
     {
         numbers::wide(self.constant)
             + (product(self.p, v.p) + (product(self.q, v.q) + product(self.r, v.r)))
+    }
+
+    // self + other, not judged.
+    pub(crate) fn plus(self, other: Expr) -> Sums
+        ensures { λ r. ⌜ sums r ≡ plus (affine self) (affine other) ⌝ }
+    {
+        Sums {
+            constant: sum(self.constant, other.constant),
+            p: sum(self.p, other.p),
+            q: sum(self.q, other.q),
+            r: sum(self.r, other.r),
+        }
+    }
+
+    // self - other, not judged.
+    pub(crate) fn less(self, other: Expr) -> Sums
+        ensures { λ r. ⌜ sums r ≡ minus (affine self) (affine other) ⌝ }
+    {
+        Sums {
+            constant: difference(self.constant, other.constant),
+            p: difference(self.p, other.p),
+            q: difference(self.q, other.q),
+            r: difference(self.r, other.r),
+        }
     }
 
     // The opposite of self ≥ 0, parameters being whole: -self - 1 ≥ 0. Its constant may lie one past the range of a test.

@@ -13,8 +13,8 @@ use Rattle.cursor.specs.Cursor.{byteField, signedField}
 use Rattle.cursor_laws.specs.Laws.{no, judged-right, byteField-right, signedField-right}
 use Rattle.guards.specs.declared.Guard.{Guard}
 use Rattle.guards.specs.declared.GuardsAt.{GuardsAt}
-use Rattle.guards.specs.Guards.{exprOf, boundOf, oneZero, rightField, coefficientField, guardAt, noGuard, blankGuard, blankGuards}
-use Rattle.guards.specs.Guards.{guardStep, guardsAt}
+use Rattle.guards.specs.Guards.{guardExpr, guardBound, oneZero, rightField, coefficientField, guardAt, noGuard, blankGuard}
+use Rattle.guards.specs.Guards.{blankGuards, guardStep, guardsAt}
 use Rattle.cursor_laws.specs.FilledLaws.{step, filled}
 use Rattle.cursor_laws.specs.Numbers.{small-number, zero-number}
 use Rattle.guards.specs.Right.{GuardRight, GuardsRight}
@@ -73,7 +73,7 @@ module _ (s : List ℕ) (end : ℕ) where
   guardAt-right :
       (parameters clocks : ℕ) (cursor : Cursor) → guardAt s end parameters clocks cursor .cursor .ok ≡ true →
       (cursor .ok ≡ true) × GuardRight parameters clocks (guardAt s end parameters clocks cursor .guard)
-  unfolding guardAt exprOf boundOf Coefficient
+  unfolding guardAt guardExpr guardBound Coefficient
   guardAt-right parameters clocks cursor h =
       let a = byteField s end 0 clocks cursor in
       let b = rightField s end clocks a in

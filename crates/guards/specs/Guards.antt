@@ -5,7 +5,7 @@ use mathlib.Core.List.{List}
 use mathlib.Core.Bool.{Bool, false, not, cond}
 use lib.ListN.{set, replicate}
 use lib.Dec.{ltb, eqb}
-use lib.IntN.{pos}
+use Rattle.expr.specs.Three.{zeroBound}
 use Rattle.expr.specs.declared.number.Expr.{Expr}
 use Rattle.expr.specs.declared.bound.Bound.{Bound}
 use Rattle.cursor.specs.declared.Cursor.{Cursor}
@@ -15,12 +15,12 @@ use Rattle.guards.specs.declared.GuardAt.{GuardAt}
 use Rattle.guards.specs.declared.GuardsAt.{GuardsAt}
 
 -- constant and three coefficients
-unfoldable pub exprOf : ℕ → ℕ → ℕ → ℕ → Expr
-exprOf constant p q r = record { constant = signedOf constant; p = signedOf p; q = signedOf q; r = signedOf r }
+unfoldable pub guardExpr : ℕ → ℕ → ℕ → ℕ → Expr
+guardExpr constant p q r = record { constant = signedOf constant; p = signedOf p; q = signedOf q; r = signedOf r }
 
 -- relation 0 is ≤, 1 is <; a guard's bound is never none
-unfoldable pub boundOf : ℕ → Expr → Bound
-boundOf relation expr = record { none = false; strict = eqb relation 1; expr = expr }
+unfoldable pub guardBound : ℕ → Expr → Bound
+guardBound relation expr = record { none = false; strict = eqb relation 1; expr = expr }
 
 -- exactly one of a, b is 0
 unfoldable pub oneZero : ℕ → ℕ → Bool
@@ -52,7 +52,7 @@ guardAt s end parameters clocks cursor =
           record {
             left = a .byte;
             right = b .byte;
-            bound = boundOf (relation .byte) (exprOf (constant .word) (p .word) (q .word) (r .word));
+            bound = guardBound (relation .byte) (guardExpr (constant .word) (p .word) (q .word) (r .word));
           };
     }
 
@@ -62,7 +62,7 @@ noGuard =
     record {
       left = 0;
       right = 0;
-      bound = record { none = false; strict = false; expr = record { constant = pos 0; p = pos 0; q = pos 0; r = pos 0 } };
+      bound = zeroBound;
     }
 
 -- what stands past the count

@@ -5,9 +5,9 @@ ghost use mathlib.Core.Path.{_≡_};
 ghost use Prim.Native.Nat.{_<_};
 ghost use Rattle.cursor.specs.Cursor.{signedOf};
 ghost use Rattle.guards.specs.Guards.{
-  exprOf,
+  guardExpr,
   oneZero,
-  boundOf,
+  guardBound,
   coefficientField,
   rightField,
   guardAt,
@@ -60,7 +60,7 @@ fn signed_of(word: u16) -> i32
 
 // An expression from its four fields.
 fn expr_of(constant: u16, p: u16, q: u16, r: u16) -> Expr
-    ensures { λ e. ⌜ e ≡ exprOf constant p q r ⌝ }
+    ensures { λ e. ⌜ e ≡ guardExpr constant p q r ⌝ }
 {
     Expr {
         constant: signed_of(constant),
@@ -98,7 +98,7 @@ fn coefficient_field(file: &[u8], end: usize, parameters: u8, index: u8, cursor:
 
 // The bound of a guard: relation 0 is at most, 1 is below.
 fn bound_of(relation: u8, expr: Expr) -> Bound
-    ensures { λ r. ⌜ r ≡ boundOf relation expr ⌝ }
+    ensures { λ r. ⌜ r ≡ guardBound relation expr ⌝ }
 {
     Bound {
         none: false,

@@ -1,4 +1,5 @@
--- Floor division of ℤ for every divisor: what it is by the orders, how large it is, and how code computes it from the quotient toward zero.
+-- Floor division of ℤ for every divisor: what it is by the orders, how large it is, and how code computes it from the quotient toward
+-- zero.
 use mathlib.Core.Path.{_≡_, refl, ap, _∙_}
 use mathlib.Core.Logic.{_↔_}
 use Prim.Native.Nat.{ℕ, suc, _+_, _*_, _/_, _^_, _<_, _≤_}

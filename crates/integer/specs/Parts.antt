@@ -1,6 +1,7 @@
--- The parts of an integer, and what each operation and each order of ℤ says of them over ℕ.
--- An integer x is p x - n x, one of the two being 0. `omega` reads ℕ alone; by the laws below it proves orders of ℤ from orders of ℤ.
--- Inside a larger proof: `omega (zs, +-parts x z, +-parts y z)`, one law for each sum, difference, negation, product and number written out (`pos-parts 1`) that stands in the goal or in a hypothesis.
+-- The parts of an integer, and what each operation and each order of ℤ says of them over ℕ. An integer x is p x - n x, one of the two
+-- being 0. `omega` reads ℕ alone; by the laws below it proves orders of ℤ from orders of ℤ. Inside a larger proof: `omega (zs, +-parts x
+-- z, +-parts y z)`, one law for each sum, difference, negation, product and number written out (`pos-parts 1`) that stands in the goal or
+-- in a hypothesis.
 use mathlib.Core.Path.{_≡_, refl, ap}
 use mathlib.Core.Bool.{Bool, true, false, not, cond}
 use Prim.Native.Nat.{ℕ, zero, suc, _+_, _*_, _-_, _^_, _<_, _≤_}

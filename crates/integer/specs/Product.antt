@@ -79,7 +79,8 @@ sum-size x y {A} {B} h k =
 pub product-size : (x y : ℤ) {A B : ℕ} → p x + n x ≤ A → p y + n y ≤ B → p (x *ℤ y) + n (x *ℤ y) ≤ A * B
 product-size x y h k = rw *-size (mul-le-mul h k)
 
-pub product-within : {x y : ℤ} {A B : ℕ} → negℤ (pos A) ≤ℤ x → x ≤ℤ pos A → negℤ (pos B) ≤ℤ y → y ≤ℤ pos B → (negℤ (pos (A * B)) ≤ℤ (x *ℤ y)) × ((x *ℤ y) ≤ℤ pos (A * B))
+pub product-within : {x y : ℤ} {A B : ℕ} → negℤ (pos A) ≤ℤ x → x ≤ℤ pos A → negℤ (pos B) ≤ℤ y → y ≤ℤ pos B
+    → (negℤ (pos (A * B)) ≤ℤ (x *ℤ y)) × ((x *ℤ y) ≤ℤ pos (A * B))
 product-within {x} {y} h₁ h₂ k₁ k₂ =
     (size-low (product-size x y (size-in h₁ h₂) (size-in k₁ k₂)), size-high (product-size x y (size-in h₁ h₂) (size-in k₁ k₂)))
 
@@ -97,7 +98,8 @@ size-fits w (negsuc a) h = record { sfits = omega arith }
 pub product-fits : {x y : ℤ} → SFits w32 x → SFits w16 y → SFits w64 (x *ℤ y)
 product-fits {x} {y} h k = size-fits w64 (x *ℤ y) (omega (arith, product-size x y (fits-size h) (fits-size k)))
 
-pub product-range : {v w : Width} {x y : ℤ} → SFits v x → SFits w y → (negℤ (pos (2 ^ hbits v * 2 ^ hbits w)) ≤ℤ (x *ℤ y)) × ((x *ℤ y) ≤ℤ pos (2 ^ hbits v * 2 ^ hbits w))
+pub product-range : {v w : Width} {x y : ℤ} → SFits v x → SFits w y
+    → (negℤ (pos (2 ^ hbits v * 2 ^ hbits w)) ≤ℤ (x *ℤ y)) × ((x *ℤ y) ≤ℤ pos (2 ^ hbits v * 2 ^ hbits w))
 product-range {x} {y} h k =
     (size-low (product-size x y (fits-size h) (fits-size k)), size-high (product-size x y (fits-size h) (fits-size k)))
 

@@ -1,6 +1,6 @@
--- Split and simplify: a goal that is linear over ℤ, with its Bool tests, its equations and `SFits`, becomes one over ℕ, which `omega` decides.
--- Each integer variable is split into its parts, `x ≡ p x ⊖ n x`, and the rules of `split-all` push the differences out of every operation and order:
--- `lemma x y = rw (split x, split y) (simp split-all (omega arith))`, the hypotheses being arrows of the goal.
+-- Split and simplify: a goal that is linear over ℤ, with its Bool tests, its equations and `SFits`, becomes one over ℕ, which `omega`
+-- decides. Each integer variable is split into its parts, `x ≡ p x ⊖ n x`, and the rules of `split-all` push the differences out of every
+-- operation and order: `lemma x y = rw (split x, split y) (simp split-all (omega arith))`, the hypotheses being arrows of the goal.
 use mathlib.Core.Path.{_≡_, ap}
 use mathlib.Core.Logic.{_↔_}
 use mathlib.Core.Bool.{true, false}

@@ -11,18 +11,15 @@ use windows::Piece;
 
 // The line of the counts. It answers whether all was written, as each function below does.
 fn print_counts(counts: Counts) -> bool {
-    text::word(b"pieces")
-        && text::number(counts.pieces)
-        && text::word(b" kept")
-        && text::number(counts.kept)
-        && text::word(b" cut")
-        && text::number(counts.cut)
+    text::named(b"pieces", counts.pieces)
+        && text::named(b" kept", counts.kept)
+        && text::named(b" cut", counts.cut)
         && text::word(b"\n")
 }
 
 // The lines of the first zones of a table, that many.
 fn print_zones(table: [Piece; 40], pieces: usize, clocks: usize) -> bool {
-    let n = zone::at_most(pieces, 32);
+    let n = numbers::at_most(pieces, 32);
     let mut k = 0;
     while k < n {
         let z = table[k];
@@ -36,10 +33,8 @@ fn print_zones(table: [Piece; 40], pieces: usize, clocks: usize) -> bool {
 
 // The line of a refusal.
 fn print_refusal(answer: Answer) -> bool {
-    text::word(b"refused")
-        && text::number(answers::windows::number(answer))
-        && text::word(b" place")
-        && text::number(answers::windows::place(answer))
+    text::named(b"refused", answers::windows::number(answer))
+        && text::named(b" place", answers::windows::place(answer))
         && text::word(b"\n")
 }
 

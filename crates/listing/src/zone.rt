@@ -1,20 +1,9 @@
-// A zone (paper: piece) on standard output: its inequalities, and the bounds of clock 0 and the sheet's clocks. Each function answers whether
-// all was written.
+// A zone (paper: piece) on standard output: its inequalities, and the bounds of clock 0 and the sheet's clocks. Each function
+// answers whether all was written.
 use crate::text;
 use expr::Bound;
 use expr::Expr;
 use windows::Piece;
-ghost use Prim.Native.Nat.{_<_, _≤_};
-
-// n, or most where n is more.
-pub(crate) fn at_most(n: usize, most: usize) -> usize
-    ensures { λ r. ⌜ r ≤ most ⌝ }
-{
-    if n < most {
-        return n;
-    }
-    most
-}
 
 // The constant and the three coefficients.
 fn print_expr(e: Expr) -> bool {
@@ -28,7 +17,7 @@ fn print_inequality(e: Expr) -> bool {
 
 // The lines of a zone's inequalities.
 fn print_inequalities(z: Piece) -> bool {
-    let n = at_most(z.count, 24);
+    let n = numbers::at_most(z.count, 24);
     let mut i = 0;
     while i < n {
         let e = z.ineqs[i];
@@ -46,56 +35,34 @@ fn print_relation(b: Bound) -> bool {
         return text::word(b" none");
     }
     let e = b.expr;
-    if b.strict {
-        return text::word(b" lt") && print_expr(e);
-    }
-    text::word(b" le") && print_expr(e)
+    let relation = if b.strict {
+        text::word(b" lt")
+    } else {
+        text::word(b" le")
+    };
+    relation && print_expr(e)
 }
 
 // The line of the bound on clock i - clock j.
 fn print_bound(i: usize, j: usize, b: Bound) -> bool {
-    text::word(b"bound")
-        && text::number(i)
-        && text::number(j)
-        && print_relation(b)
-        && text::word(b"\n")
+    text::named(b"bound", i) && text::number(j) && print_relation(b) && text::word(b"\n")
 }
 
-// The lines of row i, up to the last clock.
-fn print_row(z: Piece, i: usize, last: usize) -> bool
-    requires { ⌜ (i ≤ 4) × (last ≤ 4) ⌝ }
-{
-    let mut j = 0;
-    while j <= last {
-        let b = z.bounds[5 * i + j];
-        if !print_bound(i, j, b) {
+// The lines of the bounds in row order, up to the last clock.
+fn print_bounds(z: Piece, last: usize) -> bool {
+    for k in 0..25 {
+        let b = z.bounds[k];
+        if k / 5 <= last && k % 5 <= last && !print_bound(k / 5, k % 5, b) {
             return false;
         }
-        j += 1;
-    }
-    true
-}
-
-// The lines of all rows, up to the last clock.
-fn print_rows(z: Piece, last: usize) -> bool
-    requires { ⌜ last ≤ 4 ⌝ }
-{
-    let mut i = 0;
-    while i <= last {
-        if !print_row(z, i, last) {
-            return false;
-        }
-        i += 1;
     }
     true
 }
 
 // The lines of zone k of a sheet with so many clocks.
 pub(crate) fn print_zone(k: usize, z: Piece, clocks: usize) -> bool {
-    let last = at_most(clocks, 4);
-    text::word(b"piece")
-        && text::number(k)
+    text::named(b"piece", k)
         && text::word(b"\n")
         && print_inequalities(z)
-        && print_rows(z, last)
+        && print_bounds(z, clocks)
 }

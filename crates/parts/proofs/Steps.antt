@@ -1,7 +1,7 @@
 -- The cases of the code's steps, with the branches' tests.
 use mathlib.Core.Path.{_≡_, refl, sym, ap, _∙_}
 use mathlib.Core.List.{List}
-use mathlib.Core.Bool.{Bool, true, false}
+use mathlib.Core.Bool.{Bool, true, false, cond}
 use Prim.Native.Nat.{ℕ, _+_, _-_, _≤_, _<_}
 use borrow.Author.Tests.{lt-ltb, le-ltb}
 use lib.ListN.{length}
@@ -9,7 +9,6 @@ use lib.Seq.{set-out}
 use Rattle.expr.specs.declared.bound.Bound.{Bound}
 use Rattle.expr.specs.declared.bound.Test.{Test}
 use Rattle.expr.specs.declared.range.Ranges.{Ranges}
-use Rattle.zones.specs.Zone.{pick}
 use Rattle.parts.specs.Parts.{pushedC, answeredC, haltedC, forwardC, standing, putC, withBounds}
 use Rattle.constrain.specs.Rules.{viaBound, viaC, askC}
 use Rattle.zones.specs.Settled.{settledC}
@@ -24,14 +23,15 @@ put-past p x b h =
     (sym (set-out (p .zone .bounds) x b h))
 
 -- ---- parts
-pub entered-yes : (r : Rule) (p : Part) (x : ℕ) (b : Bool) (via : Bound) (q : Part) → b ≡ true → via ≡ viaBound (viaC r x) → q ≡ putC p x via
-    → q ≡ pick b (putC p x (viaBound (viaC r x))) p
+pub entered-yes : (r : Rule) (p : Part) (x : ℕ) (b : Bool) (via : Bound) (q : Part) → b ≡ true → via ≡ viaBound (viaC r x)
+    → q ≡ putC p x via
+    → q ≡ cond b (putC p x (viaBound (viaC r x))) p
 entered-yes r p x b via q h e k = rw h (k ∙ ap (λ (v : Bound). putC p x v) e)
 
-pub entered-no : (p a : Part) (b : Bool) → b ≡ false → p ≡ pick b a p
+pub entered-no : (p a : Part) (b : Bool) → b ≡ false → p ≡ cond b a p
 entered-no p a b h = rw h refl
 
-module _ (r : Rule) (p : Part) (x : ℕ) (b : Bool) (q : Part) (hq : q ≡ pick b (putC p x (viaBound (viaC r x))) p) where
+module _ (r : Rule) (p : Part) (x : ℕ) (b : Bool) (q : Part) (hq : q ≡ cond b (putC p x (viaBound (viaC r x))) p) where
   pub pushed-on : x < 24 → standing q (x + 3) 0 ≡ pushedC r p x b
   unfolding pushedC
   pushed-on h = rw (lt-ltb x 24 h) (ap (λ (a : Part). standing a (x + 3) 0) hq)

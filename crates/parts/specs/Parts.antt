@@ -1,6 +1,6 @@
 -- A part of a zone on its way through the tests of a guard: one test, and the two parts of a split, on the code's records.
 use mathlib.Core.List.{List}
-use mathlib.Core.Bool.{Bool, true, false}
+use mathlib.Core.Bool.{Bool, true, false, cond}
 use Prim.Native.Nat.{ℕ, _+_, _-_}
 use lib.Dec.{ltb}
 use lib.ListN.{set}
@@ -11,7 +11,7 @@ use Rattle.expr.specs.declared.number.Expr.{Expr}
 use Rattle.expr.specs.declared.range.Ranges.{Ranges}
 use Rattle.parts.specs.declared.part.Part.{Part}
 use Rattle.zones.specs.Settled.{oppositeC, settledC}
-use Rattle.zones.specs.Zone.{pick, moreC}
+use Rattle.zones.specs.Zone.{moreC}
 use Rattle.zones.specs.declared.settle.Verdict.{Verdict}
 use Rattle.zones.specs.declared.zone.Zone.{Zone}
 
@@ -26,13 +26,13 @@ putC p x b = record { phase = p .phase; halt = p .halt; test = p .test; zone = w
 
 unfoldable pub pushedC : Rule → Part → ℕ → Bool → Part
 pushedC r p x b =
-    let q = pick b (putC p x (viaBound (viaC r x))) p in
-    pick (ltb x 24) (standing q (x + 3) 0) (standing q 27 2)
+    let q = cond b (putC p x (viaBound (viaC r x))) p in
+    cond (ltb x 24) (standing q (x + 3) 0) (standing q 27 2)
 
 unfoldable pub answeredC : Rule → Part → Bool → Part
 answeredC r p b =
-    pick (ltb (p .phase) 1) (pick b (standing p 27 1) (standing p 1 0))
-    (pick (ltb (p .phase) 2) (pick b (standing p 2 0) (standing p 27 2)) (pushedC r p (p .phase - 2) b))
+    cond (ltb (p .phase) 1) (cond b (standing p 27 1) (standing p 1 0))
+    (cond (ltb (p .phase) 2) (cond b (standing p 2 0) (standing p 27 2)) (pushedC r p (p .phase - 2) b))
 
 abbrev pub haltedC : Part → Verdict → Part
 haltedC p v = record { phase = p .phase; halt = v .kind; test = v .test; zone = p .zone }
@@ -40,7 +40,7 @@ haltedC p v = record { phase = p .phase; halt = v .kind; test = v .test; zone = 
 unfoldable pub forwardC : Ranges → Rule → Part → Part
 forwardC b r p =
     let v = settledC b (p .zone) (askC r (p .phase)) in
-    pick (ltb (v .kind) 1) (answeredC r p false) (pick (ltb (v .kind) 2) (answeredC r p true) (haltedC p v))
+    cond (ltb (v .kind) 1) (answeredC r p false) (cond (ltb (v .kind) 2) (answeredC r p true) (haltedC p v))
 
 -- the two parts of a split
 abbrev pub withMore : Part → Expr → Part

@@ -1,4 +1,5 @@
 // A part of a zone on its way through the tests of a guard.
+ghost use mathlib.Core.Bool.{cond};
 use constrain::Rule;
 use expr::Bound;
 use expr::Expr;
@@ -8,10 +9,9 @@ use zones::Zone;
 ghost use mathlib.Core.Path.{_≡_};
 ghost use Rattle.constrain.specs.Rules.{viaC, viaBound};
 ghost use Rattle.parts.specs.Parts.{standing, putC, pushedC, answeredC, forwardC, yesC, noC};
-ghost use Rattle.zones.specs.Zone.{pick};
 
-// A part: the test that comes next (27: none); whether it goes on (0), is cut (1), is kept (2), splits by the test (3), or is refused (8, 9);
-// and its zone, whose matrix is the new one.
+// A part: the test that comes next (27: none); whether it goes on (0), is cut (1), is kept (2), splits by the test (3), or is refused
+// (8, 9); and its zone, whose matrix is the new one.
 pub struct Part {
     pub phase: usize,
     pub halt: usize,
@@ -53,7 +53,7 @@ fn put(p: Part, x: usize, b: Bound) -> Part
 
 // The part with the entry x put in where it is tighter.
 fn entered(r: Rule, p: Part, x: usize, yes: bool) -> Part
-    ensures { λ q. ⌜ q ≡ pick yes (putC p x (viaBound (viaC r x))) p ⌝ }
+    ensures { λ q. ⌜ q ≡ cond yes (putC p x (viaBound (viaC r x))) p ⌝ }
 {
     if yes {
         return put(p, x, constrain::via_bound(r, x));

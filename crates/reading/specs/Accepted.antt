@@ -16,7 +16,7 @@ use Rattle.answers.specs.Numbers.{numbered}
 use Rattle.parameters.specs.Parameters.{parametersAt}
 use Rattle.automaton.specs.Automaton.{locationsAt, transitionsAt}
 use Rattle.route.specs.Route.{routeAt, linksOf}
-use Rattle.reading.specs.File.{Fine, blankSheet, Read, readAs, refusedBy, bodiesOf, judgedRoute, judgedBodies, readOf}
+use Rattle.reading.specs.File.{Fine, blankSheet, Read, readAs, refusedBy, bodiesOf, judgedRoute, judgedBodies, readOf, TwoToFive}
 use Rattle.sheet.specs.WellFormed.{WellFormed}
 use Rattle.parameters.specs.ParameterLaws.{parametersAt-right}
 use Rattle.automaton.specs.AutomatonLaws.{locationsAt-right, transitionsAt-right}
@@ -116,9 +116,6 @@ reading-well-formed s reading e h =
     subst WellFormed (sym (ap (λ (x : Read). x .sheet) e)) (read-well-formed s (subst Fine e h))
 
 -- ---- the refusals that a file meets
-abbrev pub TwoToFive : ℕ → Type 0
-TwoToFive n = (n ≡ 2) ⊎ (n ≡ 3) ⊎ (n ≡ 4) ⊎ (n ≡ 5)
-
 abbrev Met : Read → Type 0
 Met x = (x .answer .number ≡ 0) ⊎ TwoToFive (x .answer .number)
 
@@ -136,5 +133,6 @@ read-numbered s =
     met-cases (sized s) _ 2 0 (inl refl)
     (met-cases (contents .cursor .ok) _ 3 (contents .cursor .at) (inr (inl refl))
     (met-cases (bodies .cursor .ok) _ 4 (bodies .cursor .at) (inr (inr (inl refl)))
-    (met-cases (link .ok) (record { answer = numbered 0 0; sheet = bodies .sheet }) 5 (contents .third + 1 + link .index) (inr (inr (inr refl)))
+    (met-cases (link .ok) (record { answer = numbered 0 0; sheet = bodies .sheet }) 5 (contents .third + 1 + link .index)
+    (inr (inr (inr refl)))
     (inl refl))))

@@ -11,8 +11,8 @@ use Rattle.cursor.specs.Cursor.{signedField, finished, iterate}
 use Rattle.contents.specs.Contents.{sized, entryField, headOf, oneOf, firstOf, twoOf, secondOf, threeOf, thirdOf, fourOf, contentsOf}
 use Rattle.guards.specs.declared.Guard.{Guard}
 use Rattle.sheet.specs.declared.Sheet.{Sheet}
-use Rattle.guards.specs.Guards.{exprOf, boundOf, oneZero, rightField, coefficientField, guardAt, blankGuard, blankGuards, guardStep}
-use Rattle.guards.specs.Guards.{guardsAt}
+use Rattle.guards.specs.Guards.{guardExpr, guardBound, oneZero, rightField, coefficientField, guardAt, blankGuard, blankGuards}
+use Rattle.guards.specs.Guards.{guardStep, guardsAt}
 use Rattle.parameters.specs.Parameters.{blankRange, rangeOf, highestRight, highestField, rangeAt, parametersAt}
 use Rattle.automaton.specs.Automaton.{blankLocation, blankLocations, locationStep, locationsRead, locationsAt, resetsRight, resetsField}
 use Rattle.automaton.specs.Automaton.{transitionAt, blankTransition, blankTransitions, transitionStep, transitionsRead, transitionsAt}
@@ -93,7 +93,7 @@ pub record Examples : Type 0 where
 pub examples : Examples
 unfolding sheetA contentsA bytesP bytesThree guardP guardThree readA bare shifted judged byteTaken wordTaken signedTaken byteField
     wordField signedField finished iterate sized entryField headOf oneOf firstOf twoOf secondOf threeOf thirdOf fourOf contentsOf
-    signedOf exprOf boundOf oneZero rightField coefficientField guardAt blankGuard blankGuards guardStep guardsAt rangeOf
+    signedOf guardExpr guardBound oneZero rightField coefficientField guardAt blankGuard blankGuards guardStep guardsAt rangeOf
     highestRight highestField rangeAt parametersAt blankLocation blankLocations locationStep locationsRead locationsAt belowField
     resetsRight resetsField transitionAt blankTransition blankTransitions transitionStep transitionsRead transitionsAt routeStep
     routeRead routeAt endsAt linkStep linksOf blankSheet refusedBy bodiesOf judgedRoute judgedBodies readOf

@@ -1,6 +1,7 @@
 -- The whole file (paper 01, "The sheet file", and rows 2 to 5 of "When no piece is given"): checked 2 to 5 in order, the whole file for
 -- each.
 use mathlib.Core.Path.{_≡_}
+use mathlib.Core.Logic.{_⊎_}
 use Prim.Native.Nat.{ℕ, _+_}
 use mathlib.Core.List.{List}
 use mathlib.Core.Bool.{cond}
@@ -89,3 +90,7 @@ readOf s =
 -- a file that is not refused
 abbrev pub Fine : Read → Type 0
 Fine x = x .answer .number ≡ 0
+
+-- the refusals of a file
+abbrev pub TwoToFive : ℕ → Type 0
+TwoToFive n = (n ≡ 2) ⊎ (n ≡ 3) ⊎ (n ≡ 4) ⊎ (n ≡ 5)

@@ -1,16 +1,16 @@
 -- An expression at a corner of the ranges, one parameter at 0, is the constant of its line in that parameter.
-use mathlib.Core.Path.{_≡_, refl, sym, _∙_, ap, subst}
-use mathlib.Core.Bool.{Bool, true, false}
-use mathlib.Core.List.{List, [], _∷_}
+use mathlib.Core.Path.{_≡_, refl}
+use mathlib.Core.Bool.{Bool, true, false, cond}
+use mathlib.Core.List.{[], _∷_}
 use native.Mathlib.Omega.{arith}
-use lib.IntN.{ℤ, pos, negℤ, _+ℤ_, _*ℤ_, *ℤ-zero, +ℤ-idl, +ℤ-idr, +ℤ-assoc}
-use lib.Signed.{leZ, _≤ℤ_}
-use mir.Syntax.{w16, w32, w64}
+use lib.IntN.{ℤ, pos, _+ℤ_, _*ℤ_, *ℤ-zero}
+use lib.Signed.{leZ}
+use mir.Syntax.{w16, w32}
 use mir.Val.{SFits, toZ, ofZ}
 use mir.ValLaws.{toZ-ofZ}
 use Rattle.integer.specs.Product.{product-range, Small}
 use Rattle.integer.specs.Split.{split, split-all}
-use Rattle.expr.specs.Affine.{Affine, value, dot, pickZ}
+use Rattle.expr.specs.Affine.{value, dot}
 use Rattle.search.specs.Interval.{Tame, interval, end, best, bestSum, fix, fixL, narrowL, narrow}
 use Rattle.expr.specs.Three.{affine}
 use Rattle.expr.specs.declared.number.Expr.{Expr}
@@ -35,12 +35,18 @@ tame-at x y e t = rw e at t
 pub same-fits : {x : ℤ} → SFits w16 x → SFits w16 (toZ w16 (ofZ w16 x))
 same-fits {x} f = rw (toZ-ofZ w16 x f) f
 
--- what `interval` asks, at locals
-pub asks-interval : (c a cb ab : ℤ) → cb ≡ c → ab ≡ a → Tame c → Tame a → Tame cb × Tame ab
-asks-interval c a cb ab ec ea t u = rw (ec, ea) (t, u)
+-- what `interval` is asked, a constant c and a slope a, each held as its bits
+pub record Asks (c a cb ab : ℤ) : Type 0 where
+  pub constant : cb ≡ c
+  pub slope : ab ≡ a
+  pub constant-tame : Tame c
+  pub slope-tame : Tame a
 
-pub interval-at : (x r : Range) (c a cb ab : ℤ) → x ≡ interval r cb ab → cb ≡ c → ab ≡ a → x ≡ interval r c a
-interval-at x r c a cb ab e ec ea = rw (ec, ea) at e
+pub asks-interval : {c a cb ab : ℤ} → Asks c a cb ab → Tame cb × Tame ab
+asks-interval h = rw (h .constant, h .slope) (h .constant-tame, h .slope-tame)
+
+pub interval-at : (x r : Range) {c a cb ab : ℤ} → x ≡ interval r cb ab → Asks c a cb ab → x ≡ interval r c a
+interval-at x r e h = rw (h .constant, h .slope) at e
 
 -- the end of a range, at a coefficient that was passed as its bits
 pub end-at : (x c : ℤ) (r : Range) → x ≡ end (toZ w32 (ofZ w32 c)) r → SFits w32 c → x ≡ end c r
@@ -49,7 +55,7 @@ end-at x c r e f = rw (toZ-ofZ w32 c f) at e
 mul-end : (c : ℤ) (r : Range) → c *ℤ end c r ≡ best c r
 mul-end c r = by (leZ (pos 0) c)
   where
-    by : (b : Bool) → c *ℤ pickZ b (r .high) (r .low) ≡ pickZ b (c *ℤ r .high) (c *ℤ r .low)
+    by : (b : Bool) → c *ℤ cond b (r .high) (r .low) ≡ cond b (c *ℤ r .high) (c *ℤ r .low)
     by true = refl
     by false = refl
 
@@ -79,14 +85,17 @@ module _ (e : Expr) where
   unfolding value dot bestSum
   corner-r x x′ y y′ ex ey = rw (ex, ey, *ℤ-zero (e .r)) (drop-third (e .constant) (e .p *ℤ x′) (e .q *ℤ y′))
 
-  pub narrow-p : (r Q R : Range) → interval r (e .constant +ℤ bestSum (e .q ∷ e .r ∷ []) (Q ∷ R ∷ [])) (e .p) ≡ narrow (affine e) r (Q ∷ R ∷ [])
+  pub narrow-p : (r Q R : Range)
+      → interval r (e .constant +ℤ bestSum (e .q ∷ e .r ∷ []) (Q ∷ R ∷ [])) (e .p) ≡ narrow (affine e) r (Q ∷ R ∷ [])
   unfolding narrowL
   narrow-p r Q R = refl
 
-  pub narrow-q : (r R : Range) (x : ℤ) → interval r ((e .constant +ℤ (e .p *ℤ x)) +ℤ bestSum (e .r ∷ []) (R ∷ [])) (e .q) ≡ narrow (fix x (affine e)) r (R ∷ [])
+  pub narrow-q : (r R : Range) (x : ℤ)
+      → interval r ((e .constant +ℤ (e .p *ℤ x)) +ℤ bestSum (e .r ∷ []) (R ∷ [])) (e .q) ≡ narrow (fix x (affine e)) r (R ∷ [])
   unfolding narrowL fix fixL
   narrow-q r R x = refl
 
-  pub narrow-r : (r : Range) (x y : ℤ) → interval r (((e .constant +ℤ (e .p *ℤ x)) +ℤ (e .q *ℤ y)) +ℤ bestSum [] []) (e .r) ≡ narrow (fix y (fix x (affine e))) r []
+  pub narrow-r : (r : Range) (x y : ℤ)
+      → interval r (((e .constant +ℤ (e .p *ℤ x)) +ℤ (e .q *ℤ y)) +ℤ bestSum [] []) (e .r) ≡ narrow (fix y (fix x (affine e))) r []
   unfolding narrowL fix fixL
   narrow-r r x y = refl

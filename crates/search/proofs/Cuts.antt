@@ -1,17 +1,17 @@
 -- The branches that cut a range, at locals that hold its ends and the place of the cut.
-use mathlib.Core.Path.{_≡_, refl, sym, _∙_}
-use mathlib.Core.Bool.{Bool, true, false}
+use mathlib.Core.Path.{_≡_, refl}
+use mathlib.Core.Bool.{Bool, true, false, cond}
 use native.Mathlib.Omega.{arith}
 use lib.IntN.{ℤ, pos, negsuc, negℤ}
 use lib.Dec.{leb→le, ltb→lt}
 use lib.Signed.{leZ, ltZ, _≤ℤ_, _<ℤ_}
 use Prim.Native.Nat.{zero, suc}
 use Rattle.integer.specs.Floor.{floorZ}
-use mir.Syntax.{w16, w64}
-use mir.Val.{SFits, toZ, ofZ}
+use mir.Syntax.{w16}
+use mir.Val.{SFits}
 use Rattle.integer.specs.Order.{ltZ-true, ltZ-false}
 use Rattle.integer.specs.Split.{split, split-all}
-use Rattle.search.specs.Interval.{Tame, EMPTY, pickR, from, upTo, interval, end}
+use Rattle.search.specs.Interval.{Tame, EMPTY, from, upTo, interval, end}
 use Rattle.expr.specs.declared.range.Range.{Range}
 
 -- a test at locals that hold its numbers
@@ -60,16 +60,16 @@ interval-down r c (pos zero) h = absurd (h .lt)
 interval-down r c (pos (suc n)) h = absurd (omega (arith, ltb→lt (suc n) 0 (h .lt)))
 interval-down r c (negsuc n) h = refl
 
-pub interval-flat : (r : Range) (c a : ℤ) → a ≤ℤ pos 0 → pos 0 ≤ℤ a → pickR (leZ (pos 0) c) r EMPTY ≡ interval r c a
+pub interval-flat : (r : Range) (c a : ℤ) → a ≤ℤ pos 0 → pos 0 ≤ℤ a → cond (leZ (pos 0) c) r EMPTY ≡ interval r c a
 unfolding interval
 interval-flat r c (pos zero) h k = refl
 interval-flat r c (pos (suc n)) h k = absurd (omega (arith, leb→le (suc n) 0 (h .le)))
 interval-flat r c (negsuc n) h k = absurd (k .le)
 
-pub flat-yes : (r : Range) (c : ℤ) → leZ (pos 0) c ≡ true → r ≡ pickR (leZ (pos 0) c) r EMPTY
+pub flat-yes : (r : Range) (c : ℤ) → leZ (pos 0) c ≡ true → r ≡ cond (leZ (pos 0) c) r EMPTY
 flat-yes r c h = rw h refl
 
-pub flat-no : (r : Range) (c : ℤ) → leZ (pos 0) c ≡ false → EMPTY ≡ pickR (leZ (pos 0) c) r EMPTY
+pub flat-no : (r : Range) (c : ℤ) → leZ (pos 0) c ≡ false → EMPTY ≡ cond (leZ (pos 0) c) r EMPTY
 flat-no r c h = rw h refl
 
 -- what a callee says of a cut at a local

@@ -1,14 +1,13 @@
 -- Division in the code: of numbers that are far from the ends of 64 bits nothing wraps, and the quotient rounded down is `floorZ`.
-use mathlib.Core.Path.{_≡_, refl, sym, _∙_, ap, subst}
-use mathlib.Core.Bool.{Bool, true, false}
-use Prim.Native.Nat.{ℕ, zero, suc, _<_}
+use mathlib.Core.Path.{_≡_, refl, sym}
+use mathlib.Core.Bool.{true, false}
+use Prim.Native.Nat.{zero, suc, _<_}
 use native.Mathlib.Omega.{arith}
-use lib.IntN.{ℤ, pos, negsuc, negℤ, _+ℤ_, _-ℤ_}
+use lib.IntN.{ℤ, pos, negsuc, negℤ, _-ℤ_}
 use lib.Dec.{leb→le}
 use lib.Signed.{leZ, ltZ, _≤ℤ_, _<ℤ_, quotZ}
 use mir.Syntax.{w64}
-use mir.Val.{SFits, toZ, ofZ}
-use mir.ValLaws.{toZ-ofZ}
+use mir.Val.{SFits, ofZ}
 use Rattle.integer.specs.Floor.{floorZ, floor-quot, floor-quot-neg, floor-turn, floor-fits, floor-within}
 use Rattle.integer.specs.Order.{leZ-true, leZ-false, ltZ-true, ltZ-false}
 use Rattle.integer.specs.Split.{split, split-all, zero-minus}

@@ -1,7 +1,7 @@
 -- The loops over the inequalities: what is left of the list, from i on, narrows the range to what the whole list does.
 use mathlib.Core.Path.{_≡_, refl, sym, _∙_, ap}
 use mathlib.Core.List.{List, [], _∷_, map}
-use Prim.Native.Nat.{ℕ, zero, suc, _+_, _≤_, _<_, min}
+use Prim.Native.Nat.{ℕ, suc, _+_, _≤_, _<_, min}
 use native.Mathlib.Numerals.{add-one}
 use native.Mathlib.Omega.{arith}
 use lib.ListN.{length, getD, take, drop, length-take, drop-of-length-le}
@@ -20,19 +20,22 @@ pub size-is : (n k : ℕ) (xs : List Expr) → n ≡ min k 25 → length xs ≡ 
 size-is n k xs e l = (omega arith, rw (length-take k xs, l) e)
 
 module _ (g : Expr → Affine) (rs : List Range) where
-  narrow-cons : (l : List Expr) (e : Expr) (rest : List Expr) (r : Range) → l ≡ e ∷ rest → narrowed (map g l) r rs ≡ narrowed (map g rest) (narrow (g e) r rs) rs
+  narrow-cons : (l : List Expr) (e : Expr) (rest : List Expr) (r : Range) → l ≡ e ∷ rest
+      → narrowed (map g l) r rs ≡ narrowed (map g rest) (narrow (g e) r rs) rs
   unfolding narrowed
   narrow-cons l e rest r h = rw h refl
 
   -- one turn
   pub narrow-turn : (xs : List Expr) (k i : ℕ) (r r′ w : Range) (d : Expr) → i < length (take k xs)
-      → narrowed (map g (drop i (take k xs))) r rs ≡ w → r′ ≡ narrow (g (getD xs i d)) r rs → narrowed (map g (drop (i + 1) (take k xs))) r′ rs ≡ w
+      → narrowed (map g (drop i (take k xs))) r rs ≡ w → r′ ≡ narrow (g (getD xs i d)) r rs
+      → narrowed (map g (drop (i + 1) (take k xs))) r′ rs ≡ w
   narrow-turn xs k i r r′ w d h e f =
       let m : i < k = omega (arith, length-take k xs) in
       rw (add-one i, f, ← getD-take k xs i d m)
       (sym (narrow-cons (drop i (take k xs)) (getD (take k xs) i d) (drop (suc i) (take k xs)) r (drop-cons (take k xs) i d h)) ∙ e)
 
   -- the end
-  pub narrow-done : (xs : List Expr) (k i : ℕ) (r w : Range) → length (take k xs) ≤ i → narrowed (map g (drop i (take k xs))) r rs ≡ w → r ≡ w
+  pub narrow-done : (xs : List Expr) (k i : ℕ) (r w : Range) → length (take k xs) ≤ i → narrowed (map g (drop i (take k xs))) r rs ≡ w
+      → r ≡ w
   unfolding narrowed
   narrow-done xs k i r w h e = rw (drop-of-length-le (take k xs) h) at e

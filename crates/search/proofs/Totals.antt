@@ -1,20 +1,19 @@
 -- The loops over a range's members: what was found so far, with what is left from i on, is the whole.
-use mathlib.Core.Path.{_≡_, refl, sym, _∙_, ap}
+use mathlib.Core.Path.{_≡_, refl, sym, _∙_}
 use mathlib.Core.List.{List, [], _∷_, map}
 use mathlib.Core.Option.{Option, none, some}
-use Prim.Native.Nat.{ℕ, zero, suc, _+_, _-_, _≤_, _<_}
-use native.Mathlib.Numerals.{add-one}
+use Prim.Native.Nat.{ℕ, suc, _+_, _-_, _≤_, _<_}
 use native.Mathlib.Omega.{arith}
 use mathlib.Core.Bool.{Bool, true, false}
 use lib.Signed.{leZ}
 use Rattle.integer.specs.Order.{leZ-true, leZ-false}
 use lib.IntN.{ℤ, pos, _+ℤ_, +ℤ-idr}
+use Rattle.integer.specs.Apart.{apart}
 use Rattle.integer.specs.Split.{split, split-all}
 use Rattle.expr.specs.Affine.{Affine}
 use Rattle.search.specs.Interval.{fix, pointAt, narrowed}
 use Rattle.search.specs.SearchLaws.{total, firstOver, orElse, lead, first-last, width-zero, width-suc}
 use Rattle.search.specs.System.{exprs, firstOf}
-use Rattle.expr.specs.Three.{valuationOf}
 use Rattle.search.specs.Valuations.{count, first, width}
 use Rattle.expr.specs.declared.number.Valuation.{Valuation}
 use Rattle.expr.specs.declared.range.Range.{Range}
@@ -61,7 +60,8 @@ module _ (g : ℤ → Option (List ℤ)) (x : ℤ) where
       let e : n - 0 ≡ n = omega arith in
       rw (e, +ℤ-idr x) refl
 
-  pub first-turn : (n i : ℕ) → i < n → firstOver g (x +ℤ pos i) (n - i) ≡ orElse (g (x +ℤ pos i)) (firstOver g (x +ℤ pos (i + 1)) (n - (i + 1)))
+  pub first-turn : (n i : ℕ) → i < n
+      → firstOver g (x +ℤ pos i) (n - i) ≡ orElse (g (x +ℤ pos i)) (firstOver g (x +ℤ pos (i + 1)) (n - (i + 1)))
   unfolding firstOver
   first-turn n i h = rw (left n i h, next x i) refl
 
@@ -85,7 +85,7 @@ module _ (g : ℤ → Option (List ℤ)) (x : ℤ) where
   first-found n i w v h k e = rw (← k, first-turn n i h) (stop (g (x +ℤ pos i)) _ e)
     where
       stop : (o rest : Option (List ℤ)) → firstOf o ≡ Found v → firstOf o ≡ firstOf (orElse o rest)
-      stop none rest e = let z : _≡_ {A = ℕ} 0 1 = cc in absurd (omega arith)
+      stop none rest e = apart cc
       stop (some u) rest e = refl
 
   pub first-found-behind : (y : ℤ) (n i : ℕ) (w : Option (List ℤ)) (v : Valuation) → i < n → firstOver g (x +ℤ pos i) (n - i) ≡ w
@@ -93,16 +93,16 @@ module _ (g : ℤ → Option (List ℤ)) (x : ℤ) where
   first-found-behind y n i w v h k e = rw (← k, first-turn n i h) (stop (g (x +ℤ pos i)) _ e)
     where
       stop : (o rest : Option (List ℤ)) → firstOf (lead y o) ≡ Found v → firstOf (lead y o) ≡ firstOf (lead y (orElse o rest))
-      stop none rest e = let z : _≡_ {A = ℕ} 0 1 = cc in absurd (omega arith)
+      stop none rest e = apart cc
       stop (some u) rest e = refl
 
 pub nothing-is : (o : Option (List ℤ)) → firstOf o ≡ Nothing → o ≡ none
 nothing-is none e = refl
-nothing-is (some v) e = let z : _≡_ {A = ℕ} 0 1 = cc in absurd (omega arith)
+nothing-is (some v) e = apart cc
 
 pub nothing-behind : (y : ℤ) (o : Option (List ℤ)) → firstOf (lead y o) ≡ Nothing → o ≡ none
 nothing-behind y none e = refl
-nothing-behind y (some v) e = let z : _≡_ {A = ℕ} 0 1 = cc in absurd (omega arith)
+nothing-behind y (some v) e = apart cc
 
 -- ---- what the inner search says, at the member that was put in
 module _ (b c : Ranges) (q range : Range) (i : ℕ) (s : System) (eq : q ≡ pointAt range i) where
@@ -113,7 +113,10 @@ module _ (b c : Ranges) (q range : Range) (i : ℕ) (s : System) (eq : q ≡ poi
 
     pub first-at-q : (v : Solution)
         → v ≡ firstOf (lead (c .p .low) (lead (c .q .low) (first (c .r ∷ []) (map (fix (c .q .low)) (map (fix (c .p .low)) (exprs s))))))
-        → v ≡ firstOf (lead (b .p .low) (lead (range .low +ℤ pos i) (first (b .r ∷ []) (map (fix (range .low +ℤ pos i)) (map (fix (b .p .low)) (exprs s))))))
+        → v
+        ≡ firstOf
+        (lead (b .p .low)
+        (lead (range .low +ℤ pos i) (first (b .r ∷ []) (map (fix (range .low +ℤ pos i)) (map (fix (b .p .low)) (exprs s))))))
     first-at-q v h = rw (ec, eq) at h
 
   module _ (ec : c ≡ record { p = q; q = b .q; r = b .r }) where
@@ -151,5 +154,6 @@ module _ (x y : ℤ) (es : List Affine) (r n : Range) (e : n ≡ narrowed es r [
       let t : leZ (narrowed es r [] .low) (narrowed es r [] .high) ≡ true = rw e at (width-full n h) in
       rw (first-last es r, t, ← e) refl
 
-pub valuation-path : {a b c a′ b′ c′ : ℤ} → a ≡ a′ → b ≡ b′ → c ≡ c′ → Found (record { p = a; q = b; r = c }) ≡ Found (record { p = a′; q = b′; r = c′ })
+pub valuation-path : {a b c a′ b′ c′ : ℤ} → a ≡ a′ → b ≡ b′ → c ≡ c′
+    → Found (record { p = a; q = b; r = c }) ≡ Found (record { p = a′; q = b′; r = c′ })
 valuation-path d e f = λ i. Found (record { p = d i; q = e i; r = f i })

@@ -1,43 +1,39 @@
 -- The interval of one parameter that an inequality leaves (paper 01: "an allowance's interval from an inequality by floor division
 -- with a negative divisor"), and the same for several inequalities, the later parameters at their best.
 use mathlib.Core.List.{List, [], _∷_}
-use mathlib.Core.Bool.{Bool, true, false}
+use mathlib.Core.Bool.{cond}
 use Prim.Native.Nat.{ℕ, zero, suc}
 use lib.IntN.{ℤ, pos, negsuc, negℤ, _+ℤ_, _*ℤ_}
 use lib.Signed.{leZ, _≤ℤ_}
 use Rattle.integer.specs.Floor.{floorZ}
-use Rattle.expr.specs.Affine.{Affine, pickZ}
+use Rattle.expr.specs.Affine.{Affine}
 use Rattle.expr.specs.declared.range.Range.{Range}
 
 -- no number
 abbrev pub EMPTY : Range
 EMPTY = record { low = pos 1; high = pos 0 }
 
-abbrev pub pickR : Bool → Range → Range → Range
-pickR true a b = a
-pickR false a b = b
-
 -- the range from l on
 abbrev pub from : Range → ℤ → Range
-from r l = pickR (leZ l (r .low)) r (pickR (leZ l (r .high)) (record { low = l; high = r .high }) EMPTY)
+from r l = cond (leZ l (r .low)) r (cond (leZ l (r .high)) (record { low = l; high = r .high }) EMPTY)
 
 -- the range up to h
 abbrev pub upTo : Range → ℤ → Range
-upTo r h = pickR (leZ (r .high) h) r (pickR (leZ (r .low) h) (record { low = r .low; high = h }) EMPTY)
+upTo r h = cond (leZ (r .high) h) r (cond (leZ (r .low) h) (record { low = r .low; high = h }) EMPTY)
 
 -- the part of a range where constant + slope · x ≥ 0
 unfoldable pub interval : Range → ℤ → ℤ → Range
-interval r c (pos zero) = pickR (leZ (pos 0) c) r EMPTY
+interval r c (pos zero) = cond (leZ (pos 0) c) r EMPTY
 interval r c (pos (suc a)) = from r (negℤ (floorZ c (pos (suc a))))
 interval r c (negsuc a) = upTo r (floorZ (negℤ c) (negsuc a))
 
 -- the end of a range at which coefficient × parameter is the most
 abbrev pub end : ℤ → Range → ℤ
-end c r = pickZ (leZ (pos 0) c) (r .high) (r .low)
+end c r = cond (leZ (pos 0) c) (r .high) (r .low)
 
 -- the most that coefficient × parameter can be in a range
 abbrev pub best : ℤ → Range → ℤ
-best c r = pickZ (leZ (pos 0) c) (c *ℤ r .high) (c *ℤ r .low)
+best c r = cond (leZ (pos 0) c) (c *ℤ r .high) (c *ℤ r .low)
 
 -- the most that a sum of them can be
 unfoldable pub bestSum : List ℤ → List Range → ℤ

@@ -3,7 +3,7 @@
 use mathlib.Core.Path.{_≡_, refl}
 use mathlib.Core.Logic.{_↔_}
 use mathlib.Core.List.{List, [], _∷_}
-use mathlib.Core.Bool.{Bool, true, false, _&&_}
+use mathlib.Core.Bool.{Bool, true, false, cond}
 use Prim.Native.Nat.{ℕ, zero, suc}
 use native.Mathlib.Omega.{arith}
 use lib.IntN.{ℤ, pos, negsuc, negℤ, _+ℤ_, _*ℤ_}
@@ -16,9 +16,9 @@ use Rattle.integer.specs.Order.{zts, leZ-true, true-leZ, +ℤ-mono}
 use Rattle.integer.specs.Parts.{p, n, zs, fits-in, fits-out}
 use Rattle.integer.specs.Product.{*ℤ-mono-nonneg, *ℤ-mono-nonpos}
 use Rattle.integer.specs.Split.{split, split-all}
-use Rattle.expr.specs.Affine.{Affine, dot, value, pickZ}
+use Rattle.expr.specs.Affine.{Affine, dot, value}
 use Rattle.search.specs.Valuations.{satisfies}
-use Rattle.search.specs.Interval.{EMPTY, pickR, from, upTo, interval, best, bestSum, fixL, fix, narrowL, narrowed}
+use Rattle.search.specs.Interval.{EMPTY, from, upTo, interval, best, bestSum, fixL, fix, narrowL, narrowed}
 use Rattle.expr.specs.Ranges.{In, Inside}
 use Rattle.expr.specs.declared.range.Range.{Range}
 
@@ -27,23 +27,27 @@ pub In-EMPTY : {x : ℤ} → In x EMPTY → ⊥
 unfolding p n
 In-EMPTY h = omega zs
 
-from-in : (r : Range) (l x : ℤ) (b d : Bool) → leZ l (r .low) ≡ b → leZ l (r .high) ≡ d → In x (pickR b r (pickR d (record { low = l; high = r .high }) EMPTY)) ↔ (In x r × (l ≤ℤ x))
+from-in : (r : Range) (l x : ℤ) (b d : Bool) → leZ l (r .low) ≡ b → leZ l (r .high) ≡ d
+    → In x (cond b r (cond d (record { low = l; high = r .high }) EMPTY)) ↔ (In x r × (l ≤ℤ x))
 from-in r l x true d e f = (λ h. (h, omega zts), λ h. h .0)
-from-in r l x false true e f = (λ h. (record { least = omega zts; most = h .most }, h .least), λ h. record { least = h .1; most = h .0 .most })
+from-in r l x false true e f =
+    (λ h. (record { least = omega zts; most = h .most }, h .least), λ h. record { least = h .1; most = h .0 .most })
 from-in r l x false false e f = (λ h. absurd (In-EMPTY h), λ h. absurd (omega zts))
 
 pub from-exact : (r : Range) (l x : ℤ) → In x (from r l) ↔ (In x r × (l ≤ℤ x))
 from-exact r l x = from-in r l x (leZ l (r .low)) (leZ l (r .high)) refl refl
 
-upTo-in : (r : Range) (h x : ℤ) (b d : Bool) → leZ (r .high) h ≡ b → leZ (r .low) h ≡ d → In x (pickR b r (pickR d (record { low = r .low; high = h }) EMPTY)) ↔ (In x r × (x ≤ℤ h))
+upTo-in : (r : Range) (h x : ℤ) (b d : Bool) → leZ (r .high) h ≡ b → leZ (r .low) h ≡ d
+    → In x (cond b r (cond d (record { low = r .low; high = h }) EMPTY)) ↔ (In x r × (x ≤ℤ h))
 upTo-in r h x true d e f = (λ k. (k, omega zts), λ k. k .0)
-upTo-in r h x false true e f = (λ k. (record { least = k .least; most = omega zts }, k .most), λ k. record { least = k .0 .least; most = k .1 })
+upTo-in r h x false true e f =
+    (λ k. (record { least = k .least; most = omega zts }, k .most), λ k. record { least = k .0 .least; most = k .1 })
 upTo-in r h x false false e f = (λ k. absurd (In-EMPTY k), λ k. absurd (omega zts))
 
 pub upTo-exact : (r : Range) (h x : ℤ) → In x (upTo r h) ↔ (In x r × (x ≤ℤ h))
 upTo-exact r h x = upTo-in r h x (leZ (r .high) h) (leZ (r .low) h) refl refl
 
-all-in : (r : Range) (c x : ℤ) (b : Bool) → leZ (pos 0) c ≡ b → In x (pickR b r EMPTY) ↔ (In x r × (pos 0 ≤ℤ c))
+all-in : (r : Range) (c x : ℤ) (b : Bool) → leZ (pos 0) c ≡ b → In x (cond b r EMPTY) ↔ (In x r × (pos 0 ≤ℤ c))
 all-in r c x true e = (λ h. (h, leZ-true e), λ h. h .0)
 all-in r c x false e = (λ h. absurd (In-EMPTY h), λ h. absurd (omega zts))
 
@@ -92,33 +96,42 @@ EMPTY-ends : EndsFit EMPTY
 unfolding p n
 EMPTY-ends = record { low-fits = fits-out (omega arith); high-fits = fits-out (omega arith) }
 
-from-ends : (r : Range) (l : ℤ) (b d : Bool) → leZ l (r .low) ≡ b → leZ l (r .high) ≡ d → EndsFit r → EndsFit (pickR b r (pickR d (record { low = l; high = r .high }) EMPTY))
+from-ends : (r : Range) (l : ℤ) (b d : Bool) → leZ l (r .low) ≡ b → leZ l (r .high) ≡ d → EndsFit r
+    → EndsFit (cond b r (cond d (record { low = l; high = r .high }) EMPTY))
 from-ends r l true d e f s = s
-from-ends r l false true e f s = record { low-fits = fits-out (omega (zts, fits-in (s .low-fits), fits-in (s .high-fits))); high-fits = s .high-fits }
+from-ends r l false true e f s =
+    record { low-fits = fits-out (omega (zts, fits-in (s .low-fits), fits-in (s .high-fits))); high-fits = s .high-fits }
 from-ends r l false false e f s = EMPTY-ends
 
-upTo-ends : (r : Range) (h : ℤ) (b d : Bool) → leZ (r .high) h ≡ b → leZ (r .low) h ≡ d → EndsFit r → EndsFit (pickR b r (pickR d (record { low = r .low; high = h }) EMPTY))
+upTo-ends : (r : Range) (h : ℤ) (b d : Bool) → leZ (r .high) h ≡ b → leZ (r .low) h ≡ d → EndsFit r
+    → EndsFit (cond b r (cond d (record { low = r .low; high = h }) EMPTY))
 upTo-ends r h true d e f s = s
-upTo-ends r h false true e f s = record { low-fits = s .low-fits; high-fits = fits-out (omega (zts, fits-in (s .low-fits), fits-in (s .high-fits))) }
+upTo-ends r h false true e f s =
+    record { low-fits = s .low-fits; high-fits = fits-out (omega (zts, fits-in (s .low-fits), fits-in (s .high-fits))) }
 upTo-ends r h false false e f s = EMPTY-ends
 
-all-ends : (r : Range) (b : Bool) → EndsFit r → EndsFit (pickR b r EMPTY)
+all-ends : (r : Range) (b : Bool) → EndsFit r → EndsFit (cond b r EMPTY)
 all-ends r true s = s
 all-ends r false s = EMPTY-ends
 
 pub interval-ends : (r : Range) (c a : ℤ) → EndsFit r → EndsFit (interval r c a)
 unfolding interval
 interval-ends r c (pos zero) s = all-ends r (leZ (pos 0) c) s
-interval-ends r c (pos (suc a)) s = from-ends r (negℤ (floorZ c (pos (suc a)))) (leZ (negℤ (floorZ c (pos (suc a)))) (r .low)) (leZ (negℤ (floorZ c (pos (suc a)))) (r .high)) refl refl s
-interval-ends r c (negsuc a) s = upTo-ends r (floorZ (negℤ c) (negsuc a)) (leZ (r .high) (floorZ (negℤ c) (negsuc a))) (leZ (r .low) (floorZ (negℤ c) (negsuc a))) refl refl s
+interval-ends r c (pos (suc a)) s =
+    from-ends r (negℤ (floorZ c (pos (suc a)))) (leZ (negℤ (floorZ c (pos (suc a)))) (r .low))
+    (leZ (negℤ (floorZ c (pos (suc a)))) (r .high)) refl refl s
+interval-ends r c (negsuc a) s =
+    upTo-ends r (floorZ (negℤ c) (negsuc a)) (leZ (r .high) (floorZ (negℤ c) (negsuc a))) (leZ (r .low) (floorZ (negℤ c) (negsuc a)))
+    refl refl s
 
-pub interval-fits : (r : Range) (c a : ℤ) → SFits w16 (r .low) → SFits w16 (r .high) → SFits w16 (interval r c a .low) × SFits w16 (interval r c a .high)
+pub interval-fits : (r : Range) (c a : ℤ) → SFits w16 (r .low) → SFits w16 (r .high)
+    → SFits w16 (interval r c a .low) × SFits w16 (interval r c a .high)
 interval-fits r c a h k =
     let s : EndsFit (interval r c a) = interval-ends r c a (record { low-fits = h; high-fits = k }) in
     (s .low-fits, s .high-fits)
 
 -- ---- the most that a product, and a sum of products, can be
-best-in : (c x : ℤ) (r : Range) (b : Bool) → leZ (pos 0) c ≡ b → In x r → (c *ℤ x) ≤ℤ pickZ b (c *ℤ r .high) (c *ℤ r .low)
+best-in : (c x : ℤ) (r : Range) (b : Bool) → leZ (pos 0) c ≡ b → In x r → (c *ℤ x) ≤ℤ cond b (c *ℤ r .high) (c *ℤ r .low)
 best-in c x r true e h = *ℤ-mono-nonneg c (leZ-true e) (h .most)
 best-in c x r false e h = *ℤ-mono-nonpos c (omega zts) (h .least)
 
@@ -175,19 +188,24 @@ no-coefs c x = rw (split c, split x) (simp split-all (omega arith))
 at-best : (c b d y : ℤ) → d ≤ℤ b → pos 0 ≤ℤ (c +ℤ (y +ℤ d)) → pos 0 ≤ℤ ((c +ℤ b) +ℤ y)
 at-best c b d y = rw (split c, split b, split d, split y) (simp split-all (omega arith))
 
-narrowL-keeps : (c : ℤ) (cs : List ℤ) (r : Range) (rs : List Range) (x : ℤ) (v : List ℤ) → In x r → Inside v rs → pos 0 ≤ℤ (c +ℤ dot cs (x ∷ v)) → In x (narrowL c cs r rs)
+narrowL-keeps : (c : ℤ) (cs : List ℤ) (r : Range) (rs : List Range) (x : ℤ) (v : List ℤ) → In x r → Inside v rs
+    → pos 0 ≤ℤ (c +ℤ dot cs (x ∷ v)) → In x (narrowL c cs r rs)
 unfolding narrowL dot
 narrowL-keeps c [] r rs x v h k m = interval-exact r c (pos 0) x .1 (h, no-coefs c x m)
 narrowL-keeps c (a ∷ cs) r rs x v h k m =
     interval-exact r (c +ℤ bestSum cs rs) a x .1 (h, at-best c (bestSum cs rs) (dot cs v) (a *ℤ x) (bestSum-most cs v rs k) m)
 
 -- a valuation that meets the inequalities stays in the narrowed range
-pub narrowed-keeps : (es : List Affine) (r : Range) (rs : List Range) (x : ℤ) (v : List ℤ) → Inside (x ∷ v) (r ∷ rs) → satisfies es (x ∷ v) ≡ true → In x (narrowed es r rs)
+pub narrowed-keeps : (es : List Affine) (r : Range) (rs : List Range) (x : ℤ) (v : List ℤ) → Inside (x ∷ v) (r ∷ rs)
+    → satisfies es (x ∷ v) ≡ true → In x (narrowed es r rs)
 unfolding narrowed satisfies value
 narrowed-keeps [] r rs x v h k = h .0
 narrowed-keeps (e ∷ es) r rs x v h k =
-    narrowed-keeps es (narrowL (e .constant) (e .coefs) r rs) rs x v
-    (narrowL-keeps (e .constant) (e .coefs) r rs x v (h .0) (h .1) (leZ-true (and-left (leZ (pos 0) (e .constant +ℤ dot (e .coefs) (x ∷ v))) (satisfies es (x ∷ v)) k)), h .1)
+    narrowed-keeps es (narrowL (e .constant) (e .coefs) r rs) rs x v (
+      narrowL-keeps (e .constant) (e .coefs) r rs x v (h .0) (h .1)
+          (leZ-true (and-left (leZ (pos 0) (e .constant +ℤ dot (e .coefs) (x ∷ v))) (satisfies es (x ∷ v)) k)),
+      h .1,
+    )
     (and-right (leZ (pos 0) (e .constant +ℤ dot (e .coefs) (x ∷ v))) (satisfies es (x ∷ v)) k)
 
 no-coefs-back : (c x : ℤ) → pos 0 ≤ℤ (c +ℤ (pos 0 *ℤ x)) → pos 0 ≤ℤ (c +ℤ pos 0)
@@ -221,7 +239,8 @@ unfolding narrowed
 narrowed-ends [] r rs s = s
 narrowed-ends (e ∷ es) r rs s = narrowed-ends es (narrowL (e .constant) (e .coefs) r rs) rs (narrowL-ends (e .constant) (e .coefs) r rs s)
 
-pub narrowed-fits : (es : List Affine) (r : Range) (rs : List Range) → SFits w16 (r .low) → SFits w16 (r .high) → SFits w16 (narrowed es r rs .low) × SFits w16 (narrowed es r rs .high)
+pub narrowed-fits : (es : List Affine) (r : Range) (rs : List Range) → SFits w16 (r .low) → SFits w16 (r .high)
+    → SFits w16 (narrowed es r rs .low) × SFits w16 (narrowed es r rs .high)
 narrowed-fits es r rs h k =
     let s : EndsFit (narrowed es r rs) = narrowed-ends es r rs (record { low-fits = h; high-fits = k }) in
     (s .low-fits, s .high-fits)

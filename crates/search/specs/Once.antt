@@ -1,9 +1,10 @@
--- The list of all valuations of some ranges has each of them once: with `valuations-all` and `valuations-inside`, to count its members is to
--- count the valuations in the ranges.
+-- The list of all valuations of some ranges has each of them once: with `valuations-all` and `valuations-inside`, to count its members is
+-- to count the valuations in the ranges.
 use mathlib.Core.Path.{_≡_, sym, _∙_}
 use mathlib.Core.Logic.{_⊎_, inl, inr, ∥∥₁-elim}
 use mathlib.Core.HLevel.{⊥-prop, ¬-prop}
-use mathlib.Core.List.{List, [], _∷_, map, List·Memᴰ, List·Memᴰ·not-nil, List·Memᴰ·append-cases, Memᴰ·of-map, List·Nodup, nodup-nil, nodup-cons, nodup-append, Pairwise·map, not-mem-nil}
+use mathlib.Core.List.{List, [], _∷_, map, List·Memᴰ, List·Memᴰ·not-nil, List·Memᴰ·append-cases, Memᴰ·of-map, List·Nodup, nodup-nil}
+use mathlib.Core.List.{nodup-cons, nodup-append, Pairwise·map, not-mem-nil}
 use Prim.Native.Nat.{ℕ, zero, suc}
 use lib.IntN.{ℤ, pos, _+ℤ_}
 use lib.Signed.{_≤ℤ_, ≤ℤ-refl}
@@ -23,7 +24,8 @@ too-low : (x : ℤ) → (x +ℤ pos 1) ≤ℤ x → ⊥
 too-low x h = omega (zs, +-parts x (pos 1), pos-parts 1)
 
 -- what stands before a list starts with one of the numbers
-starts : (k : ℕ) (y : ℤ) (vs : List (List ℤ)) (v : List ℤ) → List·Memᴰ v (before (span y k) vs) → (x : ℤ) × (u : List ℤ) × (y ≤ℤ x) × (x ∷ u ≡ v)
+starts : (k : ℕ) (y : ℤ) (vs : List (List ℤ)) (v : List ℤ) → List·Memᴰ v (before (span y k) vs)
+    → (x : ℤ) × (u : List ℤ) × (y ≤ℤ x) × (x ∷ u ≡ v)
 unfolding before span
 starts zero y vs v m = absurd (List·Memᴰ·not-nil m)
 starts (suc k) y vs v m = by (List·Memᴰ·append-cases (map (λ (u : List ℤ). y ∷ u) vs) m) (starts k (y +ℤ pos 1) vs v)
@@ -34,7 +36,8 @@ starts (suc k) y vs v m = by (List·Memᴰ·append-cases (map (λ (u : List ℤ)
     by (inl i) ih = let t = Memᴰ·of-map (λ (u : List ℤ). y ∷ u) vs i in (y, t .0, ≤ℤ-refl y, t .2)
     by (inr i) ih = let t = ih i in (t .0, t .1, step-up y (t .0) (t .2), t .3)
 
-apart : (k : ℕ) (y : ℤ) (vs : List (List ℤ)) (v : List ℤ) → List·Memᴰ v (map (λ (u : List ℤ). y ∷ u) vs) → List·Memᴰ v (before (span (y +ℤ pos 1) k) vs) → ⊥
+apart : (k : ℕ) (y : ℤ) (vs : List (List ℤ)) (v : List ℤ) → List·Memᴰ v (map (λ (u : List ℤ). y ∷ u) vs)
+    → List·Memᴰ v (before (span (y +ℤ pos 1) k) vs) → ⊥
 apart k y vs v a b =
     let t = Memᴰ·of-map (λ (u : List ℤ). y ∷ u) vs a in
     let (x, u, g, e) = starts k (y +ℤ pos 1) vs v b in

@@ -2,8 +2,10 @@
 -- and the count say. For any number of parameters.
 use mathlib.Core.Path.{_≡_, refl, sym, ap, subst, _∙_}
 use mathlib.Core.Logic.{_↔_, _⊎_, inl, inr}
-use mathlib.Core.List.{List, [], _∷_, _++_, map, List·Memᴰ, List·Memᴰ·head, List·Memᴰ·tail, List·Memᴰ·not-nil, List·Memᴰ·cases-cons, List·Memᴰ·append-cases, List·Memᴰ·eq-of-singleton, Memᴰ·cast, Memᴰ·append-left, Memᴰ·append-right, Memᴰ·map, Memᴰ·of-map}
-use mathlib.Core.Bool.{Bool, true, false, _&&_}
+use mathlib.Core.List.{List, [], _∷_, _++_, map, List·Memᴰ, List·Memᴰ·head, List·Memᴰ·tail, List·Memᴰ·not-nil, List·Memᴰ·cases-cons}
+use mathlib.Core.List.{List·Memᴰ·append-cases, List·Memᴰ·eq-of-singleton, Memᴰ·cast, Memᴰ·append-left, Memᴰ·append-right, Memᴰ·map}
+use mathlib.Core.List.{Memᴰ·of-map}
+use mathlib.Core.Bool.{Bool, true, false, _&&_, cond}
 use mathlib.Core.Option.{Option, none, some}
 use Prim.Native.Nat.{ℕ, zero, suc, _+_, _*_}
 use native.Mathlib.Nat.{zero-add}
@@ -11,11 +13,12 @@ use native.Mathlib.Omega.{arith}
 use lib.IntN.{ℤ, pos, negsuc, _+ℤ_, _-ℤ_}
 use lib.ListN.{length, length-append, length-map}
 use lib.Signed.{leZ, _≤ℤ_, _<ℤ_, ≤ℤ-refl}
+use Rattle.integer.specs.Apart.{apart}
 use Rattle.integer.specs.Order.{zts, leZ-true, leZ-false}
 use Rattle.integer.specs.Parts.{p, n, zs, +-parts, -parts}
 use Rattle.integer.specs.Split.{split, split-all}
 use Rattle.expr.specs.Affine.{Affine, value}
-use Rattle.search.specs.Valuations.{span, width, before, valuations, satisfies, pickO, pickN, firstIn, countIn, first, count, widths}
+use Rattle.search.specs.Valuations.{span, width, before, valuations, satisfies, firstIn, countIn, first, count, widths}
 use Rattle.search.specs.Interval.{fix, narrowed}
 use Rattle.expr.specs.Ranges.{In, Inside}
 use Rattle.search.specs.IntervalLaws.{fix-value, narrowed-in, narrowed-keeps, narrowed-last}
@@ -71,10 +74,14 @@ up-step x y = rw (split x, split y) (simp split-all (omega arith))
 -- a range's width, by the number of its members
 width-from : (l h y z : ℤ) → (h +ℤ pos 1) -ℤ l ≡ z → l ≤ℤ y → (y <ℤ (l +ℤ pos (p z))) ↔ (y ≤ℤ h)
 unfolding p n
-width-from l h y (pos k) e g =
-    (λ m. omega (zs, -parts (h +ℤ pos 1) l, +-parts h (pos 1), +-parts l (pos k)), λ m. omega (zs, -parts (h +ℤ pos 1) l, +-parts h (pos 1), +-parts l (pos k)))
-width-from l h y (negsuc k) e g =
-    (λ m. omega (zs, -parts (h +ℤ pos 1) l, +-parts h (pos 1), +-parts l (pos 0)), λ m. omega (zs, -parts (h +ℤ pos 1) l, +-parts h (pos 1), +-parts l (pos 0)))
+width-from l h y (pos k) e g = (
+  λ m. omega (zs, -parts (h +ℤ pos 1) l, +-parts h (pos 1), +-parts l (pos k)),
+  λ m. omega (zs, -parts (h +ℤ pos 1) l, +-parts h (pos 1), +-parts l (pos k)),
+)
+width-from l h y (negsuc k) e g = (
+  λ m. omega (zs, -parts (h +ℤ pos 1) l, +-parts h (pos 1), +-parts l (pos 0)),
+  λ m. omega (zs, -parts (h +ℤ pos 1) l, +-parts h (pos 1), +-parts l (pos 0)),
+)
 
 pub width-in : (r : Range) (y : ℤ) → In y r ↔ ((r .low ≤ℤ y) × (y <ℤ (r .low +ℤ pos (width r))))
 unfolding width
@@ -94,8 +101,10 @@ width-zero r h = zero-of (r .low) (r .high) ((r .high +ℤ pos 1) -ℤ r .low) r
 
 suc-of : (l h z t : ℤ) → (h +ℤ pos 1) -ℤ l ≡ z → (h +ℤ pos 1) -ℤ (l +ℤ pos 1) ≡ t → l ≤ℤ h → p z ≡ suc (p t)
 unfolding p n
-suc-of l h (pos k) (pos j) e f g = omega (zs, -parts (h +ℤ pos 1) l, -parts (h +ℤ pos 1) (l +ℤ pos 1), +-parts h (pos 1), +-parts l (pos 1))
-suc-of l h (pos k) (negsuc j) e f g = absurd (omega (zs, -parts (h +ℤ pos 1) l, -parts (h +ℤ pos 1) (l +ℤ pos 1), +-parts h (pos 1), +-parts l (pos 1)))
+suc-of l h (pos k) (pos j) e f g =
+    omega (zs, -parts (h +ℤ pos 1) l, -parts (h +ℤ pos 1) (l +ℤ pos 1), +-parts h (pos 1), +-parts l (pos 1))
+suc-of l h (pos k) (negsuc j) e f g =
+    absurd (omega (zs, -parts (h +ℤ pos 1) l, -parts (h +ℤ pos 1) (l +ℤ pos 1), +-parts h (pos 1), +-parts l (pos 1)))
 suc-of l h (negsuc k) t e f g = absurd (omega (zs, -parts (h +ℤ pos 1) l, +-parts h (pos 1)))
 
 pub width-suc : (l h : ℤ) → l ≤ℤ h → width (record { low = l; high = h }) ≡ suc (width (record { low = l +ℤ pos 1; high = h }))
@@ -136,7 +145,9 @@ covers-next x k s c out y m = (go (leZ y x) refl, next-end x y k (c y m .1))
 
 module _ {A : Type 0} (e : A) (op : A → A → A) (left : (a : A) → op e a ≡ a) (f : ℤ → A) where
   -- x itself is not in s
-  skip-one : (k : ℕ) (x : ℤ) (s : Range) → (Covers (x +ℤ pos 1) k s → Blank e f (x +ℤ pos 1) k s → over e op f (x +ℤ pos 1) k ≡ over e op f (s .low) (width s)) → Covers x (suc k) s → Blank e f x (suc k) s → (In x s → ⊥) → over e op f x (suc k) ≡ over e op f (s .low) (width s)
+  skip-one : (k : ℕ) (x : ℤ) (s : Range)
+      → (Covers (x +ℤ pos 1) k s → Blank e f (x +ℤ pos 1) k s → over e op f (x +ℤ pos 1) k ≡ over e op f (s .low) (width s))
+      → Covers x (suc k) s → Blank e f x (suc k) s → (In x s → ⊥) → over e op f x (suc k) ≡ over e op f (s .low) (width s)
   unfolding over
   skip-one k x s ih c b out =
       ap (λ (a : A). op a (over e op f (x +ℤ pos 1) k)) (b x (≤ℤ-refl x) (own-end x k) out)
@@ -144,7 +155,10 @@ module _ {A : Type 0} (e : A) (op : A → A → A) (left : (a : A) → op e a �
       ∙ ih (covers-next x k s c out) (λ y g h o. b y (step-up x y g) (back-end x y k h) o)
 
   -- x is the first of s
-  take-one : (k : ℕ) (x l h : ℤ) → ((s : Range) → Covers (x +ℤ pos 1) k s → Blank e f (x +ℤ pos 1) k s → over e op f (x +ℤ pos 1) k ≡ over e op f (s .low) (width s)) → Covers x (suc k) (record { low = l; high = h }) → Blank e f x (suc k) (record { low = l; high = h }) → l ≤ℤ x → x ≤ℤ h → over e op f x (suc k) ≡ over e op f l (width (record { low = l; high = h }))
+  take-one : (k : ℕ) (x l h : ℤ)
+      → ((s : Range) → Covers (x +ℤ pos 1) k s → Blank e f (x +ℤ pos 1) k s → over e op f (x +ℤ pos 1) k ≡ over e op f (s .low) (width s))
+      → Covers x (suc k) (record { low = l; high = h }) → Blank e f x (suc k) (record { low = l; high = h }) → l ≤ℤ x → x ≤ℤ h
+      → over e op f x (suc k) ≡ over e op f l (width (record { low = l; high = h }))
   unfolding over
   take-one k x l h ih c b g m =
       ap (λ (a : A). op (f x) a) (ih (record { low = x +ℤ pos 1; high = h })
@@ -167,16 +181,22 @@ module _ {A : Type 0} (e : A) (op : A → A → A) (left : (a : A) → op e a �
   skip zero x s c b = sym (ap (λ (j : ℕ). over e op f (s .low) j) (width-zero s (go (leZ (s .low) (s .high)) refl)))
     where
       go : (d : Bool) → leZ (s .low) (s .high) ≡ d → s .high <ℤ s .low
-      go true q = let t : (x ≤ℤ s .low) × (s .low <ℤ (x +ℤ pos 0)) = c (s .low) (record { least = ≤ℤ-refl (s .low); most = leZ-true q }) in absurd (below-end x (s .low) (t .0) (t .1))
+      go true q =
+          let t : (x ≤ℤ s .low) × (s .low <ℤ (x +ℤ pos 0)) = c (s .low) (record { least = ≤ℤ-refl (s .low); most = leZ-true q }) in
+          absurd (below-end x (s .low) (t .0) (t .1))
       go false q = leZ-false q
   skip (suc k) x s c b = go (leZ (s .low) x) (leZ x (s .high)) refl refl (λ t. skip k (x +ℤ pos 1) t)
     where
-      go : (d g : Bool) → leZ (s .low) x ≡ d → leZ x (s .high) ≡ g → ((t : Range) → Covers (x +ℤ pos 1) k t → Blank e f (x +ℤ pos 1) k t → over e op f (x +ℤ pos 1) k ≡ over e op f (t .low) (width t)) → over e op f x (suc k) ≡ over e op f (s .low) (width s)
+      go : (d g : Bool) → leZ (s .low) x ≡ d → leZ x (s .high) ≡ g
+          → ((t : Range) → Covers (x +ℤ pos 1) k t → Blank e f (x +ℤ pos 1) k t
+          → over e op f (x +ℤ pos 1) k ≡ over e op f (t .low) (width t))
+          → over e op f x (suc k) ≡ over e op f (s .low) (width s)
       go true true q r ih = take-one k x (s .low) (s .high) ih c b (leZ-true q) (leZ-true r)
       go true false q r ih = skip-one k x s (ih s) c b (λ i. omega zts)
       go false g q r ih = skip-one k x s (ih s) c b (λ i. omega zts)
 
-  skip-range : (r s : Range) → ((y : ℤ) → In y s → In y r) → ((y : ℤ) → In y r → (In y s → ⊥) → f y ≡ e) → over e op f (r .low) (width r) ≡ over e op f (s .low) (width s)
+  skip-range : (r s : Range) → ((y : ℤ) → In y s → In y r) → ((y : ℤ) → In y r → (In y s → ⊥) → f y ≡ e)
+      → over e op f (r .low) (width r) ≡ over e op f (s .low) (width s)
   skip-range r s c b = skip (width r) (r .low) s (λ y i. width-in r y .0 (c y i)) (λ y g h o. b y (width-in r y .1 (g, h)) o)
 
 total-over : (f : ℤ → ℕ) (x : ℤ) (n : ℕ) → total f x n ≡ over 0 _+_ f x n
@@ -190,11 +210,13 @@ firstOver-over f x zero = refl
 firstOver-over f x (suc n) = ap (λ (o : Option (List ℤ)). orElse (f x) o) (firstOver-over f (x +ℤ pos 1) n)
 
 -- a sum over a range is the sum over a part of it, outside of which f is 0
-pub total-skip : (f : ℤ → ℕ) (r s : Range) → ((y : ℤ) → In y s → In y r) → ((y : ℤ) → In y r → (In y s → ⊥) → f y ≡ 0) → total f (r .low) (width r) ≡ total f (s .low) (width s)
+pub total-skip : (f : ℤ → ℕ) (r s : Range) → ((y : ℤ) → In y s → In y r) → ((y : ℤ) → In y r → (In y s → ⊥) → f y ≡ 0)
+    → total f (r .low) (width r) ≡ total f (s .low) (width s)
 total-skip f r s c b =
     total-over f (r .low) (width r) ∙ skip-range 0 _+_ zero-add f r s c b ∙ sym (total-over f (s .low) (width s))
 
-pub firstOver-skip : (f : ℤ → Option (List ℤ)) (r s : Range) → ((y : ℤ) → In y s → In y r) → ((y : ℤ) → In y r → (In y s → ⊥) → f y ≡ none) → firstOver f (r .low) (width r) ≡ firstOver f (s .low) (width s)
+pub firstOver-skip : (f : ℤ → Option (List ℤ)) (r s : Range) → ((y : ℤ) → In y s → In y r)
+    → ((y : ℤ) → In y r → (In y s → ⊥) → f y ≡ none) → firstOver f (r .low) (width r) ≡ firstOver f (s .low) (width s)
 firstOver-skip f r s c b =
     firstOver-over f (r .low) (width r) ∙ skip-range none orElse (λ o. refl) f r s c b ∙ sym (firstOver-over f (s .low) (width s))
 
@@ -204,16 +226,21 @@ unfolding span
 span-in zero x m = absurd (List·Memᴰ·not-nil m)
 span-in {y} (suc n) x m = go (List·Memᴰ·cases-cons m) (λ i. span-in n (x +ℤ pos 1) i)
   where
-    go : (y ≡ x) ⊎ List·Memᴰ y (span (x +ℤ pos 1) n) → (List·Memᴰ y (span (x +ℤ pos 1) n) → ((x +ℤ pos 1) ≤ℤ y) × (y <ℤ ((x +ℤ pos 1) +ℤ pos n))) → (x ≤ℤ y) × (y <ℤ (x +ℤ pos (suc n)))
+    go : (y ≡ x) ⊎ List·Memᴰ y (span (x +ℤ pos 1) n)
+        → (List·Memᴰ y (span (x +ℤ pos 1) n) → ((x +ℤ pos 1) ≤ℤ y) × (y <ℤ ((x +ℤ pos 1) +ℤ pos n)))
+        → (x ≤ℤ y) × (y <ℤ (x +ℤ pos (suc n)))
     go (inl e) ih = rw e (≤ℤ-refl x, own-end x n)
     go (inr i) ih = (step-up x y (ih i .0), back-end x y n (ih i .1))
 
-before-in : {v : List ℤ} (xs : List ℤ) (vs : List (List ℤ)) → List·Memᴰ v (before xs vs) → (x : ℤ) × (u : List ℤ) × List·Memᴰ x xs × List·Memᴰ u vs × (x ∷ u ≡ v)
+before-in : {v : List ℤ} (xs : List ℤ) (vs : List (List ℤ)) → List·Memᴰ v (before xs vs)
+    → (x : ℤ) × (u : List ℤ) × List·Memᴰ x xs × List·Memᴰ u vs × (x ∷ u ≡ v)
 unfolding before
 before-in [] vs m = absurd (List·Memᴰ·not-nil m)
 before-in {v} (x ∷ xs) vs m = go (List·Memᴰ·append-cases (map (λ (u : List ℤ). x ∷ u) vs) m) (λ i. before-in xs vs i)
   where
-    go : List·Memᴰ v (map (λ (u : List ℤ). x ∷ u) vs) ⊎ List·Memᴰ v (before xs vs) → (List·Memᴰ v (before xs vs) → (y : ℤ) × (u : List ℤ) × List·Memᴰ y xs × List·Memᴰ u vs × (y ∷ u ≡ v)) → (y : ℤ) × (u : List ℤ) × List·Memᴰ y (x ∷ xs) × List·Memᴰ u vs × (y ∷ u ≡ v)
+    go : List·Memᴰ v (map (λ (u : List ℤ). x ∷ u) vs) ⊎ List·Memᴰ v (before xs vs)
+        → (List·Memᴰ v (before xs vs) → (y : ℤ) × (u : List ℤ) × List·Memᴰ y xs × List·Memᴰ u vs × (y ∷ u ≡ v))
+        → (y : ℤ) × (u : List ℤ) × List·Memᴰ y (x ∷ xs) × List·Memᴰ u vs × (y ∷ u ≡ v)
     go (inl i) ih = let t = Memᴰ·of-map (λ (u : List ℤ). x ∷ u) vs i in (x, t .0, List·Memᴰ·head refl, t .1, t .2)
     go (inr i) ih = let t = ih i in (t .0, t .1, List·Memᴰ·tail (t .2), t .3, t .4)
 
@@ -221,8 +248,9 @@ pub valuations-inside : (rs : List Range) (v : List ℤ) → List·Memᴰ v (val
 unfolding valuations
 valuations-inside [] v m = subst (λ (w : List ℤ). Inside w []) (sym (List·Memᴰ·eq-of-singleton m)) tt
 valuations-inside (r ∷ rs) v m =
-    let t : (x : ℤ) × (u : List ℤ) × List·Memᴰ x (span (r .low) (width r)) × List·Memᴰ u (valuations rs) × (x ∷ u ≡ v) = before-in (span (r .low) (width r)) (valuations rs) m in
-    subst (λ (w : List ℤ). Inside w (r ∷ rs)) (t .4) (width-in r (t .0) .1 (span-in (width r) (r .low) (t .2)), valuations-inside rs (t .1) (t .3))
+    let t = before-in (span (r .low) (width r)) (valuations rs) m in
+    subst (λ (w : List ℤ). Inside w (r ∷ rs)) (t .4)
+    (width-in r (t .0) .1 (span-in (width r) (r .low) (t .2)), valuations-inside rs (t .1) (t .3))
 
 span-all : {y : ℤ} (n : ℕ) (x : ℤ) → x ≤ℤ y → y <ℤ (x +ℤ pos n) → List·Memᴰ y (span x n)
 unfolding span
@@ -238,7 +266,8 @@ unfolding before
 before-all [] vs m k = absurd (List·Memᴰ·not-nil m)
 before-all {x} {v} (y ∷ xs) vs m k = go (List·Memᴰ·cases-cons m) (λ i. before-all xs vs i k)
   where
-    go : (x ≡ y) ⊎ List·Memᴰ x xs → (List·Memᴰ x xs → List·Memᴰ (x ∷ v) (before xs vs)) → List·Memᴰ (x ∷ v) (map (λ (u : List ℤ). y ∷ u) vs ++ before xs vs)
+    go : (x ≡ y) ⊎ List·Memᴰ x xs → (List·Memᴰ x xs → List·Memᴰ (x ∷ v) (before xs vs))
+        → List·Memᴰ (x ∷ v) (map (λ (u : List ℤ). y ∷ u) vs ++ before xs vs)
     go (inl e) ih = Memᴰ·cast (ap (λ (z : ℤ). z ∷ v) e) (Memᴰ·append-left (before xs vs) (Memᴰ·map (λ (u : List ℤ). y ∷ u) k))
     go (inr i) ih = Memᴰ·append-right (map (λ (u : List ℤ). y ∷ u) vs) (ih i)
 
@@ -260,7 +289,8 @@ before-length : (xs : List ℤ) (vs : List (List ℤ)) → length (before xs vs)
 unfolding before
 before-length [] vs = omega arith
 before-length (x ∷ xs) vs =
-    omega (arith, length-append (map (λ (v : List ℤ). x ∷ v) vs) (before xs vs), length-map vs (λ (v : List ℤ). x ∷ v), before-length xs vs)
+    omega
+    (arith, length-append (map (λ (v : List ℤ). x ∷ v) vs) (before xs vs), length-map vs (λ (v : List ℤ). x ∷ v), before-length xs vs)
 
 pub valuations-length : (rs : List Range) → length (valuations rs) ≡ widths rs
 unfolding valuations widths
@@ -271,7 +301,7 @@ valuations-length (r ∷ rs) =
     ∙ ap (λ (k : ℕ). width r * k) (valuations-length rs)
 
 -- ---- counting over lists
-pick-plus : (b : Bool) (m k j : ℕ) → m ≡ k + j → pickN b (suc m) m ≡ pickN b (suc k) k + j
+pick-plus : (b : Bool) (m k j : ℕ) → m ≡ k + j → cond b (suc m) m ≡ cond b (suc k) k + j
 pick-plus true m k j h = omega arith
 pick-plus false m k j h = h
 
@@ -280,28 +310,34 @@ unfolding countIn
 count-append t [] b = omega arith
 count-append t (v ∷ a) b = pick-plus (t v) (countIn t (a ++ b)) (countIn t a) (countIn t b) (count-append t a b)
 
-count-map : (t u : List ℤ → Bool) (x : ℤ) (vs : List (List ℤ)) → ((v : List ℤ) → u v ≡ t (x ∷ v)) → countIn t (map (λ (v : List ℤ). x ∷ v) vs) ≡ countIn u vs
+count-map : (t u : List ℤ → Bool) (x : ℤ) (vs : List (List ℤ)) → ((v : List ℤ) → u v ≡ t (x ∷ v))
+    → countIn t (map (λ (v : List ℤ). x ∷ v) vs) ≡ countIn u vs
 unfolding countIn
 count-map t u x [] h = refl
 count-map t u x (v ∷ vs) h =
-    ap (λ (m : ℕ). pickN (t (x ∷ v)) (suc m) m) (count-map t u x vs h) ∙ ap (λ (b : Bool). pickN b (suc (countIn u vs)) (countIn u vs)) (sym (h v))
+    ap (λ (m : ℕ). cond (t (x ∷ v)) (suc m) m) (count-map t u x vs h)
+    ∙ ap (λ (b : Bool). cond b (suc (countIn u vs)) (countIn u vs)) (sym (h v))
 
 count-none : (t : List ℤ → Bool) (vs : List (List ℤ)) → ((v : List ℤ) → List·Memᴰ v vs → t v ≡ false) → countIn t vs ≡ 0
 unfolding countIn
 count-none t [] h = refl
 count-none t (v ∷ vs) h =
-    ap (λ (b : Bool). pickN b (suc (countIn t vs)) (countIn t vs)) (h v (List·Memᴰ·head refl)) ∙ count-none t vs (λ w m. h w (List·Memᴰ·tail m))
+    ap (λ (b : Bool). cond b (suc (countIn t vs)) (countIn t vs)) (h v (List·Memᴰ·head refl))
+    ∙ count-none t vs (λ w m. h w (List·Memᴰ·tail m))
 
-count-fold : (es : List Affine) (vs : List (List ℤ)) (n : ℕ) (x : ℤ) → countIn (satisfies es) (before (span x n) vs) ≡ total (λ (y : ℤ). countIn (satisfies (map (fix y) es)) vs) x n
+count-fold : (es : List Affine) (vs : List (List ℤ)) (n : ℕ) (x : ℤ)
+    → countIn (satisfies es) (before (span x n) vs) ≡ total (λ (y : ℤ). countIn (satisfies (map (fix y) es)) vs) x n
 unfolding before span total countIn
 count-fold es vs zero x = refl
 count-fold es vs (suc n) x =
     count-append (satisfies es) (map (λ (v : List ℤ). x ∷ v) vs) (before (span (x +ℤ pos 1) n) vs)
-    ∙ ap (λ (k : ℕ). k + countIn (satisfies es) (before (span (x +ℤ pos 1) n) vs)) (count-map (satisfies es) (satisfies (map (fix x) es)) x vs (satisfies-fix x es))
+    ∙ ap (λ (k : ℕ). k + countIn (satisfies es) (before (span (x +ℤ pos 1) n) vs))
+    (count-map (satisfies es) (satisfies (map (fix x) es)) x vs (satisfies-fix x es))
     ∙ ap (λ (k : ℕ). countIn (satisfies (map (fix x) es)) vs + k) (count-fold es vs n (x +ℤ pos 1))
 
 -- over the whole range of the first parameter
-pub count-whole : (es : List Affine) (r : Range) (rs : List Range) → count (r ∷ rs) es ≡ total (λ (x : ℤ). count rs (map (fix x) es)) (r .low) (width r)
+pub count-whole : (es : List Affine) (r : Range) (rs : List Range)
+    → count (r ∷ rs) es ≡ total (λ (x : ℤ). count rs (map (fix x) es)) (r .low) (width r)
 unfolding count valuations
 count-whole es r rs = count-fold es (valuations rs) (width r) (r .low)
 
@@ -310,11 +346,13 @@ not-true true h = absurd (h refl)
 not-true false h = refl
 
 -- outside the narrowed range of the first parameter no valuation meets the inequalities
-outside : (es : List Affine) (r : Range) (rs : List Range) (x : ℤ) → In x r → (In x (narrowed es r rs) → ⊥) → (v : List ℤ) → List·Memᴰ v (valuations rs) → satisfies (map (fix x) es) v ≡ false
+outside : (es : List Affine) (r : Range) (rs : List Range) (x : ℤ) → In x r → (In x (narrowed es r rs) → ⊥) → (v : List ℤ)
+    → List·Memᴰ v (valuations rs) → satisfies (map (fix x) es) v ≡ false
 outside es r rs x h o v m =
     satisfies-fix x es v ∙ not-true (satisfies es (x ∷ v)) (λ e. o (narrowed-keeps es r rs x v (h, valuations-inside rs v m) e))
 
-pub count-step : (es : List Affine) (r : Range) (rs : List Range) → count (r ∷ rs) es ≡ total (λ (x : ℤ). count rs (map (fix x) es)) (narrowed es r rs .low) (width (narrowed es r rs))
+pub count-step : (es : List Affine) (r : Range) (rs : List Range)
+    → count (r ∷ rs) es ≡ total (λ (x : ℤ). count rs (map (fix x) es)) (narrowed es r rs .low) (width (narrowed es r rs))
 unfolding count
 count-step es r rs =
     count-whole es r rs
@@ -333,10 +371,10 @@ unfolding count valuations countIn
 count-last es r =
     count-step es r []
     ∙ total-ones (λ (x : ℤ). count [] (map (fix x) es)) (width (narrowed es r [])) (narrowed es r [] .low)
-    (λ y g h. ap (λ (b : Bool). pickN b 1 0) (satisfies-fix y es [] ∙ narrowed-last es r y (width-in (narrowed es r []) y .1 (g, h))))
+    (λ y g h. ap (λ (b : Bool). cond b 1 0) (satisfies-fix y es [] ∙ narrowed-last es r y (width-in (narrowed es r []) y .1 (g, h))))
 
 -- ---- searching over lists
-pick-else : (b : Bool) (v : List ℤ) (m k j : Option (List ℤ)) → m ≡ orElse k j → pickO b (some v) m ≡ orElse (pickO b (some v) k) j
+pick-else : (b : Bool) (v : List ℤ) (m k j : Option (List ℤ)) → m ≡ orElse k j → cond b (some v) m ≡ orElse (cond b (some v) k) j
 pick-else true v m k j h = refl
 pick-else false v m k j h = h
 
@@ -345,58 +383,70 @@ unfolding firstIn
 first-append t [] b = refl
 first-append t (v ∷ a) b = pick-else (t v) v (firstIn t (a ++ b)) (firstIn t a) (firstIn t b) (first-append t a b)
 
-pick-lead : (b : Bool) (x : ℤ) (v : List ℤ) (m : Option (List ℤ)) → pickO b (some (x ∷ v)) (lead x m) ≡ lead x (pickO b (some v) m)
+pick-lead : (b : Bool) (x : ℤ) (v : List ℤ) (m : Option (List ℤ)) → cond b (some (x ∷ v)) (lead x m) ≡ lead x (cond b (some v) m)
 pick-lead true x v m = refl
 pick-lead false x v m = refl
 
-first-map : (t u : List ℤ → Bool) (x : ℤ) (vs : List (List ℤ)) → ((v : List ℤ) → u v ≡ t (x ∷ v)) → firstIn t (map (λ (v : List ℤ). x ∷ v) vs) ≡ lead x (firstIn u vs)
+first-map : (t u : List ℤ → Bool) (x : ℤ) (vs : List (List ℤ)) → ((v : List ℤ) → u v ≡ t (x ∷ v))
+    → firstIn t (map (λ (v : List ℤ). x ∷ v) vs) ≡ lead x (firstIn u vs)
 unfolding firstIn
 first-map t u x [] h = refl
 first-map t u x (v ∷ vs) h =
-    ap (λ (m : Option (List ℤ)). pickO (t (x ∷ v)) (some (x ∷ v)) m) (first-map t u x vs h)
-    ∙ ap (λ (b : Bool). pickO b (some (x ∷ v)) (lead x (firstIn u vs))) (sym (h v))
+    ap (λ (m : Option (List ℤ)). cond (t (x ∷ v)) (some (x ∷ v)) m) (first-map t u x vs h)
+    ∙ ap (λ (b : Bool). cond b (some (x ∷ v)) (lead x (firstIn u vs))) (sym (h v))
     ∙ pick-lead (u v) x v (firstIn u vs)
 
 first-empty : (t : List ℤ → Bool) (vs : List (List ℤ)) → ((v : List ℤ) → List·Memᴰ v vs → t v ≡ false) → firstIn t vs ≡ none
 unfolding firstIn
 first-empty t [] h = refl
 first-empty t (v ∷ vs) h =
-    ap (λ (b : Bool). pickO b (some v) (firstIn t vs)) (h v (List·Memᴰ·head refl)) ∙ first-empty t vs (λ w m. h w (List·Memᴰ·tail m))
+    ap (λ (b : Bool). cond b (some v) (firstIn t vs)) (h v (List·Memᴰ·head refl)) ∙ first-empty t vs (λ w m. h w (List·Memᴰ·tail m))
 
-first-fold : (es : List Affine) (vs : List (List ℤ)) (n : ℕ) (x : ℤ) → firstIn (satisfies es) (before (span x n) vs) ≡ firstOver (λ (y : ℤ). lead y (firstIn (satisfies (map (fix y) es)) vs)) x n
+first-fold : (es : List Affine) (vs : List (List ℤ)) (n : ℕ) (x : ℤ)
+    → firstIn (satisfies es) (before (span x n) vs) ≡ firstOver (λ (y : ℤ). lead y (firstIn (satisfies (map (fix y) es)) vs)) x n
 unfolding before span firstOver firstIn
 first-fold es vs zero x = refl
 first-fold es vs (suc n) x =
     first-append (satisfies es) (map (λ (v : List ℤ). x ∷ v) vs) (before (span (x +ℤ pos 1) n) vs)
-    ∙ ap (λ (o : Option (List ℤ)). orElse o (firstIn (satisfies es) (before (span (x +ℤ pos 1) n) vs))) (first-map (satisfies es) (satisfies (map (fix x) es)) x vs (satisfies-fix x es))
+    ∙ ap (λ (o : Option (List ℤ)). orElse o (firstIn (satisfies es) (before (span (x +ℤ pos 1) n) vs)))
+    (first-map (satisfies es) (satisfies (map (fix x) es)) x vs (satisfies-fix x es))
     ∙ ap (λ (o : Option (List ℤ)). orElse (lead x (firstIn (satisfies (map (fix x) es)) vs)) o) (first-fold es vs n (x +ℤ pos 1))
 
 -- over the whole range of the first parameter
-pub first-whole : (es : List Affine) (r : Range) (rs : List Range) → first (r ∷ rs) es ≡ firstOver (λ (x : ℤ). lead x (first rs (map (fix x) es))) (r .low) (width r)
+pub first-whole : (es : List Affine) (r : Range) (rs : List Range)
+    → first (r ∷ rs) es ≡ firstOver (λ (x : ℤ). lead x (first rs (map (fix x) es))) (r .low) (width r)
 unfolding first valuations
 first-whole es r rs = first-fold es (valuations rs) (width r) (r .low)
 
-pub first-step : (es : List Affine) (r : Range) (rs : List Range) → first (r ∷ rs) es ≡ firstOver (λ (x : ℤ). lead x (first rs (map (fix x) es))) (narrowed es r rs .low) (width (narrowed es r rs))
+pub first-step : (es : List Affine) (r : Range) (rs : List Range)
+    → first (r ∷ rs) es ≡ firstOver (λ (x : ℤ). lead x (first rs (map (fix x) es))) (narrowed es r rs .low) (width (narrowed es r rs))
 unfolding first
 first-step es r rs =
     first-whole es r rs
     ∙ firstOver-skip (λ (x : ℤ). lead x (first rs (map (fix x) es))) r (narrowed es r rs) (λ y i. narrowed-in es r rs i)
     (λ y i o. ap (λ (m : Option (List ℤ)). lead y m) (first-empty (satisfies (map (fix y) es)) (valuations rs) (outside es r rs y i o)))
 
-firstOver-begin : (f : ℤ → Option (List ℤ)) (l h : ℤ) (v : List ℤ) (b : Bool) → leZ l h ≡ b → (l ≤ℤ h → f l ≡ some v) → firstOver f l (width (record { low = l; high = h })) ≡ pickO b (some v) none
+firstOver-begin : (f : ℤ → Option (List ℤ)) (l h : ℤ) (v : List ℤ) (b : Bool) → leZ l h ≡ b → (l ≤ℤ h → f l ≡ some v)
+    → firstOver f l (width (record { low = l; high = h })) ≡ cond b (some v) none
 unfolding firstOver
 firstOver-begin f l h v true e k =
-    ap (λ (j : ℕ). firstOver f l j) (width-suc l h (leZ-true e)) ∙ ap (λ (o : Option (List ℤ)). orElse o (firstOver f (l +ℤ pos 1) (width (record { low = l +ℤ pos 1; high = h })))) (k (leZ-true e))
+    ap (λ (j : ℕ). firstOver f l j) (width-suc l h (leZ-true e))
+    ∙ ap (λ (o : Option (List ℤ)). orElse o (firstOver f (l +ℤ pos 1) (width (record { low = l +ℤ pos 1; high = h })))) (k (leZ-true e))
 firstOver-begin f l h v false e k = ap (λ (j : ℕ). firstOver f l j) (width-zero (record { low = l; high = h }) (leZ-false e))
 
 -- with no later parameter: the lowest of the narrowed range
-pub first-last : (es : List Affine) (r : Range) → first (r ∷ []) es ≡ pickO (leZ (narrowed es r [] .low) (narrowed es r [] .high)) (some (narrowed es r [] .low ∷ [])) none
+pub first-last : (es : List Affine) (r : Range)
+    → first (r ∷ []) es ≡ cond (leZ (narrowed es r [] .low) (narrowed es r [] .high)) (some (narrowed es r [] .low ∷ [])) none
 unfolding first valuations firstIn
 first-last es r =
     first-step es r []
-    ∙ firstOver-begin (λ (x : ℤ). lead x (first [] (map (fix x) es))) (narrowed es r [] .low) (narrowed es r [] .high) (narrowed es r [] .low ∷ [])
+    ∙ firstOver-begin (λ (x : ℤ). lead x (first [] (map (fix x) es))) (narrowed es r [] .low) (narrowed es r [] .high)
+    (narrowed es r [] .low ∷ [])
     (leZ (narrowed es r [] .low) (narrowed es r [] .high)) refl
-    (λ k. ap (λ (b : Bool). lead (narrowed es r [] .low) (pickO b (some []) none)) (satisfies-fix (narrowed es r [] .low) es [] ∙ narrowed-last es r (narrowed es r [] .low) (record { least = ≤ℤ-refl (narrowed es r [] .low); most = k })))
+    (λ k.
+    ap (λ (b : Bool). lead (narrowed es r [] .low) (cond b (some []) none))
+    (satisfies-fix (narrowed es r [] .low) es []
+    ∙ narrowed-last es r (narrowed es r [] .low) (record { least = ≤ℤ-refl (narrowed es r [] .low); most = k })))
 
 -- ---- what the first found and the count say
 found-passes : (t : List ℤ → Bool) (vs : List (List ℤ)) (v : List ℤ) → firstIn t vs ≡ some v → t v ≡ true
@@ -404,16 +454,16 @@ unfolding firstIn
 found-passes t [] v h = cc
 found-passes t (w ∷ vs) v h = go (t w) refl h (λ k. found-passes t vs v k)
   where
-    go : (b : Bool) → t w ≡ b → pickO b (some w) (firstIn t vs) ≡ some v → (firstIn t vs ≡ some v → t v ≡ true) → t v ≡ true
+    go : (b : Bool) → t w ≡ b → cond b (some w) (firstIn t vs) ≡ some v → (firstIn t vs ≡ some v → t v ≡ true) → t v ≡ true
     go true e k ih = cc
     go false e k ih = ih k
 
 found-member : (t : List ℤ → Bool) (vs : List (List ℤ)) (v : List ℤ) → firstIn t vs ≡ some v → List·Memᴰ v vs
 unfolding firstIn
-found-member t [] v h = let z : _≡_ {A = ℕ} 0 1 = cc in absurd (omega arith)
+found-member t [] v h = apart cc
 found-member t (w ∷ vs) v h = go (t w) h (λ k. found-member t vs v k)
   where
-    go : (b : Bool) → pickO b (some w) (firstIn t vs) ≡ some v → (firstIn t vs ≡ some v → List·Memᴰ v vs) → List·Memᴰ v (w ∷ vs)
+    go : (b : Bool) → cond b (some w) (firstIn t vs) ≡ some v → (firstIn t vs ≡ some v → List·Memᴰ v vs) → List·Memᴰ v (w ∷ vs)
     go true k ih = let q : v ≡ w = cc in List·Memᴰ·head q
     go false k ih = List·Memᴰ·tail (ih k)
 
@@ -422,7 +472,8 @@ unfolding firstIn
 none-passes t [] h v m = absurd (List·Memᴰ·not-nil m)
 none-passes t (w ∷ vs) h v m = go (t w) refl h (List·Memᴰ·cases-cons m) (λ k i. none-passes t vs k v i)
   where
-    go : (b : Bool) → t w ≡ b → pickO b (some w) (firstIn t vs) ≡ none → (v ≡ w) ⊎ List·Memᴰ v vs → (firstIn t vs ≡ none → List·Memᴰ v vs → t v ≡ false) → t v ≡ false
+    go : (b : Bool) → t w ≡ b → cond b (some w) (firstIn t vs) ≡ none → (v ≡ w) ⊎ List·Memᴰ v vs
+        → (firstIn t vs ≡ none → List·Memᴰ v vs → t v ≡ false) → t v ≡ false
     go true e k i ih = cc
     go false e k (inl q) ih = cc
     go false e k (inr i) ih = ih k i
@@ -432,7 +483,8 @@ unfolding countIn firstIn
 none-counted t [] h = refl
 none-counted t (w ∷ vs) h = go (t w) h (λ k. none-counted t vs k)
   where
-    go : (b : Bool) → pickN b (suc (countIn t vs)) (countIn t vs) ≡ 0 → (countIn t vs ≡ 0 → firstIn t vs ≡ none) → pickO b (some w) (firstIn t vs) ≡ none
+    go : (b : Bool) → cond b (suc (countIn t vs)) (countIn t vs) ≡ 0 → (countIn t vs ≡ 0 → firstIn t vs ≡ none)
+        → cond b (some w) (firstIn t vs) ≡ none
     go true k ih = absurd (omega arith)
     go false k ih = ih k
 
@@ -453,5 +505,7 @@ first-none rs es h v i = none-passes (satisfies es) (valuations rs) h v (valuati
 
 pub count-zero : (rs : List Range) (es : List Affine) → (count rs es ≡ 0) ↔ (first rs es ≡ none)
 unfolding first count
-count-zero rs es =
-    (none-counted (satisfies es) (valuations rs), λ h. count-none (satisfies es) (valuations rs) (none-passes (satisfies es) (valuations rs) h))
+count-zero rs es = (
+  none-counted (satisfies es) (valuations rs),
+  λ h. count-none (satisfies es) (valuations rs) (none-passes (satisfies es) (valuations rs) h),
+)

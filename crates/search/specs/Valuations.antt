@@ -1,6 +1,6 @@
 -- The valuations of some ranges, and which of them meet inequalities, for any number of parameters (paper 01, "A test on a piece").
 use mathlib.Core.List.{List, [], _∷_, _++_, map}
-use mathlib.Core.Bool.{Bool, true, false, _&&_}
+use mathlib.Core.Bool.{Bool, true, _&&_, cond}
 use mathlib.Core.Option.{Option, none, some}
 use Prim.Native.Nat.{ℕ, zero, suc, _*_}
 use lib.IntN.{ℤ, pos, _+ℤ_, _-ℤ_}
@@ -33,23 +33,15 @@ unfoldable pub satisfies : List Affine → List ℤ → Bool
 satisfies [] v = true
 satisfies (e ∷ es) v = leZ (pos 0) (value e v) && satisfies es v
 
-abbrev pub pickO : Bool → Option (List ℤ) → Option (List ℤ) → Option (List ℤ)
-pickO true a b = a
-pickO false a b = b
-
-abbrev pub pickN : Bool → ℕ → ℕ → ℕ
-pickN true a b = a
-pickN false a b = b
-
 -- the first of a list that passes a test
 unfoldable pub firstIn : (List ℤ → Bool) → List (List ℤ) → Option (List ℤ)
 firstIn t [] = none
-firstIn t (v ∷ vs) = pickO (t v) (some v) (firstIn t vs)
+firstIn t (v ∷ vs) = cond (t v) (some v) (firstIn t vs)
 
 -- how many of a list pass a test
 unfoldable pub countIn : (List ℤ → Bool) → List (List ℤ) → ℕ
 countIn t [] = 0
-countIn t (v ∷ vs) = pickN (t v) (suc (countIn t vs)) (countIn t vs)
+countIn t (v ∷ vs) = cond (t v) (suc (countIn t vs)) (countIn t vs)
 
 -- the first valuation of the ranges that meets the inequalities
 unfoldable pub first : List Range → List Affine → Option (List ℤ)

@@ -5,11 +5,11 @@ use expr::Ranges;
 use expr::Valuation;
 ghost use mathlib.Core.Path.{_≡_};
 ghost use mathlib.Core.List.{[], _∷_};
-ghost use lib.IntN.{pos, negℤ, _+ℤ_};
-ghost use lib.Signed.{_≤ℤ_, _<ℤ_};
+ghost use lib.IntN.{pos};
+ghost use lib.Signed.{_<ℤ_};
 ghost use Prim.Native.Nat.{_<_, _≤_};
 ghost use Rattle.integer.specs.Floor.{floorZ};
-ghost use Rattle.search.specs.Interval.{Tame, EMPTY, from, upTo, interval, end, fix, narrow, pointAt};
+ghost use Rattle.search.specs.Interval.{Tame, from, upTo, interval, end, fix, narrow, pointAt};
 ghost use Rattle.expr.specs.Three.{affine};
 ghost use Rattle.search.specs.Valuations.{width};
 

@@ -123,7 +123,9 @@ pub fn count(b: Ranges, s: System) -> usize
 
 // The first r that meets s, p and q being at their lowest.
 fn first_r(b: Ranges, s: System) -> Solution
-    ensures { λ v. ⌜ v ≡ firstOf (lead (b .p .low) (lead (b .q .low) (first (b .r ∷ []) (map (fix (b .q .low)) (map (fix (b .p .low)) (exprs s)))))) ⌝ }
+    ensures { λ v.
+        ⌜ v
+        ≡ firstOf (lead (b .p .low) (lead (b .q .low) (first (b .r ∷ []) (map (fix (b .q .low)) (map (fix (b .p .low)) (exprs s)))))) ⌝ }
 {
     let range = narrowed_r(b, s);
     if ranges::width(range) == 0 {

@@ -1,6 +1,6 @@
 -- What is asked of decoded input, and how an answer goes back as one number.
 use mathlib.Core.Path.{_≡_, refl, ap, _∙_}
-use mathlib.Core.Bool.{Bool, true, false}
+use mathlib.Core.Bool.{Bool, true, false, cond}
 use mathlib.Core.List.{List, [], _∷_}
 use Prim.Native.Nat.{ℕ, suc, _*_, _≤_}
 use native.Mathlib.Nat.{mul-le-mul}
@@ -13,11 +13,10 @@ use mir.Val.{SFits, toZ, ofZ}
 use mir.ValLaws.{toZ-ofZ}
 use Rattle.integer.specs.Parts.{p, n, zs, +-parts, -parts, fits-in}
 use Rattle.expr.specs.Affine.{Affine}
-use Rattle.search.specs.Valuations.{widths}
+use Rattle.search.specs.Valuations.{widths, first, count, countIn, satisfies, valuations, width}
 use Rattle.search.specs.SearchLaws.{valuations-length}
 use Rattle.search.specs.System.{exprs, firstOf}
 use Rattle.expr.specs.Three.{rangeList}
-use Rattle.search.specs.Valuations.{first, count, countIn, pickN, satisfies, valuations, width}
 use Rattle.expr.specs.declared.range.Ranges.{Ranges}
 use Rattle.search.specs.declared.search.System.{System}
 
@@ -26,7 +25,7 @@ pub same : (n : ℕ) → n ≤ 281474976710656 → toZ w64 n ≡ pos n
 same n h = toZ-pos w64 (omega arith)
 
 -- ---- how many valuations three ranges have
-picked : (b : Bool) (k m : ℕ) → k ≤ m → pickN b (suc k) k ≤ suc m
+picked : (b : Bool) (k m : ℕ) → k ≤ m → cond b (suc k) k ≤ suc m
 picked true k m h = omega arith
 picked false k m h = omega arith
 
@@ -50,7 +49,8 @@ three a b c h k l =
     let y : b * (c * 1) ≤ 65536 * 65536 = mul-le-mul k x in
     mul-le-mul {n₂ = 65536} {m₂ = 4294967296} h y
 
-pub count-most : (b : Ranges) (es : List Affine) → width (b .p) ≤ 65536 → width (b .q) ≤ 65536 → width (b .r) ≤ 65536 → count (rangeList b) es ≤ 281474976710656
+pub count-most : (b : Ranges) (es : List Affine) → width (b .p) ≤ 65536 → width (b .q) ≤ 65536 → width (b .r) ≤ 65536
+    → count (rangeList b) es ≤ 281474976710656
 unfolding count widths
 count-most b es f g h =
     omega (
@@ -65,4 +65,5 @@ module _ (b c : Ranges) (s t : System) (eb : b ≡ c) (es : s ≡ t) where
   counts = ap (λ (x : Ranges). count (rangeList x) (exprs s)) eb ∙ ap (λ (x : System). count (rangeList c) (exprs x)) es
 
   pub firsts : firstOf (first (rangeList b) (exprs s)) ≡ firstOf (first (rangeList c) (exprs t))
-  firsts = ap (λ (x : Ranges). firstOf (first (rangeList x) (exprs s))) eb ∙ ap (λ (x : System). firstOf (first (rangeList c) (exprs x))) es
+  firsts =
+      ap (λ (x : Ranges). firstOf (first (rangeList x) (exprs s))) eb ∙ ap (λ (x : System). firstOf (first (rangeList c) (exprs x))) es

@@ -75,12 +75,16 @@ module _ (x : ℤ) (f : SFits w16 x) where
   unfolding shifted
   natural = omega (arith, natAbs-parts (x +ℤ pos 32768), nonneg-part nonneg)
 
-  pub unsigned-fits : T (nonNeg (toZ w64 (ofZ w64 (toZ w64 (ofZ w64 (toZ w16 (ofZ w16 x))) +ℤ pos 32768)))) × Fits w64 (natAbs (toZ w64 (ofZ w64 (toZ w64 (ofZ w64 (toZ w16 (ofZ w16 x))) +ℤ pos 32768))))
+  pub unsigned-fits :
+      T (nonNeg (toZ w64 (ofZ w64 (toZ w64 (ofZ w64 (toZ w16 (ofZ w16 x))) +ℤ pos 32768))))
+      × Fits w64 (natAbs (toZ w64 (ofZ w64 (toZ w64 (ofZ w64 (toZ w16 (ofZ w16 x))) +ℤ pos 32768))))
   unsigned-fits = rw sum-is (yes-nonNeg nonneg, fits-natAbs {w = w64} tt (rw cast-is at sum-fits))
 
   small : shifted x < 65536
   unfolding shifted
   small = omega (zs, +-parts x (pos 32768), pos-parts 32768, fits-in f, nonneg-part nonneg)
 
-  pub shifted-is : (natAbs (toZ w64 (ofZ w64 (toZ w64 (ofZ w64 (toZ w16 (ofZ w16 x))) +ℤ pos 32768))) ≡ shifted x) × (natAbs (toZ w64 (ofZ w64 (toZ w64 (ofZ w64 (toZ w16 (ofZ w16 x))) +ℤ pos 32768))) < 65536)
+  pub shifted-is :
+      (natAbs (toZ w64 (ofZ w64 (toZ w64 (ofZ w64 (toZ w16 (ofZ w16 x))) +ℤ pos 32768))) ≡ shifted x)
+      × (natAbs (toZ w64 (ofZ w64 (toZ w64 (ofZ w64 (toZ w16 (ofZ w16 x))) +ℤ pos 32768))) < 65536)
   shifted-is = rw (sum-is, natural) (refl, small)

@@ -1,6 +1,6 @@
 -- What the bytes of the input stand for: numbers are little-endian, and past the end every byte is 0.
 use mathlib.Core.List.{List}
-use mathlib.Core.Bool.{Bool, true, false}
+use mathlib.Core.Bool.{cond}
 use Prim.Native.Nat.{ℕ, zero, suc, _+_, _*_, min}
 use lib.Dec.{ltb}
 use lib.IntN.{ℤ, pos, _-ℤ_}
@@ -22,13 +22,9 @@ word16 s i = byteAt s i + 256 * byteAt s (i + 1)
 unfoldable pub word32 : List ℕ → ℕ → ℕ
 word32 s i = word16 s i + 65536 * word16 s (i + 2)
 
-abbrev pub pickZ : Bool → ℤ → ℤ → ℤ
-pickZ true a b = a
-pickZ false a b = b
-
 -- a number below 2 · half read with a sign: from half on it stands for itself less 2 · half
 unfoldable pub signed : ℕ → ℕ → ℤ
-signed half n = pickZ (ltb n half) (pos n) (pos n -ℤ pos (2 * half))
+signed half n = cond (ltb n half) (pos n) (pos n -ℤ pos (2 * half))
 
 -- the i16 at i
 unfoldable pub int16 : List ℕ → ℕ → ℤ

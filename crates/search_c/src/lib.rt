@@ -182,7 +182,8 @@ fn answer(found: Solution) -> i64
 // The first valuation in lexicographic order that meets the inequalities, packed; or -1.
 #[no_mangle]
 pub extern "C" fn search_first(input: &[u8]) -> i64
-    ensures { λ r. ⌜ r ≡ firstAnswer (firstOf (first (rangeList (rangesOf (now (input .entry)))) (exprs (systemOf (now (input .entry)))))) ⌝ }
+    ensures { λ r.
+        ⌜ r ≡ firstAnswer (firstOf (first (rangeList (rangesOf (now (input .entry)))) (exprs (systemOf (now (input .entry)))))) ⌝ }
 {
     answer(search::first(ranges(input), system(input)))
 }

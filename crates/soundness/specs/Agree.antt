@@ -10,7 +10,7 @@ use Rattle.cutting.specs.Listings.{listed-same, listed-first}
 use Rattle.cutting.specs.Works.{append-nil, each, each-kept, delay-found, guard-found, resets-found, start-at}
 use Rattle.dbm.specs.Matrix.{Matrix, start, Outcome, void, kept}
 use Rattle.expr.specs.Ranges.{Inside}
-use Rattle.expr.specs.Limit.{Limit}
+use Rattle.weight.specs.Upper.{Upper}
 use Rattle.expr.specs.Three.{rangeList}
 use Rattle.search.specs.Valuations.{satisfies}
 use Rattle.expr.specs.declared.range.Range.{Range}
@@ -19,24 +19,24 @@ use Rattle.concrete.specs.Walk.{andThen, step, walk, sweepAlong}
 use Rattle.timed.specs.Steps.{Step, delay, guard, resets, stepsOf}
 
 -- ---- one step after another on all matrices of a list
-each-append : (f : Matrix (Limit ℤ) → Outcome) (xs ys : List (Matrix (Limit ℤ))) → each f (xs ++ ys) ≡ each f xs ++ each f ys
+each-append : (f : Matrix (Upper ℤ) → Outcome) (xs ys : List (Matrix (Upper ℤ))) → each f (xs ++ ys) ≡ each f xs ++ each f ys
 unfolding each
 each-append f [] ys = refl
-each-append f (x ∷ xs) ys = ap (λ (l : List (Matrix (Limit ℤ))). listOf (f x) ++ l) (each-append f xs ys)
+each-append f (x ∷ xs) ys = ap (λ (l : List (Matrix (Upper ℤ))). listOf (f x) ++ l) (each-append f xs ys)
     ∙ sym (append-assoc (listOf (f x)) (each f xs) (each f ys))
 
-each-outcome : (g : Matrix (Limit ℤ) → Outcome) (r : Outcome) → each g (listOf r) ≡ listOf (andThen r g)
+each-outcome : (g : Matrix (Upper ℤ) → Outcome) (r : Outcome) → each g (listOf r) ≡ listOf (andThen r g)
 unfolding each
 each-outcome g void = refl
 each-outcome g (kept m) = append-nil (listOf (g m))
 
-each-then : (f g : Matrix (Limit ℤ) → Outcome) (ms : List (Matrix (Limit ℤ))) → each g (each f ms) ≡ each (λ m. andThen (f m) g) ms
+each-then : (f g : Matrix (Upper ℤ) → Outcome) (ms : List (Matrix (Upper ℤ))) → each g (each f ms) ≡ each (λ m. andThen (f m) g) ms
 unfolding each
 each-then f g [] = refl
 each-then f g (m ∷ ms) =
     each-append g (listOf (f m)) (each f ms)
-    ∙ ap (λ (l : List (Matrix (Limit ℤ))). l ++ each g (each f ms)) (each-outcome g (f m))
-    ∙ ap (λ (l : List (Matrix (Limit ℤ))). listOf (andThen (f m) g) ++ l) (each-then f g ms)
+    ∙ ap (λ (l : List (Matrix (Upper ℤ))). l ++ each g (each f ms)) (each-outcome g (f m))
+    ∙ ap (λ (l : List (Matrix (Upper ℤ))). listOf (andThen (f m) g) ++ l) (each-then f g ms)
 
 -- ---- any list of steps
 module _ (rs : List Range) (v : List ℤ) (inside-ranges : Inside v rs) (w : ℕ) where
@@ -63,7 +63,7 @@ pub found-steps : (rs : List Range) (v : List ℤ) → Inside v rs → (w : ℕ)
 unfolding found each satisfies
 found-steps rs v i w steps zs q =
     found-walk rs v i w steps (startZone ∷ []) zs q
-    ∙ ap (λ (m : Matrix (Limit ℤ)). each (walk w v steps) (m ∷ [])) (start-at v)
+    ∙ ap (λ (m : Matrix (Upper ℤ)). each (walk w v steps) (m ∷ [])) (start-at v)
     ∙ append-nil (listOf (walk w v steps start))
 
 -- along a route

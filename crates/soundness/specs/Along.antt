@@ -8,8 +8,9 @@ use mathlib.Core.Bool.{Bool, true, false, cond}
 use Prim.Native.Nat.{ℕ, _≤_}
 use native.Mathlib.Omega.{arith}
 use lib.IntN.{ℤ, pos}
+use Rattle.integer.specs.Apart.{apart}
 use Rattle.dbm.specs.Matrix.{Matrix, Outcome, void, kept}
-use Rattle.expr.specs.Limit.{Limit, none, limit}
+use Rattle.weight.specs.Upper.{Upper, none, upper}
 use Rattle.sheet.specs.declared.Sheet.{Sheet}
 use Rattle.sheet.specs.WellFormed.{WellFormed}
 use Rattle.concrete.specs.Proofs.{along-right}
@@ -31,16 +32,15 @@ found-has v (y ∷ zs) z i h = by (holds v y) refl (List·Memᴰ·cases-cons i) 
     by true e (inr k) ih = List·Memᴰ·tail (ih k)
     by false e (inl q) ih =
         let a : holds v y ≡ true = subst (λ (x : Zone). holds v x ≡ true) q h in
-        let o : _≡_ {A = ℕ} 0 1 = cc in
-        absurd (omega arith)
+        apart cc
     by false e (inr k) ih = ih k
 
 more-held : {v : List ℤ} {z : Zone} {zs : List Zone} → HeldBy v zs → HeldBy v (z ∷ zs)
 more-held h = record { zone = h .zone; one-of = List·Memᴰ·tail (h .one-of); held = h .held }
 
-pub found-held : (v : List ℤ) (zs : List Zone) (m : Matrix (Limit ℤ)) (ms : List (Matrix (Limit ℤ))) → found v zs ≡ m ∷ ms → HeldBy v zs
+pub found-held : (v : List ℤ) (zs : List Zone) (m : Matrix (Upper ℤ)) (ms : List (Matrix (Upper ℤ))) → found v zs ≡ m ∷ ms → HeldBy v zs
 unfolding found
-found-held v [] m ms e = let o : _≡_ {A = ℕ} 0 1 = cc in absurd (omega arith)
+found-held v [] m ms e = apart cc
 found-held v (z ∷ zs) m ms e = by (holds v z) refl e (found-held v zs m ms)
   where
     by : (b : Bool) → holds v z ≡ b → cond b (at v (z .bounds) ∷ found v zs) (found v zs) ≡ m ∷ ms → (found v zs ≡ m ∷ ms → HeldBy v zs)
@@ -48,14 +48,14 @@ found-held v (z ∷ zs) m ms e = by (holds v z) refl e (found-held v zs m ms)
     by true h k ih = record { zone = z; one-of = List·Memᴰ·head refl; held = h }
     by false h k ih = more-held (ih k)
 
-one-kept : (r : Outcome) (m : Matrix (Limit ℤ)) → List·Memᴰ m (listOf r) → r ≡ kept m
+one-kept : (r : Outcome) (m : Matrix (Upper ℤ)) → List·Memᴰ m (listOf r) → r ≡ kept m
 one-kept void m i = absurd (List·Memᴰ·not-nil i)
 one-kept (kept m′) m i = ap kept (sym (List·Memᴰ·eq-of-singleton i))
 
-tightest-run : {s : Sheet} {route : List ℕ} {v : List ℤ} (i j : ℕ) (b : Limit ℤ) → TightestAlong s route v i j b → RunAlong s route v
+tightest-run : {s : Sheet} {route : List ℕ} {v : List ℤ} (i j : ℕ) (b : Upper ℤ) → TightestAlong s route v i j b → RunAlong s route v
 tightest-run i j none t = t (pos 0) .0
-tightest-run i j (limit false c) t = t .1 .0
-tightest-run i j (limit true c) t = t .1 1 (omega arith) .0
+tightest-run i j (upper false c) t = t .1 .0
+tightest-run i j (upper true c) t = t .1 1 (omega arith) .0
 
 -- ---- any route
 module _ (s : Sheet) (route : List ℕ) (zs : List Zone) (q : zonesAlong s route ≡ listed zs) (v : List ℤ) (i : InRanges s v) where
@@ -67,7 +67,7 @@ module _ (s : Sheet) (route : List ℕ) (zs : List Zone) (q : zonesAlong s route
   pub along-agree : (h : HeldBy v zs) → sweepAlong s route v ≡ kept (at v (h .zone .bounds))
   along-agree h =
       one-kept (sweepAlong s route v) (at v (h .zone .bounds))
-      (subst (λ (l : List (Matrix (Limit ℤ))). List·Memᴰ (at v (h .zone .bounds)) l) along-found
+      (subst (λ (l : List (Matrix (Upper ℤ))). List·Memᴰ (at v (h .zone .bounds)) l) along-found
       (found-has v zs (h .zone) (h .one-of) (h .held)))
 
   module _ (f : WellFormed s) where

@@ -8,9 +8,8 @@ use lib.IntN.{ℤ}
 use lib.ListN.{length}
 use Rattle.dbm.specs.Matrix.{Outcome, void, kept}
 use Rattle.search.specs.SearchLaws.{valuations-inside, valuations-length}
-use Rattle.search.specs.Valuations.{widths}
+use Rattle.search.specs.Valuations.{widths, valuations, satisfies, countIn, count}
 use Rattle.expr.specs.Three.{rangeList}
-use Rattle.search.specs.Valuations.{valuations, satisfies, countIn, count, pickN}
 use Rattle.expr.specs.declared.range.Range.{Range}
 use Rattle.sheet.specs.declared.Sheet.{Sheet}
 use Rattle.sheet.specs.WellFormed.{WellFormed}
@@ -63,7 +62,7 @@ tally-step v vs [] = refl
 tally-step v vs (z ∷ zs) = by (holds v z) (tally-step v vs zs)
   where
     by : (b : Bool) → tally (v ∷ vs) zs ≡ length (found v zs) + tally vs zs
-        → pickN b (suc (countIn (satisfies (z .ineqs)) vs)) (countIn (satisfies (z .ineqs)) vs) + tally (v ∷ vs) zs
+        → cond b (suc (countIn (satisfies (z .ineqs)) vs)) (countIn (satisfies (z .ineqs)) vs) + tally (v ∷ vs) zs
         ≡ length (cond b (at v (z .bounds) ∷ found v zs) (found v zs)) + (countIn (satisfies (z .ineqs)) vs + tally vs zs)
     by true ih = omega arith
     by false ih = omega arith
@@ -109,7 +108,8 @@ counted-length (lacks p c) = let h = counted-length c in omega arith
 others : {P : List ℤ → Type 0} {vs : List (List ℤ)} {n : ℕ} → Counted P vs n → Counted (λ v. P v → ⊥) vs (length vs - n)
 others nil = nil
 others {P} (has {v} {vs} {n} p c) =
-    let e : length vs - n ≡ suc (length vs) - suc n = omega arith in subst (Counted (λ u. P u → ⊥) (v ∷ vs)) e (lacks (λ k. k p) (others c))
+    let e : length vs - n ≡ suc (length vs) - suc n = omega arith in
+    subst (Counted (λ u. P u → ⊥) (v ∷ vs)) e (lacks (λ k. k p) (others c))
 others {P} (lacks {v} {vs} {n} p c) =
     let h = counted-length c in
     let e : suc (length vs - n) ≡ suc (length vs) - n = omega arith in subst (Counted (λ u. P u → ⊥) (v ∷ vs)) e (has p (others c))

@@ -1,7 +1,7 @@
 -- What a part comes to does not change along its tests.
 use mathlib.Core.Path.{_≡_, refl, sym, ap, subst, _∙_}
 use mathlib.Core.List.{List}
-use mathlib.Core.Bool.{Bool, true, false}
+use mathlib.Core.Bool.{Bool, true, false, cond}
 use Prim.Native.Nat.{ℕ, zero, suc, _+_, _-_, _≤_, _<_}
 use native.Mathlib.Omega.{arith}
 use borrow.Author.Tests.{lt-ltb, le-ltb, eq-eqb, ne-eqb, ltb-true, ltb-false}
@@ -13,9 +13,11 @@ use Rattle.expr.specs.declared.bound.Test.the-variants.{Yes, No, Ask, Wide as T
 use Rattle.expr.specs.declared.number.Expr.{Expr}
 use Rattle.expr.specs.declared.range.Ranges.{Ranges}
 use Rattle.split.specs.Listed.{refusedC, listC}
-use Rattle.zones.specs.Zone.{pick, zeroExpr, plusC, moreC}
+use Rattle.expr.specs.Three.{zeroExpr}
+use Rattle.zones.specs.Zone.{plusC, moreC}
 use Rattle.parts.specs.Parts.{withBounds, standing, putC, pushedC, answeredC, haltedC, forwardC, withMore, yesC, noC}
-use Rattle.split.specs.Trees.{TreeC, cutT, keepT, wideT, askT, testedC, pushC, tightC, treeAt, workedC, endedC, meant, meantEnd, Live, Ran}
+use Rattle.split.specs.Trees.{TreeC, cutT, keepT, wideT, askT, testedC, pushC, tightC, treeAt, workedC, endedC, meant, meantEnd}
+use Rattle.split.specs.Trees.{Live, Ran}
 use Rattle.constrain.specs.Rules.{viaC, viaBound, askC}
 use Rattle.zones.specs.Settled.{oppositeC, neverC, onC, settledC}
 use Rattle.parts.specs.declared.part.Part.{Part}
@@ -40,15 +42,16 @@ worked-bounds b (askT e f) z m out =
 
 -- what follows the test of a phase
 unfoldable cont : Rule → ℕ → List Bound → Bool → TreeC
-cont r zero new b = pick b cutT (tightC r new)
-cont r (suc zero) new b = pick b (pushC r 25 0 new) (keepT new)
-cont r (suc (suc x)) new b = pushC r (24 - x) (suc x) (pick b (set new x (viaBound (viaC r x))) new)
+cont r zero new b = cond b cutT (tightC r new)
+cont r (suc zero) new b = cond b (pushC r 25 0 new) (keepT new)
+cont r (suc (suc x)) new b = pushC r (24 - x) (suc x) (cond b (set new x (viaBound (viaC r x))) new)
 
 tree-at : (r : Rule) (k : ℕ) (new : List Bound) → k < 27 → treeAt r k new ≡ testedC (askC r k) (cont r k new)
 unfolding treeAt cont tightC askC pushC
 tree-at r zero new h = refl
 tree-at r (suc zero) new h = refl
-tree-at r (suc (suc x)) new h = subst (λ (n : ℕ). pushC r n x new ≡ testedC (askC r (suc (suc x))) (cont r (suc (suc x)) new)) (left x h) refl
+tree-at r (suc (suc x)) new h =
+    subst (λ (n : ℕ). pushC r n x new ≡ testedC (askC r (suc (suc x))) (cont r (suc (suc x)) new)) (left x h) refl
   where
     left : (x : ℕ) → suc (suc x) < 27 → suc (24 - x) ≡ 25 - x
     left x h = omega arith
@@ -75,21 +78,22 @@ module _ (b : Ranges) (r : Rule) where
 
   -- the entry x put in, or not: the same inequalities
   abbrev entered : (p : Part) (x : ℕ) (t : Bool) → Part
-  entered p x t = pick t (putC p x (viaBound (viaC r x))) p
+  entered p x t = cond t (putC p x (viaBound (viaC r x))) p
 
   entered-count : (p : Part) (x : ℕ) (t : Bool) → entered p x t .zone .count ≡ p .zone .count
   entered-count p x true = refl
   entered-count p x false = refl
 
   cont-on : (x : ℕ) (new : List Bound) (t : Bool) → x < 24
-      → treeAt r (x + 3) (pick t (set new x (viaBound (viaC r x))) new) ≡ cont r (suc (suc x)) new t
+      → treeAt r (x + 3) (cond t (set new x (viaBound (viaC r x))) new) ≡ cont r (suc (suc x)) new t
   unfolding treeAt cont
   cont-on x new t l =
       let three : x + 3 ≡ suc (suc (suc x)) = omega arith in
       let less : 25 - suc x ≡ 24 - x = omega arith in
       rw (three, less) refl
 
-  cont-last : (x : ℕ) (new : List Bound) (t : Bool) → 24 ≤ x → keepT (pick t (set new x (viaBound (viaC r x))) new) ≡ cont r (suc (suc x)) new t
+  cont-last : (x : ℕ) (new : List Bound) (t : Bool) → 24 ≤ x
+      → keepT (cond t (set new x (viaBound (viaC r x))) new) ≡ cont r (suc (suc x)) new t
   unfolding cont pushC
   cont-last x new t l = let none : 24 - x ≡ 0 = omega arith in rw none refl
 
@@ -99,29 +103,35 @@ module _ (b : Ranges) (r : Rule) where
 
   on-entered : (q : Part) (x : ℕ) (t : Bool) (out : Zones)
       → workedC b (treeAt r (x + 3) (entered q x t .zone .bounds)) (entered q x t .zone) out
-      ≡ workedC b (treeAt r (x + 3) (pick t (set (q .zone .bounds) x (viaBound (viaC r x))) (q .zone .bounds))) (q .zone) out
+      ≡ workedC b (treeAt r (x + 3) (cond t (set (q .zone .bounds) x (viaBound (viaC r x))) (q .zone .bounds))) (q .zone) out
   on-entered q x true out = worked-bounds b _ (q .zone) (set (q .zone .bounds) x (viaBound (viaC r x))) out
   on-entered q x false out = refl
 
   on-worth : (q : Part) (x : ℕ) (t : Bool) → q .phase ≡ suc (suc x) → x < 24 → (out : Zones)
-      → workedC b (treeAt r (x + 3) (entered q x t .zone .bounds)) (entered q x t .zone) out ≡ workedC b (cont r (q .phase) (q .zone .bounds) t) (q .zone) out
-  on-worth q x t e l out = at-phase q (suc (suc x)) t _ out e (on-entered q x t out ∙ ap (λ (tree : TreeC). workedC b tree (q .zone) out) (cont-on x (q .zone .bounds) t l))
+      → workedC b (treeAt r (x + 3) (entered q x t .zone .bounds)) (entered q x t .zone) out
+      ≡ workedC b (cont r (q .phase) (q .zone .bounds) t) (q .zone) out
+  on-worth q x t e l out =
+      at-phase q (suc (suc x)) t _ out e
+      (on-entered q x t out ∙ ap (λ (tree : TreeC). workedC b tree (q .zone) out) (cont-on x (q .zone .bounds) t l))
 
   kept-worth : (q : Part) (x : ℕ) (t : Bool) (out : Zones)
-      → listC (entered q x t .zone) out ≡ workedC b (keepT (pick t (set (q .zone .bounds) x (viaBound (viaC r x))) (q .zone .bounds))) (q .zone) out
+      → listC (entered q x t .zone) out
+      ≡ workedC b (keepT (cond t (set (q .zone .bounds) x (viaBound (viaC r x))) (q .zone .bounds))) (q .zone) out
   unfolding workedC
   kept-worth q x true out = refl
   kept-worth q x false out = refl
 
   last-worth : (q : Part) (x : ℕ) (t : Bool) → q .phase ≡ suc (suc x) → 24 ≤ x → (out : Zones)
       → listC (entered q x t .zone) out ≡ workedC b (cont r (q .phase) (q .zone .bounds) t) (q .zone) out
-  last-worth q x t e l out = at-phase q (suc (suc x)) t _ out e (kept-worth q x t out ∙ ap (λ (tree : TreeC). workedC b tree (q .zone) out) (cont-last x (q .zone .bounds) t l))
+  last-worth q x t e l out =
+      at-phase q (suc (suc x)) t _ out e
+      (kept-worth q x t out ∙ ap (λ (tree : TreeC). workedC b tree (q .zone) out) (cont-last x (q .zone .bounds) t l))
 
   pushed-answered : (q : Part) (x : ℕ) (t : Bool) → q .phase ≡ suc (suc x) → x < 25 → Answered b r q t (pushedC r q x t)
   unfolding pushedC
   pushed-answered q x t e h = by (ltb x 24) refl
     where
-      by : (s : Bool) → ltb x 24 ≡ s → Answered b r q t (pick s (standing (entered q x t) (x + 3) 0) (standing (entered q x t) 27 2))
+      by : (s : Bool) → ltb x 24 ≡ s → Answered b r q t (cond s (standing (entered q x t) (x + 3) 0) (standing (entered q x t) 27 2))
       by true k =
           let l = ltb-true x 24 k in
           record {
@@ -153,11 +163,12 @@ module _ (b : Ranges) (r : Rule) where
   unfolding cont treeAt
   tight-worth q e out = rw e refl
 
-  not-tight-worth : (q : Part) → q .phase ≡ 1 → (out : Zones) → listC (q .zone) out ≡ workedC b (cont r (q .phase) (q .zone .bounds) false) (q .zone) out
+  not-tight-worth : (q : Part) → q .phase ≡ 1 → (out : Zones)
+      → listC (q .zone) out ≡ workedC b (cont r (q .phase) (q .zone .bounds) false) (q .zone) out
   unfolding cont workedC
   not-tight-worth q e out = rw e refl
 
-  first-answer : (q : Part) (t : Bool) → q .phase ≡ 0 → Answered b r q t (pick t (standing q 27 1) (standing q 1 0))
+  first-answer : (q : Part) (t : Bool) → q .phase ≡ 0 → Answered b r q t (cond t (standing q 27 1) (standing q 1 0))
   first-answer q true e =
       record {
         live = record { below = omega arith; early = λ z. absurd (omega arith) };
@@ -173,7 +184,7 @@ module _ (b : Ranges) (r : Rule) where
         worth = λ out. meant-on q 1 out ∙ not-void-worth q e out;
       }
 
-  second-answer : (q : Part) (t : Bool) → q .phase ≡ 1 → Answered b r q t (pick t (standing q 2 0) (standing q 27 2))
+  second-answer : (q : Part) (t : Bool) → q .phase ≡ 1 → Answered b r q t (cond t (standing q 2 0) (standing q 27 2))
   second-answer q true e =
       record {
         live = record { below = omega arith; early = λ _. omega arith };
@@ -229,7 +240,8 @@ module _ (b : Ranges) (e : Expr) (f : Bool → TreeC) (z : Zone) (out : Zones) w
     ask-yes o = rw (n, o) refl
 
     module _ (o : neverC b z (oppositeC e) ≡ false) where
-      ask-split : ltb (z .count) 24 ≡ true → workedC b (f false) (plusC z (oppositeC e)) (workedC b (f true) (plusC z e) out) ≡ workedC b (askT e f) z out
+      ask-split : ltb (z .count) 24 ≡ true
+          → workedC b (f false) (plusC z (oppositeC e)) (workedC b (f true) (plusC z e) out) ≡ workedC b (askT e f) z out
       unfolding workedC
       ask-split l = rw (n, o, l) refl
 
@@ -240,7 +252,7 @@ module _ (b : Ranges) (e : Expr) (f : Bool → TreeC) (z : Zone) (out : Zones) w
 -- ---- a part on its way
 -- what a part comes to, on its way or stopped
 unfoldable pub reached : Ranges → Rule → Part → Zones → Zones
-reached b r q out = pick (ltb (q .halt) 1) (workedC b (treeAt r (q .phase) (q .zone .bounds)) (q .zone) out) (meantEnd b r q out)
+reached b r q out = cond (ltb (q .halt) 1) (workedC b (treeAt r (q .phase) (q .zone .bounds)) (q .zone) out) (meantEnd b r q out)
 
 pub record Going (b : Ranges) (r : Rule) (p q : Part) : Type 0 where
   pub same : (out : Zones) → reached b r q out ≡ meant b r p out
@@ -251,7 +263,7 @@ pub record Going (b : Ranges) (r : Rule) (p q : Part) : Type 0 where
 
 -- what is left of the way
 abbrev pub left : Part → ℕ
-left q = pick (ltb (q .halt) 1) (28 - q .phase) 0
+left q = cond (ltb (q .halt) 1) (28 - q .phase) 0
 
 module _ (b : Ranges) (r : Rule) where
   live-reached : (a : Part) → Live a → (out : Zones) → reached b r a out ≡ meant b r a out
@@ -259,21 +271,33 @@ module _ (b : Ranges) (r : Rule) where
   live-reached a l out = by (ltb (a .halt) 1) refl
     where
       by : (t : Bool) → ltb (a .halt) 1 ≡ t
-          → pick t (workedC b (treeAt r (a .phase) (a .zone .bounds)) (a .zone) out) (pick (eqb (a .halt) 3) (meant b r (noC r a) (meant b r (yesC r a) out)) (endedC a out))
-          ≡ pick t (workedC b (treeAt r (a .phase) (a .zone .bounds)) (a .zone) out) (endedC a out)
+          → cond t (workedC b (treeAt r (a .phase) (a .zone .bounds)) (a .zone) out)
+          (cond (eqb (a .halt) 3) (meant b r (noC r a) (meant b r (yesC r a) out)) (endedC a out))
+          ≡ cond t (workedC b (treeAt r (a .phase) (a .zone .bounds)) (a .zone) out) (endedC a out)
       by true h = refl
       by false h = rw (ne-eqb (a .halt) 3 (λ e. absurd (omega (arith, l .below)))) refl
 
   pub going-starts : (p : Part) → Live p → Going b r p p
   going-starts p l =
-      record { same = live-reached p l; later = omega arith; count = refl; early = l .early; splits = λ e. absurd (omega (arith, l .below)) }
+      record {
+        same = live-reached p l;
+        later = omega arith;
+        count = refl;
+        early = l .early;
+        splits = λ e. absurd (omega (arith, l .below));
+      }
 
   pub going-ends : (p q : Part) → Going b r p q → 1 ≤ q .halt → Ran b r p q
   unfolding reached
   going-ends p q g h =
       record {
         stopped = h;
-        same = λ out. subst (λ (t : Bool). pick t (workedC b (treeAt r (q .phase) (q .zone .bounds)) (q .zone) out) (meantEnd b r q out) ≡ meant b r p out) (le-ltb (q .halt) 1 h) (g .same out);
+        same =
+            λ out.
+            subst
+            (λ (t : Bool).
+            cond t (workedC b (treeAt r (q .phase) (q .zone .bounds)) (q .zone) out) (meantEnd b r q out) ≡ meant b r p out)
+            (le-ltb (q .halt) 1 h) (g .same out);
         later = g .later;
         count = g .count;
         splits = g .splits;
@@ -284,10 +308,13 @@ module _ (b : Ranges) (r : Rule) where
     unfolding reached
     here out =
         subst (λ (t : TreeC). workedC b t (q .zone) out ≡ meant b r p out) (tree-at r (q .phase) (q .zone .bounds) (g .early h))
-        (subst (λ (t : Bool). pick t (workedC b (treeAt r (q .phase) (q .zone .bounds)) (q .zone) out) (meantEnd b r q out) ≡ meant b r p out) (lt-ltb (q .halt) 1 h) (g .same out))
+        (subst
+        (λ (t : Bool). cond t (workedC b (treeAt r (q .phase) (q .zone .bounds)) (q .zone) out) (meantEnd b r q out) ≡ meant b r p out)
+        (lt-ltb (q .halt) 1 h) (g .same out))
 
     -- the test is settled by t
-    answered-going : (t : Bool) → ((out : Zones) → workedC b (cont r (q .phase) (q .zone .bounds) t) (q .zone) out ≡ meant b r p out) → Going b r p (answeredC r q t)
+    answered-going : (t : Bool) → ((out : Zones) → workedC b (cont r (q .phase) (q .zone .bounds) t) (q .zone) out ≡ meant b r p out)
+        → Going b r p (answeredC r q t)
     answered-going t w =
         let a = answer b r q t (g .early h) in
         record {
@@ -299,7 +326,9 @@ module _ (b : Ranges) (r : Rule) where
         }
 
     split-same : (e : Expr) → q .zone .count < 24 → (out : Zones)
-        → workedC b (cont r (q .phase) (q .zone .bounds) false) (plusC (q .zone) (oppositeC e)) (workedC b (cont r (q .phase) (q .zone .bounds) true) (plusC (q .zone) e) out) ≡ meant b r p out
+        → workedC b (cont r (q .phase) (q .zone .bounds) false) (plusC (q .zone) (oppositeC e))
+        (workedC b (cont r (q .phase) (q .zone .bounds) true) (plusC (q .zone) e) out)
+        ≡ meant b r p out
         → reached b r (haltedC q (record { kind = 3; test = e })) out ≡ meant b r p out
     unfolding reached meantEnd plusC
     split-same e l out w =
@@ -311,18 +340,27 @@ module _ (b : Ranges) (r : Rule) where
         ∙ n .worth (meant b r (answeredC r (plusPart s e) true) out)
         ∙ ap (workedC b (cont r (q .phase) (q .zone .bounds) false) (plusC (q .zone) (oppositeC e))) (y .worth out) ∙ w
 
-    halted-going : (v : Verdict) → 1 ≤ v .kind → (v .kind ≡ 3 → q .zone .count < 24) → ((out : Zones) → reached b r (haltedC q v) out ≡ meant b r p out) → Going b r p (haltedC q v)
+    halted-going : (v : Verdict) → 1 ≤ v .kind → (v .kind ≡ 3 → q .zone .count < 24)
+        → ((out : Zones) → reached b r (haltedC q v) out ≡ meant b r p out) → Going b r p (haltedC q v)
     halted-going v k l w =
         record { same = w; later = g .later; count = g .count; early = λ z. absurd (omega arith); splits = λ z. (g .early h, l z) }
 
-    refused-same : (v : Verdict) → 4 ≤ v .kind → (out : Zones) → refusedC (v .kind) out ≡ meant b r p out → reached b r (haltedC q v) out ≡ meant b r p out
+    refused-same : (v : Verdict) → 4 ≤ v .kind → (out : Zones) → refusedC (v .kind) out ≡ meant b r p out
+        → reached b r (haltedC q v) out ≡ meant b r p out
     unfolding reached meantEnd endedC
     refused-same v k out w =
-        rw (le-ltb (v .kind) 1 (omega arith), ne-eqb (v .kind) 3 (λ z. omega arith), le-ltb (v .kind) 2 (omega arith), le-ltb (v .kind) 3 (omega arith), le-ltb (v .kind) 4 k) w
+        rw (
+          le-ltb (v .kind) 1 (omega arith),
+          ne-eqb (v .kind) 3 (λ z. omega arith),
+          le-ltb (v .kind) 2 (omega arith),
+          le-ltb (v .kind) 3 (omega arith),
+          le-ltb (v .kind) 4 k,
+        )
+        w
 
     -- the verdicts
     by-kind : Verdict → Part
-    by-kind v = pick (ltb (v .kind) 1) (answeredC r q false) (pick (ltb (v .kind) 2) (answeredC r q true) (haltedC q v))
+    by-kind v = cond (ltb (v .kind) 1) (answeredC r q false) (cond (ltb (v .kind) 2) (answeredC r q true) (haltedC q v))
 
     by-ask : (e : Expr) → askC r (q .phase) ≡ Ask e → Going b r p (by-kind (onC b (q .zone) e))
     unfolding by-kind onC testedC
@@ -335,24 +373,41 @@ module _ (b : Ranges) (r : Rule) where
         worth out = subst (λ (t : Test). workedC b (testedC t f) (q .zone) out ≡ meant b r p out) a (here out)
 
         third : (t : Bool) → ltb (q .zone .count) 24 ≡ t → neverC b (q .zone) e ≡ false → neverC b (q .zone) (oppositeC e) ≡ false
-            → Going b r p (by-kind (pick t (record { kind = 3; test = e }) (record { kind = 8; test = e })))
-        third true l n o = halted-going (record { kind = 3; test = e }) (omega arith) (λ _. ltb-true (q .zone .count) 24 l) (λ out. split-same e (ltb-true (q .zone .count) 24 l) out (ask-split b e f (q .zone) out n o l ∙ worth out))
-        third false l n o = halted-going (record { kind = 8; test = e }) (omega arith) (λ z. absurd (omega arith)) (λ out. refused-same (record { kind = 8; test = e }) (omega arith) out (ask-full b e f (q .zone) out n o l ∙ worth out))
+            → Going b r p (by-kind (cond t (record { kind = 3; test = e }) (record { kind = 8; test = e })))
+        third true l n o =
+            halted-going (record { kind = 3; test = e }) (omega arith) (λ _. ltb-true (q .zone .count) 24 l)
+            (λ out. split-same e (ltb-true (q .zone .count) 24 l) out (ask-split b e f (q .zone) out n o l ∙ worth out))
+        third false l n o =
+            halted-going (record { kind = 8; test = e }) (omega arith) (λ z. absurd (omega arith))
+            (λ out. refused-same (record { kind = 8; test = e }) (omega arith) out (ask-full b e f (q .zone) out n o l ∙ worth out))
 
         second : (t : Bool) → neverC b (q .zone) (oppositeC e) ≡ t → neverC b (q .zone) e ≡ false
-            → Going b r p (by-kind (pick t (record { kind = 1; test = e }) (pick (ltb (q .zone .count) 24) (record { kind = 3; test = e }) (record { kind = 8; test = e }))))
+            → Going b r p
+            (by-kind
+            (cond t (record { kind = 1; test = e })
+            (cond (ltb (q .zone .count) 24) (record { kind = 3; test = e }) (record { kind = 8; test = e }))))
         second true o n = answered-going true (λ out. ask-yes b e f (q .zone) out n o ∙ worth out)
         second false o n = third (ltb (q .zone .count) 24) refl n o
 
         first : (t : Bool) → neverC b (q .zone) e ≡ t
-            → Going b r p (by-kind (pick t (record { kind = 0; test = e }) (pick (neverC b (q .zone) (oppositeC e)) (record { kind = 1; test = e }) (pick (ltb (q .zone .count) 24) (record { kind = 3; test = e }) (record { kind = 8; test = e })))))
+            → Going b r p
+            (by-kind
+            (cond t (record { kind = 0; test = e })
+            (cond (neverC b (q .zone) (oppositeC e)) (record { kind = 1; test = e })
+            (cond (ltb (q .zone .count) 24) (record { kind = 3; test = e }) (record { kind = 8; test = e })))))
         first true n = answered-going false (λ out. ask-no b e f (q .zone) out n ∙ worth out)
         first false n = second (neverC b (q .zone) (oppositeC e)) refl n
 
     by-test : (t : Test) → askC r (q .phase) ≡ t → Going b r p (by-kind (settledC b (q .zone) t))
     unfolding by-kind testedC workedC
-    by-test Yes a = answered-going true (λ out. subst (λ (t : Test). workedC b (testedC t (cont r (q .phase) (q .zone .bounds))) (q .zone) out ≡ meant b r p out) a (here out))
-    by-test No a = answered-going false (λ out. subst (λ (t : Test). workedC b (testedC t (cont r (q .phase) (q .zone .bounds))) (q .zone) out ≡ meant b r p out) a (here out))
+    by-test Yes a =
+        answered-going true
+        (λ out.
+        subst (λ (t : Test). workedC b (testedC t (cont r (q .phase) (q .zone .bounds))) (q .zone) out ≡ meant b r p out) a (here out))
+    by-test No a =
+        answered-going false
+        (λ out.
+        subst (λ (t : Test). workedC b (testedC t (cont r (q .phase) (q .zone .bounds))) (q .zone) out ≡ meant b r p out) a (here out))
     by-test (Ask e) a = by-ask e a
     by-test TestWide a =
         halted-going (record { kind = 9; test = zeroExpr }) (omega arith) (λ z. absurd (omega arith))
@@ -373,7 +428,7 @@ module _ (b : Ranges) (r : Rule) (p q : Part) (g : Going b r p q) (h : q .halt <
       let a = answer b r q t (g .early h) in
       rw left-now (by (ltb (answeredC r q t .halt) 1) (a .later))
     where
-      by : (s : Bool) → q .phase < answeredC r q t .phase → pick s (28 - answeredC r q t .phase) 0 < 28 - q .phase
+      by : (s : Bool) → q .phase < answeredC r q t .phase → cond s (28 - answeredC r q t .phase) 0 < 28 - q .phase
       by true l = omega (arith, g .early h)
       by false l = omega (arith, g .early h)
 
@@ -387,11 +442,12 @@ module _ (b : Ranges) (r : Rule) (p q : Part) (g : Going b r p q) (h : q .halt <
       v : Verdict
       v = settledC b (q .zone) (askC r (q .phase))
 
-      second : (t : Bool) → ltb (v .kind) 2 ≡ t → 1 ≤ v .kind → left (pick t (answeredC r q true) (haltedC q v)) < left q
+      second : (t : Bool) → ltb (v .kind) 2 ≡ t → 1 ≤ v .kind → left (cond t (answeredC r q true) (haltedC q v)) < left q
       second true e k = answered-less true
       second false e k = halted-less v k
 
-      by : (t : Bool) → ltb (v .kind) 1 ≡ t → left (pick t (answeredC r q false) (pick (ltb (v .kind) 2) (answeredC r q true) (haltedC q v))) < left q
+      by : (t : Bool) → ltb (v .kind) 1 ≡ t
+          → left (cond t (answeredC r q false) (cond (ltb (v .kind) 2) (answeredC r q true) (haltedC q v))) < left q
       by true e = answered-less false
       by false e = second (ltb (v .kind) 2) refl (ltb-false (v .kind) 1 e)
 
@@ -424,11 +480,17 @@ module _ (b : Ranges) (r : Rule) (q : Part) (h : q .phase < 27) where
 module _ (b : Ranges) (r : Rule) (p q : Part) (g : Ran b r p q) (out : Zones) where
   pub ran-ended : (q .halt ≡ 3 → ⊥) → meant b r p out ≡ endedC q out
   unfolding meantEnd
-  ran-ended h = sym (subst (λ (t : Bool). pick t (meant b r (noC r q) (meant b r (yesC r q) out)) (endedC q out) ≡ meant b r p out) (ne-eqb (q .halt) 3 h) (g .same out))
+  ran-ended h =
+      sym
+      (subst (λ (t : Bool). cond t (meant b r (noC r q) (meant b r (yesC r q) out)) (endedC q out) ≡ meant b r p out)
+      (ne-eqb (q .halt) 3 h) (g .same out))
 
   pub ran-split : q .halt ≡ 3 → meant b r p out ≡ meant b r (noC r q) (meant b r (yesC r q) out)
   unfolding meantEnd
-  ran-split h = sym (subst (λ (t : Bool). pick t (meant b r (noC r q) (meant b r (yesC r q) out)) (endedC q out) ≡ meant b r p out) (eq-eqb (q .halt) 3 h) (g .same out))
+  ran-split h =
+      sym
+      (subst (λ (t : Bool). cond t (meant b r (noC r q) (meant b r (yesC r q) out)) (endedC q out) ≡ meant b r p out)
+      (eq-eqb (q .halt) 3 h) (g .same out))
 
 pub split-leaves : (q : Part) (out : Zones) → q .halt ≡ 3 → endedC q out ≡ out
 unfolding endedC

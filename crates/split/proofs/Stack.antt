@@ -1,7 +1,7 @@
 -- The stack of parts that are still to be worked on, the next one on top.
 use mathlib.Core.Path.{_≡_, refl, sym, ap, subst, _∙_}
 use mathlib.Core.List.{List, []}
-use mathlib.Core.Bool.{Bool, true, false}
+use mathlib.Core.Bool.{Bool, true, false, cond}
 use Prim.Native.Nat.{ℕ, zero, suc, _+_, _-_, _≤_, _<_}
 use native.Mathlib.Omega.{arith}
 use borrow.Author.Tests.{ne-eqb, eqb-true, eqb-false}
@@ -13,7 +13,8 @@ use Rattle.expr.specs.declared.range.Ranges.{Ranges}
 use Rattle.split.proofs.Runs.{yes-live, yes-later, yes-count, no-live, no-later, no-count, ran-ended, ran-split, split-leaves}
 use Rattle.split.specs.Guarded.{cutC}
 use Rattle.split.specs.Listed.{refusedC, listC}
-use Rattle.zones.specs.Zone.{pick, zeroExpr, plusC}
+use Rattle.expr.specs.Three.{zeroExpr}
+use Rattle.zones.specs.Zone.{plusC}
 use Rattle.parts.specs.Parts.{yesC, noC}
 use Rattle.split.specs.Trees.{TreeC, cutT, keepT, wideT, askT, treeAt, workedC, startC, endedC, meant, Live, Ran}
 use Rattle.zones.specs.Settled.{oppositeC, neverC}
@@ -45,7 +46,7 @@ list-sticks : (z : Zone) (out : Zones) → 0 < out .refusal → listC z out ≡ 
 unfolding listC
 list-sticks z out h = rw (ne-eqb (out .refusal) 0 (λ e. omega arith)) (refused-sticks 7 out h)
 
-same-pick : {A : Type 0} (t : Bool) (a b c : A) → a ≡ c → b ≡ c → pick t a b ≡ c
+same-pick : {A : Type 0} (t : Bool) (a b c : A) → a ≡ c → b ≡ c → cond t a b ≡ c
 same-pick true a b c h k = h
 same-pick false a b c h k = k
 
@@ -58,18 +59,21 @@ worked-sticks b (askT e f) z out h =
     same-pick (neverC b z e) _ _ out (worked-sticks b (f false) z out h)
     (same-pick (neverC b z (oppositeC e)) _ _ out (worked-sticks b (f true) z out h)
     (same-pick (ltb (z .count) 24) _ _ out
-    (ap (workedC b (f false) (plusC z (oppositeC e))) (worked-sticks b (f true) (plusC z e) out h) ∙ worked-sticks b (f false) (plusC z (oppositeC e)) out h)
+    (ap (workedC b (f false) (plusC z (oppositeC e))) (worked-sticks b (f true) (plusC z e) out h)
+    ∙ worked-sticks b (f false) (plusC z (oppositeC e)) out h)
     (refused-sticks 8 out h)))
 
 ended-sticks : (p : Part) (out : Zones) → 0 < out .refusal → endedC p out ≡ out
 unfolding endedC
 ended-sticks p out h =
     same-pick (ltb (p .halt) 2) _ _ out refl
-    (same-pick (ltb (p .halt) 3) _ _ out (list-sticks (p .zone) out h) (same-pick (ltb (p .halt) 4) _ _ out refl (refused-sticks (p .halt) out h)))
+    (same-pick (ltb (p .halt) 3) _ _ out (list-sticks (p .zone) out h)
+    (same-pick (ltb (p .halt) 4) _ _ out refl (refused-sticks (p .halt) out h)))
 
 meant-sticks : (b : Ranges) (r : Rule) (p : Part) (out : Zones) → 0 < out .refusal → meant b r p out ≡ out
 unfolding meant
-meant-sticks b r p out h = same-pick (ltb (p .halt) 1) _ _ out (worked-sticks b (treeAt r (p .phase) (p .zone .bounds)) (p .zone) out h) (ended-sticks p out h)
+meant-sticks b r p out h =
+    same-pick (ltb (p .halt) 1) _ _ out (worked-sticks b (treeAt r (p .phase) (p .zone .bounds)) (p .zone) out h) (ended-sticks p out h)
 
 drained-sticks : (b : Ranges) (r : Rule) (st : List Part) (k : ℕ) (out : Zones) → 0 < out .refusal → drained b r st k out ≡ out
 unfolding drained
@@ -77,11 +81,13 @@ drained-sticks b r st zero out h = refl
 drained-sticks b r st (suc k) out h = ap (drained b r st k) (meant-sticks b r (getD st k noPart) out h) ∙ drained-sticks b r st k out h
 
 -- ---- what lies below a place
-drained-set : (b : Ranges) (r : Rule) (st : List Part) (i k : ℕ) (x : Part) (out : Zones) → k ≤ i → drained b r (set st i x) k out ≡ drained b r st k out
+drained-set : (b : Ranges) (r : Rule) (st : List Part) (i k : ℕ) (x : Part) (out : Zones) → k ≤ i
+    → drained b r (set st i x) k out ≡ drained b r st k out
 unfolding drained
 drained-set b r st i zero x out h = refl
 drained-set b r st i (suc k) x out h =
-    ap (λ (p : Part). drained b r (set st i x) k (meant b r p out)) (getD-set-other st i k x noPart (λ e. omega arith)) ∙ drained-set b r st i k x _ (omega arith)
+    ap (λ (p : Part). drained b r (set st i x) k (meant b r p out)) (getD-set-other st i k x noPart (λ e. omega arith))
+    ∙ drained-set b r st i k x _ (omega arith)
 
 waiting-set : (st : List Part) (i k : ℕ) (x : Part) → k ≤ i → Waiting st k → Waiting (set st i x) k
 waiting-set st i zero x h w = tt
@@ -124,7 +130,8 @@ load-set : (st : List Part) (i k : ℕ) (x : Part) → k ≤ i → load (set st 
 unfolding load
 load-set st i zero x h = refl
 load-set st i (suc k) x h =
-    ap (λ (p : Part). weight p + load (set st i x) k) (getD-set-other st i k x noPart (λ e. omega arith)) ∙ ap (λ (n : ℕ). weight (getD st k noPart) + n) (load-set st i k x (omega arith))
+    ap (λ (p : Part). weight p + load (set st i x) k) (getD-set-other st i k x noPart (λ e. omega arith))
+    ∙ ap (λ (n : ℕ). weight (getD st k noPart) + n) (load-set st i k x (omega arith))
 
 -- ---- the loop's turns: the part on top of n + 1 was run to q
 module _ (b : Ranges) (r : Rule) (st : List Part) (k : ℕ) (now next whole : Zones) (q : Part) where
@@ -152,12 +159,17 @@ module _ (b : Ranges) (r : Rule) (st : List Part) (k : ℕ) (now next whole : Zo
     more = set (set st k (noC r q)) (suc k) (yesC r q)
 
     more-top : getD more (suc k) noPart ≡ yesC r q
-    more-top = getD-set-same (set st k (noC r q)) (suc k) (yesC r q) noPart (subst (λ (n : ℕ). suc k < n) (sym (length-set st k (noC r q))) room)
+    more-top =
+        getD-set-same (set st k (noC r q)) (suc k) (yesC r q) noPart
+        (subst (λ (n : ℕ). suc k < n) (sym (length-set st k (noC r q))) room)
 
     more-next : getD more k noPart ≡ noC r q
-    more-next = getD-set-other (set st k (noC r q)) (suc k) k (yesC r q) noPart (λ e. omega arith) ∙ getD-set-same st k (noC r q) noPart (omega arith)
+    more-next =
+        getD-set-other (set st k (noC r q)) (suc k) k (yesC r q) noPart (λ e. omega arith)
+        ∙ getD-set-same st k (noC r q) noPart (omega arith)
 
-    pub turn-splits : Ran b r top q → next ≡ endedC q now → drained b r st (suc k) now ≡ whole → q .halt ≡ 3 → drained b r more (suc (suc k)) next ≡ whole
+    pub turn-splits : Ran b r top q → next ≡ endedC q now → drained b r st (suc k) now ≡ whole → q .halt ≡ 3
+        → drained b r more (suc (suc k)) next ≡ whole
     unfolding drained
     turn-splits ran e d h =
         rw (more-top, more-next, e ∙ split-leaves q now h)
@@ -183,7 +195,8 @@ module _ (b : Ranges) (r : Rule) (st : List Part) (k : ℕ) (now next whole : Zo
     unfolding load
     load-splits ran h =
         let s = ran .splits h in
-        let halves = size-halves (yesC r q .phase) (noC r q .phase) (top .phase) (q .phase) (s .0) (yes-later b r q (s .0)) (no-later b r q (s .0)) (ran .later) in
+        let halves = size-halves (yesC r q .phase) (noC r q .phase) (top .phase) (q .phase) (s .0) (yes-later b r q (s .0))
+        (no-later b r q (s .0)) (ran .later) in
         let below = load-set (set st k (noC r q)) (suc k) k (yesC r q) (omega arith) ∙ load-set st k k (noC r q) (omega arith) in
         rw (more-top, more-next, below) (omega arith)
 
@@ -192,7 +205,8 @@ unfolding load
 load-ends st k = let s = size-some (27 - getD st k noPart .phase) in omega arith
 
 -- a split finds room: a part that splits has fewer than 24 inequalities
-pub room-splits : (b : Ranges) (r : Rule) (st : List Part) (k : ℕ) (q : Part) → Ran b r (getD st k noPart) q → Waiting st (suc k) → q .halt ≡ 3 → k < 24
+pub room-splits : (b : Ranges) (r : Rule) (st : List Part) (k : ℕ) (q : Part) → Ran b r (getD st k noPart) q → Waiting st (suc k)
+    → q .halt ≡ 3 → k < 24
 room-splits b r st k q ran w h = omega (arith, w .0, ran .count, ran .splits h .1)
 
 pub start-drained : (b : Ranges) (r : Rule) (z : Zone) (out : Zones) → meant b r (startC z) out ≡ cutC b r z out
@@ -213,51 +227,74 @@ pub record Turned (b : Ranges) (r : Rule) (st : List Part) (n : ℕ) (now whole 
   pub waiting : Waiting st n
   pub same : drained b r st n now ≡ whole
 
-module _ (b : Ranges) (r : Rule) (st : List Part) (now next whole : Zones) (p : Part) (n k : ℕ) (e : n ≡ suc k) (t : Turned b r st n now whole) (ran : Ran b r (getD st k noPart) p)
-    (ended : next ≡ endedC p now) where
+-- a turn of the loop: the part on top of the n was run to p, and what was listed became next
+pub record Turn (b : Ranges) (r : Rule) (st : List Part) (n : ℕ) (now next whole : Zones) (p : Part) : Type 0 where
+  pub top : n ≡ suc (n - 1)
+  pub turned : Turned b r st n now whole
+  pub ran : Ran b r (getD st (n - 1) noPart) p
+  pub ended : next ≡ endedC p now
+
+module _ {b : Ranges} {r : Rule} {st : List Part} {n : ℕ} {now next whole : Zones} {p : Part} (t : Turn b r st n now next whole p) where
+  abbrev k : ℕ
+  k = n - 1
+
   is-waiting : Waiting st (suc k)
-  is-waiting = subst (λ (m : ℕ). Waiting st m) e (t .waiting)
+  is-waiting = subst (λ (m : ℕ). Waiting st m) (t .top) (t .turned .waiting)
 
   is-same : drained b r st (suc k) now ≡ whole
-  is-same = subst (λ (m : ℕ). drained b r st m now ≡ whole) e (t .same)
+  is-same = subst (λ (m : ℕ). drained b r st m now ≡ whole) (t .top) (t .turned .same)
 
   pub ends-turned : (p .halt ≡ 3 → ⊥) → Turned b r st k next whole
   ends-turned h =
-      record { few = omega (arith, t .few); long = t .long; waiting = is-waiting .2; same = turn-ends b r st k now next whole p ran ended is-same h }
+      record {
+        few = omega (arith, t .turned .few);
+        long = t .turned .long;
+        waiting = is-waiting .2;
+        same = turn-ends b r st k now next whole p (t .ran) (t .ended) is-same h;
+      }
 
   pub refused-turned : 0 < next .refusal → next ≡ whole
-  refused-turned h = turn-refused b r st k now next whole p ran ended is-same h
+  refused-turned h = turn-refused b r st k now next whole p (t .ran) (t .ended) is-same h
 
   pub room-turned : p .halt ≡ 3 → n < 25
-  room-turned h = omega (arith, room-splits b r st k p ran is-waiting h)
+  room-turned h = let e = t .top in omega (arith, room-splits b r st k p (t .ran) is-waiting h)
 
   module _ (h : p .halt ≡ 3) where
     room : suc k < length st
-    room = omega (arith, room-splits b r st k p ran is-waiting h, t .long)
+    room = omega (arith, room-splits b r st k p (t .ran) is-waiting h, t .turned .long)
 
     core : Turned b r (set (set st k (noC r p)) (suc k) (yesC r p)) (suc (suc k)) next whole
     core =
         record {
-          few = omega (arith, room-splits b r st k p ran is-waiting h);
-          long = length-set (set st k (noC r p)) (suc k) (yesC r p) ∙ length-set st k (noC r p) ∙ t .long;
-          waiting = waiting-splits b r st k now next whole p room ran is-waiting h;
-          same = turn-splits b r st k now next whole p room ran ended is-same h;
+          few = omega (arith, room-splits b r st k p (t .ran) is-waiting h);
+          long = length-set (set st k (noC r p)) (suc k) (yesC r p) ∙ length-set st k (noC r p) ∙ t .turned .long;
+          waiting = waiting-splits b r st k now next whole p room (t .ran) is-waiting h;
+          same = turn-splits b r st k now next whole p room (t .ran) (t .ended) is-same h;
         }
 
-    module _ (no yes : Part) (en : no ≡ noC r p) (ey : yes ≡ yesC r p) where
+    -- as the code has it: the places n - 1 and n, and n + 1 parts
+    placed : (P : ℕ → ℕ → Type 0) → P (suc k) (suc (suc k)) → P n (n + 1)
+    placed P h = subst (λ (m : ℕ). P m (m + 1)) (sym (t .top)) (subst (P (suc k)) (sym (add-one (suc k))) h)
+
+    module _ {no yes : Part} (en : no ≡ noC r p) (ey : yes ≡ yesC r p) where
       pub splits-turned : Turned b r (set (set st k no) n yes) (n + 1) next whole
-      splits-turned = rw (en, ey, e, add-one (suc k)) core
+      splits-turned = placed (λ i m. Turned b r (set (set st k no) i yes) m next whole) (rw (en, ey) core)
 
       pub splits-less : load (set (set st k no) n yes) (n + 1) < load st n
-      splits-less = rw (en, ey, e, add-one (suc k)) (load-splits b r st k now next whole p room ran h)
+      splits-less =
+          subst (λ (m : ℕ). load (set (set st k no) n yes) (n + 1) < load st m) (sym (t .top))
+          (placed (λ i m. load (set (set st k no) i yes) m < load st (suc k))
+          (rw (en, ey) (load-splits b r st k now next whole p room (t .ran) h)))
 
 pub ends-less : (st : List Part) (n k : ℕ) → n ≡ suc k → load st k < load st n
 ends-less st n k e = rw e (load-ends st k)
 
-pub start-turned : (b : Ranges) (r : Rule) (z : Zone) (out : Zones) (p : Part) → p ≡ startC z → Turned b r (replicate 25 p) 1 out (drained b r (replicate 25 p) 1 out)
+pub start-turned : (b : Ranges) (r : Rule) (z : Zone) (out : Zones) (p : Part) → p ≡ startC z
+    → Turned b r (replicate 25 p) 1 out (drained b r (replicate 25 p) 1 out)
 start-turned b r z out p e = record { few = omega arith; long = refl; waiting = (omega arith, rw e (start-live z), tt); same = refl }
 
-pub start-whole : (b : Ranges) (r : Rule) (z : Zone) (out : Zones) (p : Part) → p ≡ startC z → drained b r (replicate 25 p) 1 out ≡ cutC b r z out
+pub start-whole : (b : Ranges) (r : Rule) (z : Zone) (out : Zones) (p : Part) → p ≡ startC z
+    → drained b r (replicate 25 p) 1 out ≡ cutC b r z out
 unfolding drained
 start-whole b r z out p e = ap (λ (q : Part). meant b r q out) e ∙ start-drained b r z out
 

@@ -7,7 +7,6 @@ use native.Mathlib.Omega.{arith}
 use borrow.Author.Tests.{lt-ltb, le-ltb, eq-eqb, ne-eqb}
 use lib.ListN.{length, getD, set, take, drop, replicate, length-take, drop-of-length-le}
 use lib.Seq.{drop-cons, getD-take}
-use Rattle.search.specs.Valuations.{count}
 use Rattle.expr.specs.declared.range.Ranges.{Ranges}
 use Rattle.guards.specs.declared.Guard.{Guard}
 use Rattle.split.specs.Guarded.{ruleC, cutC, cutAll, guardedC}
@@ -21,7 +20,8 @@ use Rattle.zones.specs.declared.zone.Zones.{Zones}
 
 -- ---- what is listed
 module _ (n : ℕ) (out : Zones) where
-  pub refused-now : out .refusal ≡ 0 → record { refusal = n; visit = out .visit; count = 0; list = replicate 32 blankZone } ≡ refusedC n out
+  pub refused-now : out .refusal ≡ 0
+      → record { refusal = n; visit = out .visit; count = 0; list = replicate 32 blankZone } ≡ refusedC n out
   unfolding refusedC
   refused-now h = rw (eq-eqb (out .refusal) 0 h) refl
 
@@ -91,11 +91,13 @@ unfolding cutAll
 nothing-left b clocks g out = refl
 
 module _ (b : Ranges) (clocks : ℕ) (g : Guard) (xs : List Zone) (k : ℕ) where
-  all-cons : (l : List Zone) (z : Zone) (rest : List Zone) (out : Zones) → l ≡ z ∷ rest → cutAll b clocks g l out ≡ cutAll b clocks g rest (cutC b (ruleC clocks g z) z out)
+  all-cons : (l : List Zone) (z : Zone) (rest : List Zone) (out : Zones) → l ≡ z ∷ rest
+      → cutAll b clocks g l out ≡ cutAll b clocks g rest (cutC b (ruleC clocks g z) z out)
   unfolding cutAll
   all-cons l z rest out h = rw h refl
 
-  pub all-turn : (i : ℕ) (out next w : Zones) (d : Zone) (r : Rule) → i < length (take k xs) → cutAll b clocks g (drop i (take k xs)) out ≡ w
+  pub all-turn : (i : ℕ) (out next w : Zones) (d : Zone) (r : Rule) → i < length (take k xs)
+      → cutAll b clocks g (drop i (take k xs)) out ≡ w
       → r ≡ ruleC clocks g (getD xs i d) → next ≡ cutC b r (getD xs i d) out → cutAll b clocks g (drop (i + 1) (take k xs)) next ≡ w
   all-turn i out next w d r h e er f =
       let len : i < k = omega (arith, length-take k xs) in

@@ -1,4 +1,5 @@
 -- One guard over zones in order, on the code's records.
+use mathlib.Core.Bool.{cond}
 use mathlib.Core.List.{List, [], _∷_}
 use Prim.Native.Nat.{ℕ}
 use lib.Dec.{ltb}
@@ -6,7 +7,6 @@ use lib.ListN.{take}
 use Rattle.expr.specs.declared.range.Ranges.{Ranges}
 use Rattle.guards.specs.declared.Guard.{Guard}
 use Rattle.split.specs.Listed.{noneAt}
-use Rattle.zones.specs.Zone.{pick}
 use Rattle.split.specs.Trees.{treeAt, workedC, startC}
 use Rattle.constrain.specs.declared.rule.Rule.{Rule}
 use Rattle.zones.specs.declared.zone.Zone.{Zone}
@@ -28,6 +28,6 @@ cutAll b clocks g (z ∷ zs) out = cutAll b clocks g zs (cutC b (ruleC clocks g 
 -- what a guard leaves of zones in order; zones that were refused stay so, and so do all where the guard has no such clock
 unfoldable pub guardedC : Ranges → ℕ → Guard → Zones → Zones
 guardedC b clocks g zs =
-    pick (ltb 0 (zs .refusal)) zs
-    (pick (ltb 4 (g .left)) zs
-    (pick (ltb 4 (g .right)) zs (cutAll b clocks g (take (zs .count) (zs .list)) (noneAt (zs .visit)))))
+    cond (ltb 0 (zs .refusal)) zs
+    (cond (ltb 4 (g .left)) zs
+    (cond (ltb 4 (g .right)) zs (cutAll b clocks g (take (zs .count) (zs .list)) (noneAt (zs .visit)))))

@@ -1,7 +1,7 @@
 -- The tests of a guard as a tree, worked on a zone; and what a part on its way comes to: the tests that are left, worked on its zone.
 use mathlib.Core.Path.{_≡_}
 use mathlib.Core.List.{List}
-use mathlib.Core.Bool.{Bool, true, false}
+use mathlib.Core.Bool.{Bool, true, false, cond}
 use Prim.Native.Nat.{ℕ, zero, suc, _-_, _≤_, _<_}
 use lib.Dec.{ltb, eqb}
 use lib.ListN.{set}
@@ -16,7 +16,8 @@ use Rattle.parts.specs.Parts.{withBounds, yesC, noC}
 use Rattle.parts.specs.declared.part.Part.{Part}
 use Rattle.split.specs.Listed.{refusedC, listC}
 use Rattle.zones.specs.Settled.{oppositeC, neverC}
-use Rattle.zones.specs.Zone.{pick, zeroExpr, plusC}
+use Rattle.expr.specs.Three.{zeroExpr}
+use Rattle.zones.specs.Zone.{plusC}
 use Rattle.zones.specs.declared.zone.Zone.{Zone}
 use Rattle.zones.specs.declared.zone.Zones.{Zones}
 
@@ -36,15 +37,15 @@ testedC TestWide f = wideT
 -- rule (3): k entries are left, the next one is x
 unfoldable pub pushC : Rule → ℕ → ℕ → List Bound → TreeC
 pushC r zero x new = keepT new
-pushC r (suc k) x new = testedC (pushTest r x) (λ b. pushC r k (suc x) (pick b (set new x (viaBound (viaC r x))) new))
+pushC r (suc k) x new = testedC (pushTest r x) (λ b. pushC r k (suc x) (cond b (set new x (viaBound (viaC r x))) new))
 
 -- from rule (2) on
 unfoldable pub tightC : Rule → List Bound → TreeC
-tightC r new = testedC (tightTest r) (λ b. pick b (pushC r 25 0 new) (keepT new))
+tightC r new = testedC (tightTest r) (λ b. cond b (pushC r 25 0 new) (keepT new))
 
 -- from a phase on, the new matrix being as it is
 unfoldable pub treeAt : Rule → ℕ → List Bound → TreeC
-treeAt r zero new = testedC (voidTest r) (λ b. pick b cutT (tightC r new))
+treeAt r zero new = testedC (voidTest r) (λ b. cond b cutT (tightC r new))
 treeAt r (suc zero) new = tightC r new
 treeAt r (suc (suc x)) new = pushC r (25 - x) x new
 
@@ -54,9 +55,9 @@ workedC b cutT z out = out
 workedC b (keepT m) z out = listC (withBounds z m) out
 workedC b wideT z out = refusedC 9 out
 workedC b (askT e f) z out =
-    pick (neverC b z e) (workedC b (f false) z out)
-    (pick (neverC b z (oppositeC e)) (workedC b (f true) z out)
-    (pick (ltb (z .count) 24)
+    cond (neverC b z e) (workedC b (f false) z out)
+    (cond (neverC b z (oppositeC e)) (workedC b (f true) z out)
+    (cond (ltb (z .count) 24)
     (workedC b (f false) (plusC z (oppositeC e)) (workedC b (f true) (plusC z e) out))
     (refusedC 8 out)))
 
@@ -68,16 +69,16 @@ startC z = record { phase = 0; halt = 0; test = zeroExpr; zone = z }
 -- what was listed, after a part that is cut (1), kept (2) or refused (8, 9); a split leaves it
 unfoldable pub endedC : Part → Zones → Zones
 endedC p out =
-    pick (ltb (p .halt) 2) out (pick (ltb (p .halt) 3) (listC (p .zone) out) (pick (ltb (p .halt) 4) out (refusedC (p .halt) out)))
+    cond (ltb (p .halt) 2) out (cond (ltb (p .halt) 3) (listC (p .zone) out) (cond (ltb (p .halt) 4) out (refusedC (p .halt) out)))
 
 -- ---- what a part comes to
 -- one that waits for its turn: it goes on, is cut or is kept
 unfoldable pub meant : Ranges → Rule → Part → Zones → Zones
-meant b r p out = pick (ltb (p .halt) 1) (workedC b (treeAt r (p .phase) (p .zone .bounds)) (p .zone) out) (endedC p out)
+meant b r p out = cond (ltb (p .halt) 1) (workedC b (treeAt r (p .phase) (p .zone .bounds)) (p .zone) out) (endedC p out)
 
 -- one that has stopped: it may also split, the yes part first
 unfoldable pub meantEnd : Ranges → Rule → Part → Zones → Zones
-meantEnd b r p out = pick (eqb (p .halt) 3) (meant b r (noC r p) (meant b r (yesC r p) out)) (endedC p out)
+meantEnd b r p out = cond (eqb (p .halt) 3) (meant b r (noC r p) (meant b r (yesC r p) out)) (endedC p out)
 
 -- a part that waits for its turn
 pub record Live (p : Part) : Type 0 where

@@ -8,7 +8,6 @@ use parts::Part;
 use zones::Zone;
 use zones::Zones;
 ghost use mathlib.Core.Path.{_≡_};
-ghost use Prim.Native.Nat.{min};
 ghost use Rattle.split.specs.Guarded.{cutC, ruleC, guardedC};
 ghost use Rattle.split.specs.Trees.{startC, endedC, Live, Ran};
 

@@ -1,7 +1,7 @@
 -- The cases of the reply, with the branches' tests.
 use mathlib.Core.Path.{_≡_, refl, sym, _∙_, ap, subst}
 use mathlib.Core.List.{List, [], _∷_}
-use mathlib.Core.Bool.{Bool, true, false, not, _&&_}
+use mathlib.Core.Bool.{Bool, true, false, not}
 use mathlib.Core.Option.{Option, none, some}
 use native.Mathlib.Omega.{arith}
 use Prim.Native.Nat.{ℕ}
@@ -18,7 +18,7 @@ use Rattle.answers.specs.declared.file.Checked.{Checked}
 use Rattle.answers.specs.declared.file.Checked.the-variants as checked
 use Rattle.answers.specs.declared.file.Refusal.{Refusal}
 use Rattle.answers.specs.declared.file.Refusal.the-variants.{Size, Contents, Body, Route}
-use Rattle.expr.specs.Three.{rangeList, point, valuationOf}
+use Rattle.expr.specs.Three.{rangeList, point}
 use Rattle.expr.specs.declared.range.Ranges.{Ranges}
 use Rattle.integer.specs.Split.{split, split-all}
 use Rattle.sheet.specs.declared.Sheet.{Sheet}
@@ -38,10 +38,12 @@ between a x b = rw (split a, split x, split b) (simp split-all (omega arith))
 
 pub in-range-fits : (range : Range) (x : ℤ) → inRange range x ≡ true → SFits w16 (range .low) → SFits w16 (range .high) → SFits w16 x
 in-range-fits range x h =
-    between (range .low) x (range .high) (and-left (leZ (range .low) x) (leZ x (range .high)) h) (and-right (leZ (range .low) x) (leZ x (range .high)) h)
+    between (range .low) x (range .high) (and-left (leZ (range .low) x) (leZ x (range .high)) h)
+    (and-right (leZ (range .low) x) (leZ x (range .high)) h)
 
 -- the tests of a range, at locals that hold its ends and the number
-pub range-yes : (range : Range) (x lb xb hb : ℤ) → lb ≡ range .low → xb ≡ x → hb ≡ range .high → leZ lb xb ≡ true → leZ xb hb ≡ inRange range x
+pub range-yes : (range : Range) (x lb xb hb : ℤ) → lb ≡ range .low → xb ≡ x → hb ≡ range .high → leZ lb xb ≡ true
+    → leZ xb hb ≡ inRange range x
 range-yes range x lb xb hb el ex eh t =
     let t′ : leZ (range .low) x ≡ true = rw (← el, ← ex) t in
     rw (eh, ex, t′) refl
@@ -119,7 +121,8 @@ fine-reply file v reading e h =
     sheet-faithful (reading .sheet) (reading-well-formed file reading e k) v
     ∙ subst (λ (x : Read). sheetReply (reading .sheet) v ≡ readReply x v) e (rw k refl)
 
-refused-as : (sheet : Sheet) (v : List ℤ) (r : Refusal) → blankReply (refusalAs r) ≡ readReply (record { answer = refusalAs r; sheet = sheet }) v
+refused-as : (sheet : Sheet) (v : List ℤ) (r : Refusal)
+    → blankReply (refusalAs r) ≡ readReply (record { answer = refusalAs r; sheet = sheet }) v
 unfolding readReply
 refused-as sheet v Size = refl
 refused-as sheet v (Contents at) = refl

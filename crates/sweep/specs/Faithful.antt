@@ -7,14 +7,13 @@ use Prim.Native.Nat.{ℕ, zero-le}
 use lib.Dec.{lit≤}
 use lib.IntN.{ℤ}
 use Rattle.dbm.specs.Matrix.{Matrix, Outcome, void, kept}
-use Rattle.expr.specs.Limit.{Limit, zeroW}
-use Rattle.expr.specs.Ranges.{In, Inside}
+use Rattle.weight.specs.Upper.{Upper, zeroW}
+use Rattle.expr.specs.Ranges.{Inside}
 use Rattle.expr.specs.Three.{rangeList}
 use Rattle.expr.specs.declared.range.Range.{Range}
 use Rattle.integer.specs.Order.{≤ℤ-trans}
 use Rattle.sheet.specs.declared.Sheet.{Sheet}
 use Rattle.sheet.specs.WellFormed.{WellFormed}
-use Rattle.parameters.specs.Right.{RangeRight}
 use Rattle.cursor_laws.specs.Right.{Small}
 use Rattle.walk.specs.Coded.{coded, row-at, table-not-void}
 use Rattle.walk.specs.CodedWalk.{sweep-coded}
@@ -29,16 +28,25 @@ use Rattle.timed.specs.Right.{steps-right}
 use Rattle.timed.specs.Steps.{stepsOf}
 
 -- a matrix that Sweep comes to is zero at (0, 0)
-first-zero : {s : Sheet} → WellFormed s → (v : List ℤ) → Thousands v → (m : Matrix (Limit ℤ)) → sweepAt s v ≡ kept m → m 0 0 ≡ zeroW
+first-zero : {s : Sheet} → WellFormed s → (v : List ℤ) → Thousands v → (m : Matrix (Upper ℤ)) → sweepAt s v ≡ kept m → m 0 0 ≡ zeroW
 unfolding sweepAt sweepAlong
 first-zero {s} f v h m e =
-    walk-visited (s .parameters) v h (stepsOf s (routeOf s)) (steps-right f (routeOf s)) 0 (start-visited (s .clocks)) e .closed .diagonal 0 zero-le
+    walk-visited (s .parameters) v h (stepsOf s (routeOf s)) (steps-right f (routeOf s)) 0 (start-visited (s .clocks)) e .closed
+    .diagonal 0 zero-le
 
-swept-coded : (o : Outcome) → ((m : Matrix (Limit ℤ)) → o ≡ kept m → m 0 0 ≡ zeroW) → sweptTable (coded o) ≡ swept o
+swept-coded : (o : Outcome) → ((m : Matrix (Upper ℤ)) → o ≡ kept m → m 0 0 ≡ zeroW) → sweptTable (coded o) ≡ swept o
 unfolding sweptTable coded swept
 swept-coded void z = refl
 swept-coded (kept m) z =
-    rw (table-not-void m (z m refl), row-at m 0 zero-le, row-at m 1 (lit≤ tt), row-at m 2 (lit≤ tt), row-at m 3 (lit≤ tt), row-at m 4 (lit≤ tt)) refl
+    rw (
+      table-not-void m (z m refl),
+      row-at m 0 zero-le,
+      row-at m 1 (lit≤ tt),
+      row-at m 2 (lit≤ tt),
+      row-at m 3 (lit≤ tt),
+      row-at m 4 (lit≤ tt),
+    )
+    refl
 
 -- ranges of small numbers
 abbrev SmallRanges : List Range → Type 0
@@ -59,7 +67,8 @@ pub sheet-faithful : (s : Sheet) → WellFormed s → (v : List ℤ) → sheetTa
 unfolding sheetTable sheetReply
 sheet-faithful s f v = by (outside 0 (rangeList (s .ranges)) v) refl
   where
-    by : (o : Option ℕ) → outside 0 (rangeList (s .ranges)) v ≡ o → orOutside (sweptTable (sweepTable s v)) o ≡ orOutside (swept (sweepAt s v)) o
+    by : (o : Option ℕ) → outside 0 (rangeList (s .ranges)) v ≡ o
+        → orOutside (sweptTable (sweepTable s v)) o ≡ orOutside (swept (sweepAt s v)) o
     by (some k) e = refl
     by none e =
         let t = in-small (rangeList (s .ranges)) v (sheet-small s f) (outside-none 0 (rangeList (s .ranges)) v e) in

@@ -1,7 +1,8 @@
--- What is read first: Reply (what Sweep replies to every file and valuation) and Theorems (what that is worth against runs). TableReply is what
--- the code does, Faithful that it is the same; ReplyLaws serves these.
-pub mod Faithful
+-- What is read first, definitions and statements only: Reply (what Sweep replies to every file and valuation) and Theorems (what that is
+-- worth against runs). Proofs has the theorem. TableReply is what the code does, Faithful that it is the same; ReplyLaws serves these.
 pub mod Reply
-pub mod ReplyLaws
-pub mod TableReply
 pub mod Theorems
+pub mod Proofs
+pub mod TableReply
+pub mod Faithful
+pub mod ReplyLaws

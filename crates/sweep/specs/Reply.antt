@@ -1,6 +1,6 @@
--- What Sweep replies, for every file and every valuation (paper 01, rows 2 to 6 of "When no piece is given", and "Runs"), in the paper's numbers:
--- refused by 2 to 5, the whole file for each; else by 6; else 1, void, or 0, a run, with the matrix of tightest bounds. With a refusal or void
--- every entry is zero, not strict.
+-- What Sweep replies, for every file and every valuation (paper 01, rows 2 to 6 of "When no piece is given", and "Runs"), in the paper's
+-- numbers: refused by 2 to 5, the whole file for each; else by 6; else 1, void, or 0, a run, with the matrix of tightest bounds. With a
+-- refusal or void every entry is zero, not strict.
 use mathlib.Core.List.{List, [], _∷_}
 use mathlib.Core.Bool.{Bool, cond, _&&_}
 use mathlib.Core.Option.{Option, none, some}
@@ -13,11 +13,10 @@ use Rattle.answers.specs.Numbers.{Numbered, numbered, sweepAs}
 use Rattle.dbm.specs.Matrix.{Outcome, void, kept}
 use Rattle.expr.specs.Three.{rangeList}
 use Rattle.expr.specs.declared.range.Range.{Range}
-use Rattle.expr.specs.declared.weight.Weight.{Weight}
+use Rattle.weight.specs.declared.Weight.{Weight}
 use Rattle.reading.specs.File.{Read, readOf}
 use Rattle.sheet.specs.declared.Sheet.{Sheet}
-use Rattle.weights.specs.Records.{row}
-use Rattle.weights.specs.Records.{zeroRow}
+use Rattle.weight_matrix.specs.Records.{row, zeroRow}
 use Rattle.concrete.specs.Walk.{sweepAt}
 use Rattle.sweep.specs.declared.reply.Reply.{Reply}
 use Rattle.sweep.specs.declared.reply.Row.{Row}

@@ -1,12 +1,12 @@
 -- Refusal 6 and the ranges: no parameter is outside exactly if the valuation lies in the ranges.
-use mathlib.Core.Path.{_≡_, refl, sym, _∙_}
+use mathlib.Core.Path.{_≡_, refl}
 use mathlib.Core.List.{List, [], _∷_}
 use mathlib.Core.Bool.{Bool, true, false, cond}
 use mathlib.Core.Option.{Option, none, some}
 use Prim.Native.Nat.{ℕ, suc}
-use native.Mathlib.Omega.{arith}
 use lib.IntN.{ℤ}
 use lib.Signed.{leZ}
+use Rattle.integer.specs.Apart.{apart}
 use Rattle.expr.specs.Ranges.{In, Inside}
 use Rattle.expr.specs.declared.range.Range.{Range}
 use Rattle.integer.specs.Bools.{and-left, and-right, and-both}
@@ -16,14 +16,17 @@ use Rattle.sweep.specs.Reply.{inRange, outside}
 -- ---- one number
 pub in-range : (r : Range) (x : ℤ) → inRange r x ≡ true → In x r
 in-range r x h =
-    record { least = leZ-true (and-left (leZ (r .low) x) (leZ x (r .high)) h); most = leZ-true (and-right (leZ (r .low) x) (leZ x (r .high)) h) }
+    record {
+      least = leZ-true (and-left (leZ (r .low) x) (leZ x (r .high)) h);
+      most = leZ-true (and-right (leZ (r .low) x) (leZ x (r .high)) h);
+    }
 
 pub range-in : (r : Range) (x : ℤ) → In x r → inRange r x ≡ true
 range-in r x h = and-both (leZ (r .low) x) (leZ x (r .high)) (true-leZ (h .least)) (true-leZ (h .most))
 
 -- ---- all of them
 some-none : {A : Type 0} {a : A} → _≡_ {A = Option A} (some a) none → ⊥
-some-none e = let z : _≡_ {A = ℕ} 0 1 = cc in omega arith
+some-none e = apart cc
 
 pub outside-none : (k : ℕ) (rs : List Range) (v : List ℤ) → outside k rs v ≡ none → Inside v rs
 unfolding outside

@@ -9,7 +9,7 @@ use Rattle.expr.specs.Three.{rangeList, valuationOf}
 use Rattle.expr.specs.declared.range.Range.{Range}
 use Rattle.sheet.specs.declared.Sheet.{Sheet}
 use Rattle.sweep.specs.Reply.{SweepReply, rowRecord, blankReply, outside, orOutside}
-use Rattle.weights.specs.Tables.{Table, rowOf, isVoid}
+use Rattle.weight_matrix.specs.Tables.{Table, rowOf, isVoid}
 use Rattle.walk.specs.Walked.{sweepTable}
 use Rattle.sweep.specs.declared.reply.Placed.{Placed}
 use Rattle.sweep.specs.declared.reply.Placed.the-variants.{Inside, Outside}

@@ -1,7 +1,7 @@
 // Sweep: one valuation of a sheet's parameters worked out in plain numbers.
 //
-// The contract of `sweep` is an equation with `replyOf` of specs/Reply, for every file and every three numbers; specs/Theorems says what that
-// reply is worth: void exactly if no run exists, and else the matrix of tightest bounds over the end states of all runs.
+// The contract of `sweep` is an equation with `replyOf` of specs/Reply, for every file and every three numbers; specs/Theorems says what
+// that reply is worth: void exactly if no run exists, and else the matrix of tightest bounds over the end states of all runs.
 mod reply;
 
 use answers::file::Checked;

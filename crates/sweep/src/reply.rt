@@ -3,10 +3,9 @@ use answers::sweep::Answer;
 use expr::Range;
 use expr::Ranges;
 use expr::Valuation;
-use expr::Weight;
 use sheet::Sheet;
+use weight::Weight;
 ghost use mathlib.Core.Path.{_≡_};
-ghost use lib.IntN.{ℤ};
 ghost use Prim.Native.Nat.{_<_};
 ghost use mathlib.Core.Bool.{true};
 ghost use mathlib.Core.List.{[], _∷_};
@@ -49,7 +48,7 @@ pub(crate) fn blank(answer: Answer) -> Reply
 fn swept(m: [[Weight; 5]; 5]) -> Reply
     ensures { λ r. ⌜ replyAs r ≡ sweptTable m ⌝ }
 {
-    if weights::is_void(m) {
+    if weight_matrix::is_void(m) {
         return blank(Answer::Void);
     }
     Reply {

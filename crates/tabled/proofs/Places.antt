@@ -34,17 +34,22 @@ module _ {M : Type 1} (𝓤 : URA M) (H : Heap 𝓤) (A : Atoms 𝓤) (W : Given
   τ₀ = lone (R .mir)
 
   -- a row is cut in two
-  pub cut : (xs ys : List (R .Denot)) (b o : ℕ) → ent 𝓤 ⟦ cells (mem R) (xs ++ ys) b o ⟧ (sep 𝓤 ⟦ cells (mem R) xs b o ⟧ ⟦ cells (mem R) ys b (place size o (length xs)) ⟧)
+  pub cut : (xs ys : List (R .Denot)) (b o : ℕ)
+      → ent 𝓤 ⟦ cells (mem R) (xs ++ ys) b o ⟧ (sep 𝓤 ⟦ cells (mem R) xs b o ⟧ ⟦ cells (mem R) ys b (place size o (length xs)) ⟧)
   cut [] ys b o = emp∗ 𝓤 ⟦ cells (mem R) ys b o ⟧
   cut (x ∷ xs) ys b o =
       qed W (‵ (mem R .lies x b o) ∷ ‵ (cells (mem R) (xs ++ ys) b (o + size)) ∷ []) ∵ move ! (1 ∷ []) $
-      use1 W (‵ (cells (mem R) xs b (o + size)) ⊛ ‵ (cells (mem R) ys b (place size (o + size) (length xs)))) (cut xs ys b (o + size)) $ split ! $ move ! (2 ∷ 0 ∷ []) $ fjoin ! $ done !
+      use1 W (‵ (cells (mem R) xs b (o + size)) ⊛ ‵ (cells (mem R) ys b (place size (o + size) (length xs)))) (cut xs ys b (o + size)) $
+      split ! $ move ! (2 ∷ 0 ∷ []) $ fjoin ! $ done !
 
   -- and joined
-  pub join : (xs ys : List (R .Denot)) (b o : ℕ) → ent 𝓤 (sep 𝓤 ⟦ cells (mem R) xs b o ⟧ ⟦ cells (mem R) ys b (place size o (length xs)) ⟧) ⟦ cells (mem R) (xs ++ ys) b o ⟧
+  pub join : (xs ys : List (R .Denot)) (b o : ℕ)
+      → ent 𝓤 (sep 𝓤 ⟦ cells (mem R) xs b o ⟧ ⟦ cells (mem R) ys b (place size o (length xs)) ⟧) ⟦ cells (mem R) (xs ++ ys) b o ⟧
   join [] ys b o = snd∗ 𝓤 (emp 𝓤) ⟦ cells (mem R) ys b o ⟧
   join (x ∷ xs) ys b o =
-      qed W (‵ (fsep (mem R .lies x b o) (cells (mem R) xs b (o + size))) ∷ ‵ (cells (mem R) ys b (place size (o + size) (length xs))) ∷ []) ∵ fsplit ! $ move ! (1 ∷ 2 ∷ []) $
+      qed W
+      (‵ (fsep (mem R .lies x b o) (cells (mem R) xs b (o + size))) ∷ ‵ (cells (mem R) ys b (place size (o + size) (length xs))) ∷ []) ∵
+      fsplit ! $ move ! (1 ∷ 2 ∷ []) $
       use2 W (‵ (cells (mem R) (xs ++ ys) b (o + size))) (join xs ys b (o + size)) $ move ! (1 ∷ 0 ∷ []) $ fjoin ! $ done !
 
   -- an array in a local is its elements, side by side
@@ -69,6 +74,9 @@ module _ {M : Type 1} (𝓤 : URA M) (H : Heap 𝓤) (A : Atoms 𝓤) (W : Given
       qed W (‵ (cells (mem R) xs b o) ∷ []) ∵ use1 W (‵ (parts (mem R) (shares R) fullShare xs b o)) (whole-out 𝓤 H A W R xs b o) $
       feqI ! ℕ (length xs) n long $ fjoin ! $ use1 W (‵ (partAt (Array R n) fullShare xs b o)) (array-whole 𝓤 H A W R fullShare n xs b o) $
       fpick ! (λ vs. fsplit ! $ move ! (1 ∷ []) $ peeks ! (Array R n) (Is (Array R n)) (shows 𝓤 H A (Array R n)) xs vs (λ is.
-      rewrite ! 0 (λ (ws : List Val). ‵ (Array R n .own xs ws)) (is .1 .0 .0) refl $ rewrite ! 1 (λ (ws : List Val). ‵ (cellAt fullShare (tyArray τ₀ n ∷ []) ws b o)) (is .1 .0 .0) refl $
-      move ! (1 ∷ []) $ use1 W (‵ (fat fullShare (tyArray τ₀ n) b o (arrayVal (is .0)))) (W .laws .raw-at fullShare (tyArray τ₀ n) b o (arrayVal (is .0))) $
+      rewrite ! 0 (λ (ws : List Val). ‵ (Array R n .own xs ws)) (is .1 .0 .0) refl $
+      rewrite ! 1 (λ (ws : List Val). ‵ (cellAt fullShare (tyArray τ₀ n ∷ []) ws b o)) (is .1 .0 .0) refl $
+      move ! (1 ∷ []) $
+      use1 W (‵ (fat fullShare (tyArray τ₀ n) b o (arrayVal (is .0))))
+      (W .laws .raw-at fullShare (tyArray τ₀ n) b o (arrayVal (is .0))) $
       show ! (Local n xs b o) (arrayVal (is .0)) $ done !))

@@ -4,11 +4,9 @@ use mathlib.Core.List.{List}
 use Prim.Native.Nat.{ℕ}
 use lib.ListN.{getD, take}
 use Rattle.guards.specs.declared.Guard.{Guard}
-use Rattle.automaton.specs.declared.Location.{Location}
 use Rattle.sheet.specs.declared.Sheet.{Sheet}
 use Rattle.automaton.specs.declared.Transition.{Transition}
-use Rattle.automaton.specs.Automaton.{noTransition}
-use Rattle.automaton.specs.Automaton.{noLocation}
+use Rattle.automaton.specs.Automaton.{noTransition, noLocation}
 
 -- the invariants (paper: standing limits) of a location (paper: stage)
 unfoldable pub invariants : Sheet → ℕ → List Guard

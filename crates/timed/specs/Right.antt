@@ -14,14 +14,10 @@ use Rattle.automaton.specs.Automaton.{blankLocation, blankTransition}
 use Rattle.cursor_laws.specs.Right.{Filled}
 use Rattle.guards.specs.Right.{GuardRight}
 use Rattle.sheet.specs.WellFormed.{WellFormed}
+use Rattle.timed.specs.Lists.{AllOf}
 use Rattle.timed.specs.Automaton.{invariants, guardsOf, transitionAt, routeOf}
 use Rattle.timed.specs.Steps.{Step, delay, guard, resets, staySteps, moveSteps, stepsFrom, stepsOf, delays}
 use Rattle.timed.specs.Visits.{steps-delays}
-
--- all of a list have P
-abbrev pub AllOf : {A : Type 0} → (A → Type 0) → List A → Type 0
-AllOf P [] = Unit
-AllOf P (a ∷ l) = P a × AllOf P l
 
 -- the guards of the list are right for the sheet
 abbrev pub GuardsAll : Sheet → List Guard → Type 0

@@ -9,7 +9,7 @@ use lib.Dec.{eqb}
 use lib.IntN.{ℤ, pos, _+ℤ_, _-ℤ_, _*ℤ_}
 use lib.Signed.{_≤ℤ_, _<ℤ_}
 use Rattle.expr.specs.Affine.{value}
-use Rattle.expr.specs.Limit.{Limit, none, limit}
+use Rattle.weight.specs.Upper.{Upper, none, upper}
 use Rattle.expr.specs.Three.{affine}
 use Rattle.guards.specs.declared.Guard.{Guard}
 use Rattle.sheet.specs.declared.Sheet.{Sheet}
@@ -78,14 +78,14 @@ minutes r c = pos (r .parts) *ℤ c
 -- the weight is the tightest bound on clock i - clock j over the end states of all runs along the route under v:
 -- ≤ c is met by all and reached by one; < c is met by all, and for every N ≥ 1 some run ends less than 1/N below c;
 -- none: for every whole N some run ends above N
-abbrev pub TightestAlong : Sheet → List ℕ → List ℤ → ℕ → ℕ → Limit ℤ → Type 0
+abbrev pub TightestAlong : Sheet → List ℕ → List ℤ → ℕ → ℕ → Upper ℤ → Type 0
 TightestAlong s route v i j none = (N : ℤ) → (r : RunAlong s route v) × (minutes r N <ℤ difference i j r)
-TightestAlong s route v i j (limit false c) =
+TightestAlong s route v i j (upper false c) =
     ((r : RunAlong s route v) → difference i j r ≤ℤ minutes r c) × ((r : RunAlong s route v) × (difference i j r ≡ minutes r c))
-TightestAlong s route v i j (limit true c) =
+TightestAlong s route v i j (upper true c) =
     ((r : RunAlong s route v) → difference i j r <ℤ minutes r c)
     × ((N : ℕ) → 1 ≤ N → (r : RunAlong s route v) × ((pos N *ℤ (minutes r c -ℤ difference i j r)) <ℤ pos (r .parts)))
 
 -- the same along the sheet's own route
-abbrev pub Tightest : Sheet → List ℤ → ℕ → ℕ → Limit ℤ → Type 0
+abbrev pub Tightest : Sheet → List ℤ → ℕ → ℕ → Upper ℤ → Type 0
 Tightest s v i j b = TightestAlong s (routeOf s) v i j b

@@ -1,7 +1,7 @@
 -- The steps along a route, in order: what Sweep makes on a matrix and the cutting on a list of zones.
 -- Runs have a definition of their own (Runs), which uses nothing of this.
 use mathlib.Core.List.{List, [], _∷_, _++_, map}
-use Prim.Native.Nat.{ℕ, zero, suc}
+use Prim.Native.Nat.{ℕ, suc}
 use Rattle.guards.specs.declared.Guard.{Guard}
 use Rattle.sheet.specs.declared.Sheet.{Sheet}
 use Rattle.timed.specs.Automaton.{invariants, guardsOf, transitionAt}

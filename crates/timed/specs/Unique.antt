@@ -12,7 +12,7 @@ use lib.Signed.{_≤ℤ_, _<ℤ_}
 use Rattle.integer.specs.Order.{≤ℤ-total, ≤ℤ-antisym, <ℤ→≤ℤ}
 use Rattle.integer.specs.Parts.{p, n, +-parts, -parts, *-parts, <-in, zs}
 use Rattle.integer.specs.Product.{*ℤ-mono-nonneg}
-use Rattle.expr.specs.Limit.{Limit, none, limit}
+use Rattle.weight.specs.Upper.{Upper, none, upper}
 use Rattle.sheet.specs.declared.Sheet.{Sheet}
 use Rattle.timed.specs.Runs.{TightestAlong, difference}
 
@@ -50,14 +50,14 @@ minutes-≤ D c d h = *ℤ-mono-nonneg (pos D) (omega zs) h
 
 module _ (s : Sheet) (route : List ℕ) (v : List ℤ) (i j : ℕ) where
   -- none goes with no other weight
-  none-not-≤ : (c : ℤ) → TightestAlong s route v i j none → TightestAlong s route v i j (limit false c) → ⊥
+  none-not-≤ : (c : ℤ) → TightestAlong s route v i j none → TightestAlong s route v i j (upper false c) → ⊥
   none-not-≤ c a b = let (r, h) = a c in let k = b .0 r in omega zs
 
-  none-not-< : (c : ℤ) → TightestAlong s route v i j none → TightestAlong s route v i j (limit true c) → ⊥
+  none-not-< : (c : ℤ) → TightestAlong s route v i j none → TightestAlong s route v i j (upper true c) → ⊥
   none-not-< c a b = let (r, h) = a c in let k = b .0 r in omega zs
 
   -- a number that is reached is no more than one that all runs meet
-  reached-≤ : (c d : ℤ) → TightestAlong s route v i j (limit false c) → TightestAlong s route v i j (limit false d) → (c ≤ℤ d) ⊎ (d <ℤ c)
+  reached-≤ : (c d : ℤ) → TightestAlong s route v i j (upper false c) → TightestAlong s route v i j (upper false d) → (c ≤ℤ d) ⊎ (d <ℤ c)
       → c ≤ℤ d
   reached-≤ c d a b (inl h) = h
   reached-≤ c d a b (inr h) =
@@ -67,7 +67,7 @@ module _ (s : Sheet) (route : List ℕ) (v : List ℤ) (i j : ℕ) where
       absurd (omega zs)
 
   -- a number that is reached is none that is only approached
-  reached-not-< : (c d : ℤ) → TightestAlong s route v i j (limit false c) → TightestAlong s route v i j (limit true d)
+  reached-not-< : (c d : ℤ) → TightestAlong s route v i j (upper false c) → TightestAlong s route v i j (upper true d)
       → (d ≤ℤ c) ⊎ (c <ℤ d) → ⊥
   reached-not-< c d a b (inl h) =
       let (r, e) = a .1 in
@@ -79,26 +79,26 @@ module _ (s : Sheet) (route : List ℕ) (v : List ℤ) (i j : ℕ) where
       too-far (r .parts) c d (difference i j r) h (a .0 r) g
 
   -- a number that is approached is no more than another that is
-  near-≤ : (c d : ℤ) → TightestAlong s route v i j (limit true c) → TightestAlong s route v i j (limit true d) → (c ≤ℤ d) ⊎ (d <ℤ c)
+  near-≤ : (c d : ℤ) → TightestAlong s route v i j (upper true c) → TightestAlong s route v i j (upper true d) → (c ≤ℤ d) ⊎ (d <ℤ c)
       → c ≤ℤ d
   near-≤ c d a b (inl h) = h
   near-≤ c d a b (inr h) =
       let (r, g) = a .1 1 (omega arith) in
       absurd (too-far (r .parts) d c (difference i j r) h (<ℤ→≤ℤ (b .0 r)) g)
 
-  by-weights : (a b : Limit ℤ) → TightestAlong s route v i j a → TightestAlong s route v i j b → a ≡ b
+  by-weights : (a b : Upper ℤ) → TightestAlong s route v i j a → TightestAlong s route v i j b → a ≡ b
   by-weights none none h k = refl
-  by-weights none (limit true d) h k = absurd (none-not-< d h k)
-  by-weights none (limit false d) h k = absurd (none-not-≤ d h k)
-  by-weights (limit true c) none h k = absurd (none-not-< c k h)
-  by-weights (limit false c) none h k = absurd (none-not-≤ c k h)
-  by-weights (limit true c) (limit true d) h k = ap (limit true)
+  by-weights none (upper true d) h k = absurd (none-not-< d h k)
+  by-weights none (upper false d) h k = absurd (none-not-≤ d h k)
+  by-weights (upper true c) none h k = absurd (none-not-< c k h)
+  by-weights (upper false c) none h k = absurd (none-not-≤ c k h)
+  by-weights (upper true c) (upper true d) h k = ap (upper true)
       (≤ℤ-antisym (near-≤ c d h k (≤ℤ-total c d)) (near-≤ d c k h (≤ℤ-total d c)))
-  by-weights (limit true c) (limit false d) h k = absurd (reached-not-< d c k h (≤ℤ-total c d))
-  by-weights (limit false c) (limit true d) h k = absurd (reached-not-< c d h k (≤ℤ-total d c))
-  by-weights (limit false c) (limit false d) h k = ap (limit false)
+  by-weights (upper true c) (upper false d) h k = absurd (reached-not-< d c k h (≤ℤ-total c d))
+  by-weights (upper false c) (upper true d) h k = absurd (reached-not-< c d h k (≤ℤ-total d c))
+  by-weights (upper false c) (upper false d) h k = ap (upper false)
       (≤ℤ-antisym (reached-≤ c d h k (≤ℤ-total c d)) (reached-≤ d c k h (≤ℤ-total d c)))
 
-pub tightest-unique : (s : Sheet) (route : List ℕ) (v : List ℤ) (i j : ℕ) (a b : Limit ℤ) → TightestAlong s route v i j a
+pub tightest-unique : (s : Sheet) (route : List ℕ) (v : List ℤ) (i j : ℕ) (a b : Upper ℤ) → TightestAlong s route v i j a
     → TightestAlong s route v i j b → a ≡ b
 tightest-unique s route v i j a b h k = by-weights s route v i j a b h k

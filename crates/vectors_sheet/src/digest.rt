@@ -1,5 +1,4 @@
-// Digests of a sheet and of what `body` hands out. Each number x takes a digest h to
-// (h * 1000003 + x + 2147483648) mod 1000000007, and h starts at 0.
+// Digests of a sheet and of what `body` hands out. Each number x goes into a digest as x + 2147483648.
 //
 // The numbers of a sheet are all its fields in the file's order, those of the places past a count
 // too. The numbers of the bodies are, for each kind from 0 to 5, the refusal's number and place (0
@@ -10,39 +9,37 @@ use expr::Expr;
 use expr::Range;
 use expr::Ranges;
 use guards::Guard;
+use numbers::wide;
+use numbers::wide16;
 use sheet::Sheet;
+use stored::magnitude;
+use stored::with_number;
 
-// The digest with a number that is handed over with 2,147,483,648 added.
-fn mixed(h: u64, x: u64) -> u64 {
-    ((h % 1000000007) * 1000003 + x % 4294967296) % 1000000007
+// The digest with a count or a location's number.
+fn with_count(h: u64, x: usize) -> u64 {
+    with_number(h, (x as u64) % 4294967296 + 2147483648)
 }
 
 // The digest with a byte.
 fn with_byte(h: u64, x: u8) -> u64 {
-    mixed(h, (x as u64) + 2147483648)
+    with_number(h, (x as u64) + 2147483648)
 }
 
-// The digest with a count or a location's number.
-fn with_count(h: u64, x: usize) -> u64 {
-    mixed(h, (x as u64) % 4294967296 + 2147483648)
-}
-
-// The digest with a number that may be negative.
-fn with_number(h: u64, x: i32) -> u64 {
-    mixed(h, ((x as i64) + 2147483648) as u64)
-}
-
-// The digest with an end of a range.
-fn with_end(h: u64, x: i16) -> u64 {
-    with_number(h, x as i32)
+// The digest with a number that may be negative: modulo 1000000007, less by n is more by 1000000007 - n.
+fn with_signed(h: u64, x: i64) -> u64 {
+    let n = magnitude(x) % 1000000007;
+    if x < 0 {
+        return with_number(h, 2147483648 + 1000000007 - n);
+    }
+    with_number(h, 2147483648 + n)
 }
 
 // The digest with an expression: its constant and its coefficients.
 fn with_expr(h: u64, expr: Expr) -> u64 {
-    let constant = with_number(h, expr.constant);
-    let p = with_number(constant, expr.p);
-    let q = with_number(p, expr.q);
-    with_number(q, expr.r)
+    let constant = with_signed(h, wide(expr.constant));
+    let p = with_signed(constant, wide(expr.p));
+    let q = with_signed(p, wide(expr.q));
+    with_signed(q, wide(expr.r))
 }
 
 // The relation of a bound: 0 at most, 1 below; 2 if there is none, which no guard has.
@@ -76,8 +73,8 @@ fn with_guards(h: u64, count: usize, guards: [Guard; 6]) -> u64 {
 
 // The digest with a range.
 fn with_range(h: u64, range: Range) -> u64 {
-    let low = with_end(h, range.low);
-    with_end(low, range.high)
+    let low = with_signed(h, wide16(range.low));
+    with_signed(low, wide16(range.high))
 }
 
 // The digest with the three ranges.

@@ -5,7 +5,6 @@
 // The lines that it must write come from reference/.
 mod digest;
 
-ghost use Prim.Native.Nat.{_<_};
 use libc::STDOUT_FILENO;
 use reading::Reading;
 use sheet::Sheet;
@@ -55,20 +54,13 @@ fn print_line(file: &[u8]) {
     io::write_all(STDOUT_FILENO, b"\n");
 }
 
-// The number of two bytes, the low one first.
-fn length_of(low: u8, high: u8) -> usize
-    ensures { λ r. ⌜ r < 65536 ⌝ }
-{
-    (low as usize) + 256 * (high as usize)
-}
-
 // Reads the next stored file and writes its line, and answers whether there was one.
 fn print_next(fd: i32) -> bool {
     let mut length = [0u8; 2];
     if io::read_full(fd, &mut length) < 2 {
         return false;
     }
-    let n = length_of(length[0], length[1]);
+    let n = stored::two_bytes(length[0], length[1]);
     let mut file = io::large_buffer();
     let got = io::read_full(fd, &mut file[..n]);
     if got < n {

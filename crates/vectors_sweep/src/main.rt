@@ -4,7 +4,7 @@
 // answers at each valuation as N/P/D, the answer's number, its place and a digest of its matrix. The
 // lines that it must write come from reference/.
 mod digest;
-mod stored;
+mod number;
 
 use libc::STDOUT_FILENO;
 
@@ -38,9 +38,9 @@ fn print_next_answer(fd: i32, file: &[u8]) -> bool {
     if io::read_full(fd, &mut bytes) < 24 {
         return false;
     }
-    let p = stored::number(bytes, 0);
-    let q = stored::number(bytes, 8);
-    let r = stored::number(bytes, 16);
+    let p = number::number_at(bytes, 0);
+    let q = number::number_at(bytes, 8);
+    let r = number::number_at(bytes, 16);
     print_answer(file, p, q, r);
     true
 }
@@ -76,7 +76,7 @@ fn print_next(fd: i32) -> bool {
     if io::read_full(fd, &mut length) < 2 {
         return false;
     }
-    let n = stored::length(length[0], length[1]);
+    let n = stored::two_bytes(length[0], length[1]);
     let mut file = io::large_buffer();
     let got = io::read_full(fd, &mut file[..n]);
     if got < n {

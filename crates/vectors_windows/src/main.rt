@@ -1,7 +1,7 @@
-// Reads the records that are stored one after the other in `windows.bin`: the length of a sheet file (two bytes, the low one first), its bytes,
-// and how many places of the table are lent (one byte). It writes a line for each record: the length, what Windows answers as R/P, the number
-// and the place, then how many pieces, kept and cut, and a digest of the lent places. No place of the table is blank before the call. The lines
-// that it must write come from reference/.
+// Reads the records that are stored one after the other in `windows.bin`: the length of a sheet file (two bytes, the low one
+// first), its bytes, and how many places of the table are lent (one byte). It writes a line for each record: the length, what
+// Windows answers as R/P, the number and the place, then how many pieces, kept and cut, and a digest of the lent places. No place
+// of the table is blank before the call. The lines that it must write come from reference/.
 mod digest;
 
 use answers::windows::Answer;
@@ -9,8 +9,10 @@ use answers::windows::Counts;
 use expr::Bound;
 use expr::Expr;
 use libc::STDOUT_FILENO;
+use numbers::at_most;
+use numbers::index;
 use windows::Piece;
-ghost use Prim.Native.Nat.{_<_, _≤_};
+ghost use Prim.Native.Nat.{_≤_};
 
 // A table with no blank place.
 fn filled() -> [Piece; 40] {
@@ -89,31 +91,13 @@ fn print_line(file: &[u8], n: usize)
     io::write_all(STDOUT_FILENO, b"\n");
 }
 
-// How many places are lent: the stored number, which is at most 40.
-fn places_of(byte: u8) -> usize
-    ensures { λ r. ⌜ r ≤ 40 ⌝ }
-{
-    let n = byte as usize;
-    if n < 40 {
-        return n;
-    }
-    40
-}
-
-// The stored length of a file.
-fn length_of(low: u8, high: u8) -> usize
-    ensures { λ r. ⌜ r < 65536 ⌝ }
-{
-    (low as usize) + 256 * (high as usize)
-}
-
 // Writes the line of a file, whose number of places comes next, and answers whether the record was whole.
 fn print_record(fd: i32, file: &[u8]) -> bool {
     let mut places = [0u8; 1];
     if io::read_full(fd, &mut places) < 1 {
         return not_whole();
     }
-    print_line(file, places_of(places[0]));
+    print_line(file, at_most(index(places[0]), 40));
     true
 }
 
@@ -123,7 +107,7 @@ fn print_next(fd: i32) -> bool {
     if io::read_full(fd, &mut length) < 2 {
         return false;
     }
-    let n = length_of(length[0], length[1]);
+    let n = stored::two_bytes(length[0], length[1]);
     let mut file = io::large_buffer();
     let got = io::read_full(fd, &mut file[..n]);
     if got < n {
@@ -132,7 +116,8 @@ fn print_next(fd: i32) -> bool {
     print_record(fd, &file[..n])
 }
 
-// Writes the lines of all stored records. The loop counts its turns down, from a number that no run uses up, since a proved loop has to end.
+// Writes the lines of all stored records. The loop counts its turns down, from a number that no run uses up, since a proved loop
+// has to end.
 fn print_all(fd: i32) {
     let mut turns = u64::MAX;
     while turns > 0 && print_next(fd) {

@@ -1,23 +1,18 @@
 -- The cases of the code's steps on tables, with the branches' tests.
 use mathlib.Core.Path.{_≡_, refl, sym, _∙_, ap}
-use mathlib.Core.List.{List, [], _∷_}
-use mathlib.Core.Bool.{Bool, true, false, cond}
+use mathlib.Core.List.{List, _∷_}
 use Prim.Native.Nat.{ℕ, suc, _+_, _≤_, _<_, min}
 use native.Mathlib.Numerals.{add-one}
 use native.Mathlib.Omega.{arith}
-use borrow.Author.Tests.{lt-ltb, le-ltb}
-use lib.Dec.{ltb, leb, eqb}
 use lib.IntN.{ℤ}
 use lib.ListN.{length, getD, take, drop, length-take, drop-of-length-le}
 use lib.Seq.{drop-cons, getD-take}
-use Rattle.expr.specs.declared.weight.Weight.{Weight}
 use Rattle.guards.specs.declared.Guard.{Guard}
 use Rattle.automaton.specs.declared.Location.{Location}
 use Rattle.sheet.specs.declared.Sheet.{Sheet}
 use Rattle.automaton.specs.declared.Transition.{Transition}
-use Rattle.weights.specs.Tables.{Table, voidTable, entryOf, rowOf, isVoid, sumC, tighterC, limitedEntry, limitedTable, guardedTable}
+use Rattle.weight_matrix.specs.Tables.{Table}
 use Rattle.walk.specs.Walked.{guardTable, guardsTable, stayTable, moveTable, walkTable}
-use Rattle.weights.specs.Records.{zeroWeight}
 use Rattle.sheet.specs.Lookup.{locationC, transitionC}
 
 -- ---- the loop over guards: what is left of the list takes the matrix to where the whole list takes it
@@ -25,7 +20,8 @@ pub size-is : {A : Type 0} (n k most : ℕ) (xs : List A) → n ≡ min k most �
 size-is n k most xs e l = (omega arith, rw (length-take k xs, l) e)
 
 module _ (clocks : ℕ) (v : List ℤ) (xs : List Guard) (k : ℕ) where
-  guards-cons : (l : List Guard) (g : Guard) (rest : List Guard) (m : Table) → l ≡ g ∷ rest → guardsTable m clocks v l ≡ guardsTable (guardTable m clocks v g) clocks v rest
+  guards-cons : (l : List Guard) (g : Guard) (rest : List Guard) (m : Table) → l ≡ g ∷ rest → guardsTable m clocks v l
+      ≡ guardsTable (guardTable m clocks v g) clocks v rest
   unfolding guardsTable
   guards-cons l g rest m h = rw h refl
 
@@ -43,7 +39,8 @@ module _ (clocks : ℕ) (v : List ℤ) (xs : List Guard) (k : ℕ) where
 -- ---- the loop over the route: what is left of it takes the matrix to where the whole route takes it
 module _ (s : Sheet) (v : List ℤ) where
   walk-cons : (ns : List ℕ) (n : ℕ) (rest : List ℕ) (l : ℕ) (m : Table) → ns ≡ n ∷ rest
-      → walkTable s v l ns m ≡ walkTable s v (transitionC s n .to) rest (moveTable (stayTable m (s .clocks) v (locationC s l)) (s .clocks) v (transitionC s n))
+      → walkTable s v l ns m ≡ walkTable s v (transitionC s n .to) rest
+      (moveTable (stayTable m (s .clocks) v (locationC s l)) (s .clocks) v (transitionC s n))
   unfolding walkTable
   walk-cons ns n rest l m h = rw h refl
 
@@ -54,7 +51,8 @@ module _ (s : Sheet) (v : List ℤ) where
   walk-turn k l m stayed next w here t h e et eh es en =
       let b : k < s .moves = omega (arith, length-take (s .moves) (s .route)) in
       rw (add-one k, en, es, eh, et, ← getD-take (s .moves) (s .route) k 0 b)
-      (sym (walk-cons (drop k (take (s .moves) (s .route))) (getD (take (s .moves) (s .route)) k 0) (drop (suc k) (take (s .moves) (s .route))) l m
+      (sym (walk-cons (drop k (take (s .moves) (s .route))) (getD (take (s .moves) (s .route)) k 0)
+      (drop (suc k) (take (s .moves) (s .route))) l m
       (drop-cons (take (s .moves) (s .route)) k 0 h)) ∙ e)
 
   pub walk-done : (k l : ℕ) (m r w : Table) (here : Location) → length (take (s .moves) (s .route)) ≤ k

@@ -15,22 +15,23 @@ use Rattle.dbm.specs.Entries.{up-to-4, cond-same, resetBit, bits-resets, inside
 use Rattle.dbm.specs.Entries.{delayed-zero, delayed-stays, delayed-outside, reset-outside}
 use Rattle.dbm.specs.Guard.{way}
 use Rattle.dbm.specs.Size.{AtMost, Small}
-use Rattle.expr.specs.Limit.{Limit, none, sumW, tighterW, zeroW, saturated, atV}
-use Rattle.expr.specs.Three.{weightOf, limitOf}
-use Rattle.expr.specs.declared.weight.Weight.{Weight}
+use Rattle.weight.specs.Upper.{Upper, none, sumW, tighterW, zeroW, saturated}
+use Rattle.expr.specs.Bounds.{atV}
+use Rattle.weight.specs.Records.{weightOf, zeroWeight}
+use Rattle.expr.specs.Three.{boundAs}
+use Rattle.weight.specs.declared.Weight.{Weight}
 use Rattle.guards.specs.declared.Guard.{Guard}
-use Rattle.weights.specs.Records.{zeroWeight}
-use Rattle.weights.specs.Tables.{voidTable, rowOf, entryOf, sumC, tighterC, limitedEntry, limitedRow, limitedLine}
-use Rattle.weights.specs.Tables.{limitedTable, guardedTable, delayedRow, delayedTable, resetEntry, resetRow, resetLine, resetTable}
-use Rattle.weights.specs.Tables.{resetIf, resetsTable}
+use Rattle.weight_matrix.specs.Tables.{voidTable, rowOf, entryOf, sumC, tighterC, limitedEntry, limitedRow, limitedLine, limitedTable}
+use Rattle.weight_matrix.specs.Tables.{guardedTable, delayedRow, delayedTable, resetEntry, resetRow, resetLine, resetTable, resetIf}
+use Rattle.weight_matrix.specs.Tables.{resetsTable}
 use Rattle.walk.specs.Walked.{guardTable, guardsTable}
-use Rattle.concrete.specs.Sizes.{loop-exact, way-exact}
-use Rattle.weights.specs.Records.{row}
+use Rattle.concrete.specs.Sizes.{loop-exact, way-exact, loop-tested, guard-tested, way-tested}
+use Rattle.weight_matrix.specs.Records.{row}
 use Rattle.walk.specs.Coded.{table, coded, tighter-of, sum-of, cond-of, row-at, in-row, entry-at, table-not-void, row-of}
 use Rattle.walk.specs.Coded.{table-of, row-same}
 
 -- ---- a wait
-module _ (w : ℕ) (m : Matrix (Limit ℤ)) where
+module _ (w : ℕ) (m : Matrix (Upper ℤ)) where
   delayed-line : (k : ℕ) (b : Bool) → ltb w (suc k) ≡ b → delayedRow b (row m (suc k)) ≡ row (delayed w none m) (suc k)
   unfolding delayedRow
   delayed-line k true h = row-same m (delayed w none m) (suc k) (λ j. sym (delayed-outside w none m (suc k) j (inl (ltb-true w (suc k) h))))
@@ -57,7 +58,7 @@ unfolding delayedTable
 delayed-void w = refl
 
 -- ---- a guard
-module _ {w i j : ℕ} {m : Matrix (Limit ℤ)} {e : Limit ℤ} (four : w ≤ 4) (hi : i ≤ w) (hj : j ≤ w)
+module _ {w i j : ℕ} {m : Matrix (Upper ℤ)} {e : Upper ℤ} (four : w ≤ 4) (hi : i ≤ w) (hj : j ≤ w)
     (small : Small w (2 ^ 57) m) (few : AtMost 3001000 e) where
   -- the code's sums are exact here
   way-coded : (k l : ℕ) → k ≤ w → l ≤ w → sumC (sumC (weightOf (m k i)) (weightOf e)) (weightOf (m j l)) ≡ weightOf (way i j e m k l)
@@ -72,7 +73,8 @@ module _ {w i j : ℕ} {m : Matrix (Limit ℤ)} {e : Limit ℤ} (four : w ≤ 4)
   limited-entry k l hk h4 true h = in-row m k l h4 ∙ ap weightOf (sym (limited-outside w i j e m k l (inr (ltb-true w l h))))
   limited-entry k l hk h4 false h =
       let hl = ltb-false w l h in
-      rw (in-row m k l h4, in-row m j l h4) (rw (way-coded k l hk hl) (rw (tighter-of (way i j e m k l) (m k l))
+      rw (in-row m k l h4, in-row m j l h4) (rw (way-coded k l hk hl)
+      (rw (tighter-of (way i j e m k l) (m k l), way-tested small few i j k l hi hj hk hl)
       (cond-of (tighterW (way i j e m k l) (m k l)) (way i j e m k l) (m k l) ∙ ap weightOf (sym (limited-inside w i j e m k l hk hl)))))
 
   limited-row : (k : ℕ) → k ≤ 4 → (b : Bool) → ltb w k ≡ b
@@ -99,7 +101,7 @@ module _ {w i j : ℕ} {m : Matrix (Limit ℤ)} {e : Limit ℤ} (four : w ≤ 4)
 
   loop-coded : tighterC (sumC (weightOf e) (entryOf (table m) j i)) zeroWeight ≡ tighterW (sumW e (m j i)) zeroW
   loop-coded = rw (entry-at m j i (omega arith) (omega arith))
-      (rw (sum-of e (m j i)) (rw (loop-exact small few i j hi hj) (tighter-of (sumW e (m j i)) zeroW)))
+      (rw (sum-of e (m j i)) (rw (loop-exact small few i j hi hj) (tighter-of (sumW e (m j i)) zeroW ∙ loop-tested small few i j hi hj)))
 
   by-tests : (t u : Bool) → cond t voidTable (cond u (limitedTable (table m) w i j (weightOf e)) (table m))
       ≡ coded (cond t void (kept (cond u (limitedM w i j e m) m)))
@@ -112,7 +114,7 @@ module _ {w i j : ℕ} {m : Matrix (Limit ℤ)} {e : Limit ℤ} (four : w ≤ 4)
   unfolding guardedTable guarded
   guarded-coded z = rw (le-ltb 4 i (omega arith), le-ltb 4 j (omega arith)) (rw (table-not-void m z) (rw loop-coded
       (rw (entry-at m i j (omega arith) (omega arith))
-      (rw (tighter-of e (m i j)) (by-tests (tighterW (sumW e (m j i)) zeroW) (tighterW e (m i j)))))))
+      (rw (tighter-of e (m i j), guard-tested small few i j hi hj) (by-tests (tighterW (sumW e (m j i)) zeroW) (tighterW e (m i j)))))))
 
 pub guarded-void : (w i j : ℕ) (e : Weight) → guardedTable voidTable w i j e ≡ voidTable
 unfolding guardedTable
@@ -121,7 +123,7 @@ guarded-void w i j e = rw (cond-same (ltb 4 j) voidTable) (cond-same (ltb 4 i) v
 pub guards-void : (w : ℕ) (v : List ℤ) (gs : List Guard) → guardsTable voidTable w v gs ≡ voidTable
 unfolding guardsTable guardTable
 guards-void w v [] = refl
-guards-void w v (g ∷ gs) = rw (guarded-void w (g .left) (g .right) (weightOf (atV v (limitOf (g .bound))))) (guards-void w v gs)
+guards-void w v (g ∷ gs) = rw (guarded-void w (g .left) (g .right) (weightOf (atV v (boundAs (g .bound))))) (guards-void w v gs)
 
 -- ---- a reset
 eqb-swap : (a b : ℕ) → eqb a b ≡ eqb b a
@@ -131,7 +133,7 @@ eqb-swap a b = by (eqb b a) refl
     by true h = eq-eqb a b (sym (eqb-true b a h))
     by false h = ne-eqb a b (λ e. eqb-false b a h (sym e))
 
-module _ {w r : ℕ} (m : Matrix (Limit ℤ)) (four : w ≤ 4) (hr : r ≤ w) where
+module _ {w r : ℕ} (m : Matrix (Upper ℤ)) (four : w ≤ 4) (hr : r ≤ w) where
   reset-inside : (k l : ℕ) → k ≤ w → l ≤ w → resetM w r m k l ≡ resetAt m (eqb k r) (eqb l r) k l
   unfolding resetM
   reset-inside k l hk hl = rw (inside-yes w k l hk hl) refl
@@ -198,7 +200,7 @@ module _ {w r : ℕ} (m : Matrix (Limit ℤ)) (four : w ≤ 4) (hr : r ≤ w) wh
   reset-coded = table-of (resetM w r m) (reset-line 0 (omega arith)) (reset-line 1 (omega arith)) (reset-line 2 (omega arith))
       (reset-line 3 (omega arith)) (reset-line 4 (omega arith))
 
-reset-if : (w r bit : ℕ) (m : Matrix (Limit ℤ)) → w ≤ 4 → resetIf (table m) w r bit ≡ table (resetBit w r bit m)
+reset-if : (w r bit : ℕ) (m : Matrix (Upper ℤ)) → w ≤ 4 → resetIf (table m) w r bit ≡ table (resetBit w r bit m)
 unfolding resetIf
 reset-if w r bit m four = by (eqb bit 1) (leb r w) refl
   where
@@ -208,7 +210,7 @@ reset-if w r bit m four = by (eqb bit 1) (leb r w) refl
     by true false h = refl
     by false c h = refl
 
-pub resets-coded : (w bits : ℕ) (m : Matrix (Limit ℤ)) → w ≤ 4 → m 0 0 ≡ zeroW → resetsTable (table m) w bits ≡ table (resetsM w bits w m)
+pub resets-coded : (w bits : ℕ) (m : Matrix (Upper ℤ)) → w ≤ 4 → m 0 0 ≡ zeroW → resetsTable (table m) w bits ≡ table (resetsM w bits w m)
 unfolding resetsTable
 resets-coded w bits m four e = rw (table-not-void m e) (rw (← bits-resets bits m w four) (rw (reset-if w 1 (bits % 2) m four)
     (rw (reset-if w 2 (bits / 2 % 2) (resetBit w 1 (bits % 2) m) four)

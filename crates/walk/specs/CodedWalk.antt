@@ -2,12 +2,14 @@
 -- `sweep-coded`.
 use mathlib.Core.Path.{_≡_, refl, sym, ap, _∙_}
 use mathlib.Core.List.{List, [], _∷_, _++_, map}
-use Prim.Native.Nat.{ℕ, suc, _+_, _^_, _≤_, _<_}
+use Prim.Native.Nat.{ℕ, suc, _+_, _≤_, _<_}
 use native.Mathlib.Omega.{arith}
 use lib.IntN.{ℤ}
 use Rattle.dbm.specs.Matrix.{Matrix, start, Outcome, void, kept}
-use Rattle.expr.specs.Limit.{Limit, atV, zeroW}
-use Rattle.expr.specs.Three.{weightOf, limitOf}
+use Rattle.weight.specs.Upper.{Upper}
+use Rattle.expr.specs.Bounds.{atV}
+use Rattle.weight.specs.Records.{weightOf}
+use Rattle.expr.specs.Three.{boundAs}
 use Rattle.guards.specs.declared.Guard.{Guard}
 use Rattle.sheet.specs.declared.Sheet.{Sheet}
 use Rattle.automaton.specs.declared.Transition.{Transition}
@@ -15,14 +17,14 @@ use Rattle.sheet.specs.WellFormed.{WellFormed}
 use Rattle.timed.specs.Automaton.{invariants, guardsOf, transitionAt, routeOf}
 use Rattle.sheet.specs.Lookup.{locationC, transitionC}
 use Rattle.timed.specs.Indexed.{location-in, transition-in}
-use Rattle.timed.specs.Right.{AllOf, StepRight, filled-all, steps-right, route-delays}
+use Rattle.timed.specs.Lists.{AllOf}
+use Rattle.timed.specs.Right.{StepRight, filled-all, steps-right, route-delays}
 use Rattle.timed.specs.Steps.{Step, delay, guard, resets, staySteps, moveSteps, stepsFrom, stepsOf, delays}
-use Rattle.weights.specs.Tables.{Table, startTable, voidTable, guardedTable, delayedTable, resetsTable}
-use Rattle.walk.specs.Walked.{guardTable, guardsTable}
-use Rattle.walk.specs.Walked.{stayTable, moveTable, walkTable, sweepTable}
+use Rattle.weight_matrix.specs.Tables.{Table, startTable, voidTable, delayedTable, resetsTable}
+use Rattle.walk.specs.Walked.{guardTable, guardsTable, stayTable, moveTable, walkTable, sweepTable}
 use Rattle.concrete.specs.Walk.{andThen, step, walk, sweepAlong, sweepAt}
 use Rattle.concrete.specs.Sizes.{Thousands, Visited, guard-size, start-visited, after, after-delays, step-visited, visited-within}
-use Rattle.weights.specs.Records.{row}
+use Rattle.weight_matrix.specs.Records.{row}
 use Rattle.walk.specs.Coded.{table, coded}
 use Rattle.walk.specs.CodedSteps.{delayed-coded, delayed-void, guarded-coded, guarded-void, resets-coded, resets-void}
 
@@ -40,7 +42,7 @@ stepsTable w v (s ∷ steps) m = stepsTable w v steps (stepTable w v s m)
 step-void : (w : ℕ) (v : List ℤ) (s : Step) → stepTable w v s voidTable ≡ voidTable
 unfolding stepTable guardTable
 step-void w v delay = delayed-void w
-step-void w v (guard visit g) = guarded-void w (g .left) (g .right) (weightOf (atV v (limitOf (g .bound))))
+step-void w v (guard visit g) = guarded-void w (g .left) (g .right) (weightOf (atV v (boundAs (g .bound))))
 step-void w v (resets bits) = resets-void w bits
 
 steps-void : (w : ℕ) (v : List ℤ) (steps : List Step) → stepsTable w v steps voidTable ≡ voidTable
@@ -48,14 +50,14 @@ unfolding stepsTable
 steps-void w v [] = refl
 steps-void w v (s ∷ steps) = ap (stepsTable w v steps) (step-void w v s) ∙ steps-void w v steps
 
-then-coded : (f : Table → Table) (g : Matrix (Limit ℤ) → Outcome) → f voidTable ≡ voidTable → (o : Outcome)
-    → ((m : Matrix (Limit ℤ)) → o ≡ kept m → f (table m) ≡ coded (g m)) → f (coded o) ≡ coded (andThen o g)
+then-coded : (f : Table → Table) (g : Matrix (Upper ℤ) → Outcome) → f voidTable ≡ voidTable → (o : Outcome)
+    → ((m : Matrix (Upper ℤ)) → o ≡ kept m → f (table m) ≡ coded (g m)) → f (coded o) ≡ coded (andThen o g)
 unfolding coded
 then-coded f g z void h = z
 then-coded f g z (kept m) h = h m refl
 
 module _ (parameters : ℕ) {w : ℕ} (four : w ≤ 4) (v : List ℤ) (h : Thousands v) where
-  step-coded : (s : Step) → StepRight parameters w s → (k : ℕ) → k ≤ 33 → (m : Matrix (Limit ℤ)) → Visited w k m
+  step-coded : (s : Step) → StepRight parameters w s → (k : ℕ) → k ≤ 33 → (m : Matrix (Upper ℤ)) → Visited w k m
       → stepTable w v s (table m) ≡ coded (step w v s m)
   unfolding stepTable guardTable step coded
   step-coded delay r k few m a = delayed-coded w m (a .closed .diagonal 0 (omega arith))
@@ -65,7 +67,7 @@ module _ (parameters : ℕ) {w : ℕ} (four : w ≤ 4) (v : List ℤ) (h : Thous
 
   -- any right steps, with at most 33 delays
   pub steps-coded : (steps : List Step) → AllOf (StepRight parameters w) steps → (k : ℕ) → k + delays steps ≤ 33
-      → (m : Matrix (Limit ℤ)) → Visited w k m → stepsTable w v steps (table m) ≡ coded (walk w v steps m)
+      → (m : Matrix (Upper ℤ)) → Visited w k m → stepsTable w v steps (table m) ≡ coded (walk w v steps m)
   unfolding stepsTable walk coded
   steps-coded [] r k few m a = refl
   steps-coded (s ∷ steps) r k few m a =

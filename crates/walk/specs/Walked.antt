@@ -5,16 +5,17 @@ use lib.IntN.{ℤ}
 use lib.ListN.{take}
 use Rattle.automaton.specs.declared.Location.{Location}
 use Rattle.automaton.specs.declared.Transition.{Transition}
-use Rattle.expr.specs.Limit.{atV}
-use Rattle.expr.specs.Three.{weightOf, limitOf}
+use Rattle.expr.specs.Bounds.{atV}
+use Rattle.weight.specs.Records.{weightOf}
+use Rattle.expr.specs.Three.{boundAs}
 use Rattle.guards.specs.declared.Guard.{Guard}
 use Rattle.sheet.specs.Lookup.{locationC, transitionC}
 use Rattle.sheet.specs.declared.Sheet.{Sheet}
-use Rattle.weights.specs.Tables.{Table, startTable, guardedTable, delayedTable, resetsTable}
+use Rattle.weight_matrix.specs.Tables.{Table, startTable, guardedTable, delayedTable, resetsTable}
 
 -- a guard with v put in
 unfoldable pub guardTable : Table → ℕ → List ℤ → Guard → Table
-guardTable m clocks v g = guardedTable m clocks (g .left) (g .right) (weightOf (atV v (limitOf (g .bound))))
+guardTable m clocks v g = guardedTable m clocks (g .left) (g .right) (weightOf (atV v (boundAs (g .bound))))
 
 -- guards in file order
 unfoldable pub guardsTable : Table → ℕ → List ℤ → List Guard → Table

@@ -2,14 +2,14 @@
 use automaton::Location;
 use automaton::Transition;
 use expr::Valuation;
-use expr::Weight;
 use guards::Guard;
 use sheet::Sheet;
+use weight::Weight;
 ghost use mathlib.Core.Path.{_≡_};
 ghost use Prim.Native.Nat.{min};
 ghost use lib.ListN.{take};
 ghost use Rattle.expr.specs.Three.{point};
-ghost use Rattle.weights.specs.Tables.{startTable};
+ghost use Rattle.weight_matrix.specs.Tables.{startTable};
 ghost use Rattle.walk.specs.Walked.{guardTable, guardsTable, stayTable, moveTable, sweepTable};
 
 // The matrix after a guard (paper: limit) with v put in.
@@ -19,7 +19,7 @@ fn guard(m: [[Weight; 5]; 5], clocks: usize, v: Valuation, g: Guard) -> [[Weight
     let i = g.left as usize;
     let j = g.right as usize;
     let bound = g.bound;
-    weights::guarded(m, clocks, i, j, bound.at(v))
+    weight_matrix::guarded(m, clocks, i, j, bound.at(v))
 }
 
 // The matrix after the first count guards, in order.
@@ -49,7 +49,13 @@ fn stay(m: [[Weight; 5]; 5], clocks: usize, v: Valuation, here: Location) -> [[W
     ensures { λ r. ⌜ r ≡ stayTable m clocks (point v) here ⌝ }
 {
     let guards = here.guards;
-    guards_of(weights::delayed(m, clocks), clocks, v, here.count, guards)
+    guards_of(
+        weight_delay::delayed(m, clocks),
+        clocks,
+        v,
+        here.count,
+        guards,
+    )
 }
 
 // The matrix after a transition (paper: move): its guards, then its resets.
@@ -58,7 +64,7 @@ fn moved(m: [[Weight; 5]; 5], clocks: usize, v: Valuation, t: Transition) -> [[W
 {
     let guards = t.guards;
     let limited = guards_of(m, clocks, v, t.count, guards);
-    weights::resets(limited, clocks, t.resets)
+    weight_delay::resets(limited, clocks, t.resets)
 }
 
 // All entries zero, not strict.

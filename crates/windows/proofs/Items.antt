@@ -5,12 +5,12 @@ use Prim.Native.Nat.{ℕ, zero, suc, _+_, _≤_, _<_, min}
 use native.Mathlib.Nat.{not-suc-le-zero, le-of-suc-le-suc, le-refl, add-zero, add-suc, le-of-lt}
 use native.Mathlib.Omega.{arith}
 use borrow.Author.Tests.{lt-ltb, le-ltb}
-use lib.ListN.{length, getD, set, drop, length-append, length-set, drop-of-length-le}
-use Rattle.windows.specs.declared.reply.Worked.{Worked}
+use lib.ListN.{length, getD, set, drop, length-set, drop-of-length-le}
+use Rattle.windows_reply.specs.declared.Worked.{Worked}
 use Rattle.zones.specs.Zone.{blankZone}
 use Rattle.zones.specs.declared.zone.Zone.{Zone}
 use Rattle.windows.specs.declared.table.Piece.{Piece}
-use Rattle.windows.specs.Reply.{pieceIn, blankPiece}
+use Rattle.windows.specs.Pieces.{pieceIn, blankPiece}
 use Rattle.windows.specs.Table.{itemOf, itemsOf, items-length}
 
 -- an element that the list has does not depend on the default
@@ -21,10 +21,12 @@ any-default (x ∷ l) (suc i) d e h = any-default l i d e (le-of-suc-le-suc h)
 
 -- the two cases of an item
 module _ (work : Worked) (n i : ℕ) where
-  pub item-in : (d : Zone) (p : Piece) → n ≡ min (work .pieces) 32 → length (work .zones) ≡ 32 → i < n → p ≡ pieceIn (getD (work .zones) i d) → p ≡ itemOf work i
+  pub item-in : (d : Zone) (p : Piece) → n ≡ min (work .pieces) 32 → length (work .zones) ≡ 32 → i < n → p
+      ≡ pieceIn (getD (work .zones) i d) → p ≡ itemOf work i
   unfolding itemOf
   item-in d p e l h k =
-      rw (lt-ltb i (min (work .pieces) 32) (omega arith)) (k ∙ ap (λ (z : Zone). pieceIn z) (any-default (work .zones) i d blankZone (omega arith)))
+      rw (lt-ltb i (min (work .pieces) 32) (omega arith)) (k ∙ ap (λ (z : Zone). pieceIn z)
+      (any-default (work .zones) i d blankZone (omega arith)))
 
   pub item-past : n ≡ min (work .pieces) 32 → n ≤ i → blankPiece ≡ itemOf work i
   unfolding itemOf
@@ -61,7 +63,8 @@ filled-all work ys i e =
     ap (λ (k : List Piece). itemsOf work i ++ k) (drop-of-length-le ys (subst (λ (k : ℕ). length ys ≤ k) (sym e) (le-refl (length ys))))
     ∙ ++-nil (itemsOf work i) ∙ ap (itemsOf work) e
 
-pub filled-next : (work : Worked) (ys : List Piece) (i : ℕ) → i < length ys → set (filled work ys i) i (itemOf work i) ≡ filled work ys (i + 1)
+pub filled-next : (work : Worked) (ys : List Piece) (i : ℕ) → i < length ys → set (filled work ys i) i (itemOf work i)
+    ≡ filled work ys (i + 1)
 unfolding filled itemsOf
 filled-next work ys i h =
     ap (λ (k : List Piece). set (itemsOf work i ++ k) i (itemOf work i)) (drop-next ys i blankPiece h)

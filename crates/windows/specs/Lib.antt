@@ -1,6 +1,3 @@
--- What is read first: Reply, which is what Windows answers and leaves in the table. Work and Table are what the code does; Coded says that
--- it is the cutting.
-pub mod Coded
-pub mod Reply
+-- What is read first: Pieces, which is what Windows leaves in the table. Table is what the code stores, and says that it is that.
+pub mod Pieces
 pub mod Table
-pub mod Work

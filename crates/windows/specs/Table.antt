@@ -16,10 +16,10 @@ use Rattle.answers.specs.Numbers.{numbered}
 use Rattle.cutting.specs.Shape.{zones-shaped}
 use Rattle.sheet.specs.declared.Sheet.{Sheet}
 use Rattle.reading.specs.File.{readOf}
-use Rattle.windows.specs.Reply.{WindowsReply, answeredOf, answeredAs, refusedReply, listingReply, sheetReply, readReply, replyOf}
-use Rattle.windows.specs.Reply.{pieceIn, pieceOf, blankPiece, tableOf}
-use Rattle.windows.specs.Work.{Shown, shown, shownOf}
-use Rattle.windows.specs.declared.reply.Worked.{Worked}
+use Rattle.windows_reply.specs.Reply.{WindowsReply, answeredOf, answeredAs, refusedReply, listingReply, sheetReply, readReply, replyOf}
+use Rattle.windows.specs.Pieces.{pieceIn, pieceOf, blankPiece, tableOf}
+use Rattle.windows_reply.specs.Work.{Shown, shown, shownOf}
+use Rattle.windows_reply.specs.declared.Worked.{Worked}
 use Rattle.windows.specs.declared.table.Piece.{Piece}
 use Rattle.zones.specs.Zone.{blankZone}
 use Rattle.zones.specs.declared.zone.Zone.{Zone}
@@ -47,7 +47,8 @@ items-at work (suc n) i h = by (ltb i n) refl (items-at work n i)
     items : List Piece
     items = itemsOf work n
 
-    by : (b : Bool) → ltb i n ≡ b → (i < n → getD items i blankPiece ≡ itemOf work i) → getD (items ++ (itemOf work n ∷ [])) i blankPiece ≡ itemOf work i
+    by : (b : Bool) → ltb i n ≡ b → (i < n → getD items i blankPiece ≡ itemOf work i)
+        → getD (items ++ (itemOf work n ∷ [])) i blankPiece ≡ itemOf work i
     by true e ih =
         let k = ltb-true i n e in
         let l : i < length items = rw (items-length work n) k in
@@ -57,7 +58,8 @@ items-at work (suc n) i h = by (ltb i n) refl (items-at work n i)
         let l : length items ≡ n = items-length work n in
         let j : i ≡ length items = omega arith in
         let j′ : n ≡ i = omega arith in
-        ap (λ (x : ℕ). getD (items ++ (itemOf work n ∷ [])) x blankPiece) j ∙ getD-append-seam items (itemOf work n) [] blankPiece ∙ ap (itemOf work) j′
+        ap (λ (x : ℕ). getD (items ++ (itemOf work n ∷ [])) x blankPiece) j ∙ getD-append-seam items (itemOf work n) [] blankPiece
+        ∙ ap (itemOf work) j′
 
 -- an element of a list, or a blank past it
 module _ {A B : Type 0} (f : A → B) (blank : B) where
@@ -108,7 +110,8 @@ module _ (work : Worked) (n : ℕ) (f : Fits work n) where
       let h = ltb-true i (work .pieces) e in
       let l : i < length zones = rw zones-long h in
       rw (lt-ltb i (min (work .pieces) 32) (omega (arith, f .few)))
-      (sym (in-list pieceIn blankPiece zones (replicate (n - work .pieces) blankPiece) blankZone i l ∙ ap (λ (z : Zone). pieceIn z) (getD-take (work .pieces) (work .zones) i blankZone h)))
+      (sym (in-list pieceIn blankPiece zones (replicate (n - work .pieces) blankPiece) blankZone i l
+      ∙ ap (λ (z : Zone). pieceIn z) (getD-take (work .pieces) (work .zones) i blankZone h)))
   at-place i false e =
       let h = ltb-false i (work .pieces) e in
       let l : length zones ≤ i = rw zones-long h in

@@ -1,21 +1,22 @@
 // Windows: the ranges of a sheet's parameters (paper: allowances) cut into zones (paper: pieces), listed in a table that the caller lends.
 //
 // The contract of `windows` is an equation with `replyOf` and `tableOf` of specs/Reply, for every file and every table.
-mod reply;
 mod table;
 
 use answers::windows::Answer;
 pub use table::Piece;
 ghost use mathlib.Core.Path.{_≡_};
 ghost use lib.ListN.{length};
-ghost use Rattle.windows.specs.Reply.{answeredAs, answeredOf, replyOf, tableOf};
+ghost use Rattle.windows_reply.specs.Reply.{answeredAs, answeredOf, replyOf};
+ghost use Rattle.windows.specs.Pieces.{tableOf};
 
 // What Windows answers to a sheet file; the table has the pieces in order, the rest of it blank, and with a refusal it is all blank.
 pub fn windows(file: &[u8], table: &mut [Piece]) -> Answer
     ensures { λ r. ⌜ answeredAs r ≡ answeredOf (replyOf (now (file .entry)) (length (now (table .entry)))) ⌝ }
-    ensures { λ _. ⌜ now (table .exit) ≡ tableOf (replyOf (now (file .entry)) (length (now (table .entry)))) (length (now (table .entry))) ⌝ }
+    ensures { λ _. ⌜ now (table .exit)
+        ≡ tableOf (replyOf (now (file .entry)) (length (now (table .entry)))) (length (now (table .entry))) ⌝ }
 {
-    let work = reply::work_for(file, table.len());
+    let work = windows_reply::work_for(file, table.len());
     table::store(table, work);
     work.answer
 }

@@ -1,11 +1,11 @@
 // The table that the caller lends.
-use crate::reply::Worked;
 use expr::Bound;
 use expr::Expr;
+use windows_reply::Worked;
 use zones::Zone;
 ghost use mathlib.Core.Path.{_≡_};
 ghost use lib.ListN.{length};
-ghost use Rattle.windows.specs.Reply.{pieceIn};
+ghost use Rattle.windows.specs.Pieces.{pieceIn};
 ghost use Rattle.windows.specs.Table.{itemOf, itemsOf};
 
 // A place of the table (paper: piece): whether it is used; its inequalities, the first `count` of the list, each an expression that is at

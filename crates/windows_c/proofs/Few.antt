@@ -17,7 +17,7 @@ use Rattle.cutting.specs.Cutting.{Listing, listed, refused, zonesOf}
 use Rattle.cutting.specs.Shape.{zones-shaped}
 use Rattle.reading.specs.File.{readOf}
 use Rattle.sheet.specs.declared.Sheet.{Sheet}
-use Rattle.windows.specs.Reply.{WindowsReply, answeredAs, refusedReply, listingReply, sheetReply, readReply, replyOf}
+use Rattle.windows_reply.specs.Reply.{WindowsReply, answeredAs, refusedReply, listingReply, sheetReply, readReply, replyOf}
 use Rattle.windows_c.specs.Count.{countOf}
 
 listing-few : (s : Sheet) (l : Listing) → zonesOf s ≡ l → listingReply s l .counts .pieces ≤ 32
@@ -32,7 +32,8 @@ reply-few file n = by (ltb n 32) (eqb (readOf file .answer .number) 0)
     s : Sheet
     s = readOf file .sheet
 
-    by : (b c : Bool) → cond b (refusedReply (numbered 1 0)) (cond c (listingReply s (zonesOf s)) (refusedReply (readOf file .answer))) .counts .pieces ≤ 32
+    by : (b c : Bool) → cond b (refusedReply (numbered 1 0))
+        (cond c (listingReply s (zonesOf s)) (refusedReply (readOf file .answer))) .counts .pieces ≤ 32
     by true c = omega arith
     by false true = listing-few s (zonesOf s) refl
     by false false = omega arith

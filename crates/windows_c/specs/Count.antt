@@ -2,7 +2,7 @@
 use mathlib.Core.Bool.{cond}
 use lib.Dec.{eqb}
 use lib.IntN.{ℤ, pos, negℤ}
-use Rattle.windows.specs.Reply.{Answered}
+use Rattle.windows_reply.specs.Reply.{Answered}
 
 abbrev pub countOf : Answered → ℤ
 countOf a = cond (eqb (a .answer .number) 0) (pos (a .counts .pieces)) (negℤ (pos (a .answer .number)))

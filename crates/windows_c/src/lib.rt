@@ -5,7 +5,7 @@ ghost use mathlib.Core.Path.{_≡_};
 ghost use lib.IntN.{pos, negℤ};
 ghost use Prim.Native.Nat.{_≤_};
 ghost use Rattle.answers.specs.Numbers.{countsOf};
-ghost use Rattle.windows.specs.Reply.{answeredAs, answeredOf, replyOf};
+ghost use Rattle.windows_reply.specs.Reply.{answeredAs, answeredOf, replyOf};
 ghost use Rattle.windows_c.specs.Count.{countOf};
 
 // x as a signed number.

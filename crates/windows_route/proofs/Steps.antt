@@ -14,11 +14,12 @@ use Rattle.sheet.specs.declared.Sheet.{Sheet}
 use Rattle.automaton.specs.declared.Transition.{Transition}
 use Rattle.sheet.specs.Lookup.{locationC, transitionC}
 use Rattle.split.specs.Guarded.{guardedC}
-use Rattle.coded.specs.Walked.{atVisit, guardsAll, stayAll, moveAll, walkAll}
+use Rattle.windows_route.specs.Walked.{atVisit, guardsAll, stayAll, moveAll, walkAll}
 use Rattle.zones.specs.declared.zone.Zones.{Zones}
 
 -- ---- visits
-pub visit-now : (k : ℕ) (zs : Zones) → zs .refusal ≡ 0 → record { refusal = zs .refusal; visit = k; count = zs .count; list = zs .list } ≡ atVisit k zs
+pub visit-now : (k : ℕ) (zs : Zones) → zs .refusal ≡ 0
+    → record { refusal = zs .refusal; visit = k; count = zs .count; list = zs .list } ≡ atVisit k zs
 unfolding atVisit
 visit-now k zs h = rw (eq-eqb (zs .refusal) 0 h) refl
 
@@ -31,7 +32,8 @@ pub size-is : {A : Type 0} (n k most : ℕ) (xs : List A) → n ≡ min k most �
 size-is n k most xs e l = (omega arith, rw (length-take k xs, l) e)
 
 module _ (b : Ranges) (w : ℕ) (xs : List Guard) (k : ℕ) where
-  guards-cons : (l : List Guard) (g : Guard) (rest : List Guard) (zs : Zones) → l ≡ g ∷ rest → guardsAll b w l zs ≡ guardsAll b w rest (guardedC b w g zs)
+  guards-cons : (l : List Guard) (g : Guard) (rest : List Guard) (zs : Zones) → l ≡ g ∷ rest
+      → guardsAll b w l zs ≡ guardsAll b w rest (guardedC b w g zs)
   unfolding guardsAll
   guards-cons l g rest zs h = rw h refl
 
@@ -49,7 +51,9 @@ module _ (b : Ranges) (w : ℕ) (xs : List Guard) (k : ℕ) where
 -- ---- the route
 module _ (s : Sheet) where
   walk-cons : (ns : List ℕ) (n : ℕ) (rest : List ℕ) (visit l : ℕ) (zs : Zones) → ns ≡ n ∷ rest
-      → walkAll s visit l ns zs ≡ walkAll s (suc visit) (transitionC s n .to) rest (moveAll (s .ranges) (s .clocks) visit (transitionC s n) (stayAll (s .ranges) (s .clocks) (locationC s l) zs))
+      → walkAll s visit l ns zs
+      ≡ walkAll s (suc visit) (transitionC s n .to) rest
+      (moveAll (s .ranges) (s .clocks) visit (transitionC s n) (stayAll (s .ranges) (s .clocks) (locationC s l) zs))
   unfolding walkAll
   walk-cons ns n rest visit l zs h = rw h refl
 
@@ -60,11 +64,14 @@ module _ (s : Sheet) where
   walk-turn k l zs stayed next whole here t h e et eh es en =
       let few : k < s .moves = omega (arith, length-take (s .moves) (s .route)) in
       rw (add-one k, en, es, eh, et, ← getD-take (s .moves) (s .route) k 0 few)
-      (sym (walk-cons (drop k (take (s .moves) (s .route))) (getD (take (s .moves) (s .route)) k 0) (drop (suc k) (take (s .moves) (s .route))) k l zs
+      (sym
+      (walk-cons (drop k (take (s .moves) (s .route))) (getD (take (s .moves) (s .route)) k 0)
+      (drop (suc k) (take (s .moves) (s .route))) k l zs
       (drop-cons (take (s .moves) (s .route)) k 0 h)) ∙ e)
 
   pub walk-done : (k l : ℕ) (zs r whole : Zones) (here : Location) → length (take (s .moves) (s .route)) ≤ k
-      → walkAll s k l (drop k (take (s .moves) (s .route))) zs ≡ whole → here ≡ locationC s l → r ≡ stayAll (s .ranges) (s .clocks) here zs → r ≡ whole
+      → walkAll s k l (drop k (take (s .moves) (s .route))) zs ≡ whole → here ≡ locationC s l
+      → r ≡ stayAll (s .ranges) (s .clocks) here zs → r ≡ whole
   unfolding walkAll
   walk-done k l zs r whole here h e eh er =
       let f : stayAll (s .ranges) (s .clocks) (locationC s l) zs ≡ whole = rw (drop-of-length-le (take (s .moves) (s .route)) h) at e in

@@ -9,9 +9,9 @@ use sheet::Sheet;
 use zones::Zone;
 use zones::Zones;
 ghost use mathlib.Core.Path.{_≡_};
-ghost use Prim.Native.Nat.{min, suc, _<_};
+ghost use Prim.Native.Nat.{_<_};
 ghost use lib.ListN.{take};
-ghost use Rattle.coded.specs.Walked.{atVisit, guardsAll, stayAll, moveAll, startAll, zonesAll};
+ghost use Rattle.windows_route.specs.Walked.{atVisit, guardsAll, stayAll, moveAll, startAll, zonesAll};
 
 // The zones at a visit, unless they were refused before.
 fn at_visit(zones: Zones, visit: usize) -> Zones

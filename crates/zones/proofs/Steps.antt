@@ -9,12 +9,13 @@ use native.Mathlib.Numerals.{add-one}
 use native.Mathlib.Omega.{arith}
 use borrow.Author.Tests.{lt-ltb, le-ltb, ltb-true, ltb-false}
 use lib.Dec.{ltb}
-use lib.IntN.{ℤ, pos, _+ℤ_}
+use lib.IntN.{ℤ, pos, _+ℤ_, zero-*ℤ}
 use lib.Signed.{leZ}
 use lib.ListN.{length, getD, set, take, replicate}
 use lib.Seq.{take-all, take-suc, take-suc-set}
-use Rattle.expr.specs.Affine.{Affine, value, dot, opposite, judge}
-use Rattle.expr.specs.Three.{affine, inequality, rangeList, OPPOSITE}
+use Rattle.integer.specs.Apart.{apart}
+use Rattle.expr.specs.Affine.{Affine, value, dot, opposite, judge, OPPOSITE}
+use Rattle.expr.specs.Three.{affine, inequality, rangeList, zeroExpr}
 use Rattle.search.specs.System.{firstOf, exprs}
 use Rattle.search.specs.Valuations.{first, satisfies, countIn, count, valuations}
 use Rattle.expr.specs.declared.number.Expr.{Expr}
@@ -23,8 +24,7 @@ use Rattle.expr.specs.declared.range.Ranges.{Ranges}
 use Rattle.search.specs.declared.search.Solution.{Solution}
 use Rattle.search.specs.declared.search.Solution.the-variants.{Found, Nothing}
 use Rattle.search.specs.declared.search.System.{System}
-use lib.IntN.{zero-*ℤ}
-use Rattle.zones.specs.Zone.{zeroExpr, plusC, moreC}
+use Rattle.zones.specs.Zone.{plusC, moreC}
 use Rattle.zones.specs.Settled.{exprIn, oppositeC, isNone, neverC, onC}
 use Rattle.zones.specs.declared.zone.Zone.{Zone}
 
@@ -43,21 +43,25 @@ unfolding oppositeC
 opposite-of e x j h k = k ∙ ap exprIn h
 
 pub nothing-is : (b : Ranges) (z : Zone) (e : Expr) (s : System) (o : Solution)
-    → exprs s ≡ map affine (take (z .count) (z .ineqs) ++ (e ∷ [])) → o ≡ firstOf (first (rangeList b) (exprs s)) → o ≡ Nothing → true ≡ neverC b z e
+    → exprs s ≡ map affine (take (z .count) (z .ineqs) ++ (e ∷ [])) → o ≡ firstOf (first (rangeList b) (exprs s)) → o ≡ Nothing
+    → true ≡ neverC b z e
 unfolding neverC
-nothing-is b z e s o h k n = subst (λ (l : List _). true ≡ isNone (first (rangeList b) l)) h (by (first (rangeList b) (exprs s)) (sym k ∙ n))
+nothing-is b z e s o h k n =
+    subst (λ (l : List _). true ≡ isNone (first (rangeList b) l)) h (by (first (rangeList b) (exprs s)) (sym k ∙ n))
   where
     by : (v : Option (List ℤ)) → firstOf v ≡ Nothing → true ≡ isNone v
     by option.none q = refl
-    by (option.some v) q = let z : _≡_ {A = ℕ} 0 1 = cc in absurd (omega arith)
+    by (option.some v) q = apart cc
 
 pub something-is : (b : Ranges) (z : Zone) (e : Expr) (s : System) (o : Solution) (x : _)
-    → exprs s ≡ map affine (take (z .count) (z .ineqs) ++ (e ∷ [])) → o ≡ firstOf (first (rangeList b) (exprs s)) → o ≡ Found x → false ≡ neverC b z e
+    → exprs s ≡ map affine (take (z .count) (z .ineqs) ++ (e ∷ [])) → o ≡ firstOf (first (rangeList b) (exprs s)) → o ≡ Found x
+    → false ≡ neverC b z e
 unfolding neverC
-something-is b z e s o x h k n = subst (λ (l : List _). false ≡ isNone (first (rangeList b) l)) h (by (first (rangeList b) (exprs s)) (sym k ∙ n))
+something-is b z e s o x h k n =
+    subst (λ (l : List _). false ≡ isNone (first (rangeList b) l)) h (by (first (rangeList b) (exprs s)) (sym k ∙ n))
   where
     by : (v : Option (List ℤ)) → firstOf v ≡ Found x → false ≡ isNone v
-    by option.none q = let z : _≡_ {A = ℕ} 0 1 = cc in absurd (omega arith)
+    by option.none q = apart cc
     by (option.some v) q = refl
 
 module _ (b : Ranges) (z : Zone) (e : Expr) (n : Bool) (hn : n ≡ neverC b z e) where
@@ -84,9 +88,11 @@ module _ (b : Ranges) (z : Zone) (e : Expr) (n : Bool) (hn : n ≡ neverC b z e)
 -- ---- the zone's inequalities and one more, as a system
 pub system-turn : (list xs : List Expr) (i : ℕ) (d : Expr) → i < length list → i < length xs → take i list ≡ take i xs
     → take (i + 1) (set list i (getD xs i d)) ≡ take (i + 1) xs
-system-turn list xs i d h k e = rw (add-one i) (take-suc-set list i (getD xs i d) h ∙ ap (λ (l : List Expr). l ++ (getD xs i d ∷ [])) e ∙ sym (take-suc xs i d k))
+system-turn list xs i d h k e =
+    rw (add-one i) (take-suc-set list i (getD xs i d) h ∙ ap (λ (l : List Expr). l ++ (getD xs i d ∷ [])) e ∙ sym (take-suc xs i d k))
 
-pub system-done : (list xs : List Expr) (n i k : ℕ) (e : Expr) → n ≡ min k 24 → length xs ≡ 24 → length list ≡ 25 → i ≤ n → n ≤ i → take i list ≡ take i xs
+pub system-done : (list xs : List Expr) (n i k : ℕ) (e : Expr) → n ≡ min k 24 → length xs ≡ 24 → length list ≡ 25 → i ≤ n → n ≤ i
+    → take i list ≡ take i xs
     → map affine (take (n + 1) (set list n e)) ≡ map affine (take k xs ++ (e ∷ []))
 system-done list xs n i k e en lx ll a b h =
     let same : i ≡ n = omega arith in
@@ -119,11 +125,13 @@ unfolding satisfies
 zero-satisfied [] v = rw (zero-value v) refl
 zero-satisfied (x ∷ xs) v = ap (λ (b : Bool). leZ (pos 0) (value (affine x) v) && b) (zero-satisfied xs v)
 
-count-zero : (xs : List Expr) (vs : List (List ℤ)) → countIn (satisfies (map affine (xs ++ (zeroExpr ∷ [])))) vs ≡ countIn (satisfies (map affine xs)) vs
+count-zero : (xs : List Expr) (vs : List (List ℤ))
+    → countIn (satisfies (map affine (xs ++ (zeroExpr ∷ [])))) vs ≡ countIn (satisfies (map affine xs)) vs
 unfolding countIn
 count-zero xs [] = refl
 count-zero xs (v ∷ vs) = rw (zero-satisfied xs v, count-zero xs vs) refl
 
-pub held-is : (b : Ranges) (xs : List Expr) (n : ℕ) (es : List Affine) → es ≡ map affine (xs ++ (zeroExpr ∷ [])) → n ≡ count (rangeList b) es → n ≡ count (rangeList b) (map affine xs)
+pub held-is : (b : Ranges) (xs : List Expr) (n : ℕ) (es : List Affine) → es ≡ map affine (xs ++ (zeroExpr ∷ []))
+    → n ≡ count (rangeList b) es → n ≡ count (rangeList b) (map affine xs)
 unfolding count
 held-is b xs n es e h = h ∙ ap (count (rangeList b)) e ∙ count-zero xs (valuations (rangeList b))

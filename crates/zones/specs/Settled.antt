@@ -1,13 +1,13 @@
 -- A test on a zone: settled if all or none of its valuations satisfy it; otherwise it splits the zone.
 use mathlib.Core.List.{List, [], _∷_, _++_, map}
-use mathlib.Core.Bool.{Bool, true, false}
+use mathlib.Core.Bool.{Bool, true, false, cond}
 use mathlib.Core.Option.{Option}
 use mathlib.Core.Option as option
 use lib.Dec.{ltb}
 use lib.IntN.{ℤ}
 use lib.ListN.{take}
-use Rattle.expr.specs.Affine.{opposite, judge}
-use Rattle.expr.specs.Three.{affine, inequality, rangeList, OPPOSITE}
+use Rattle.expr.specs.Affine.{opposite, judge, OPPOSITE}
+use Rattle.expr.specs.Three.{affine, inequality, rangeList, zeroExpr}
 use Rattle.search.specs.Valuations.{first}
 use Rattle.expr.specs.declared.bound.Test.{Test}
 use Rattle.expr.specs.declared.bound.Test.the-variants.{Yes, No, Ask, Wide as TestWide}
@@ -15,7 +15,6 @@ use Rattle.expr.specs.declared.number.Expr.{Expr}
 use Rattle.expr.specs.declared.number.Inequality.{Inequality}
 use Rattle.expr.specs.declared.number.Inequality.the-variants.{Is, Wide}
 use Rattle.expr.specs.declared.range.Ranges.{Ranges}
-use Rattle.zones.specs.Zone.{pick, zeroExpr}
 use Rattle.zones.specs.declared.settle.Verdict.{Verdict}
 use Rattle.zones.specs.declared.zone.Zone.{Zone}
 
@@ -38,9 +37,9 @@ neverC b z e = isNone (first (rangeList b) (map affine (take (z .count) (z .ineq
 -- the verdict on e ≥ 0
 unfoldable pub onC : Ranges → Zone → Expr → Verdict
 onC b z e =
-    pick (neverC b z e) (record { kind = 0; test = e })
-    (pick (neverC b z (oppositeC e)) (record { kind = 1; test = e })
-    (pick (ltb (z .count) 24) (record { kind = 3; test = e }) (record { kind = 8; test = e })))
+    cond (neverC b z e) (record { kind = 0; test = e })
+    (cond (neverC b z (oppositeC e)) (record { kind = 1; test = e })
+    (cond (ltb (z .count) 24) (record { kind = 3; test = e }) (record { kind = 8; test = e })))
 
 -- the verdict on a test
 abbrev pub settledC : Ranges → Zone → Test → Verdict

@@ -1,23 +1,11 @@
 -- Zones as the code's records: a blank one, and one more inequality.
-use mathlib.Core.Bool.{Bool, true, false}
+use mathlib.Core.Bool.{cond}
 use Prim.Native.Nat.{suc}
 use lib.Dec.{ltb}
-use lib.IntN.{pos}
 use lib.ListN.{set, replicate}
-use Rattle.expr.specs.declared.bound.Bound.{Bound}
+use Rattle.expr.specs.Three.{zeroExpr, zeroBound}
 use Rattle.expr.specs.declared.number.Expr.{Expr}
 use Rattle.zones.specs.declared.zone.Zone.{Zone}
-
-abbrev pub pick : {A : Type 0} → Bool → A → A → A
-pick true a b = a
-pick false a b = b
-
-abbrev pub zeroExpr : Expr
-zeroExpr = record { constant = pos 0; p = pos 0; q = pos 0; r = pos 0 }
-
--- zero, not strict
-abbrev pub zeroBound : Bound
-zeroBound = record { none = false; strict = false; expr = zeroExpr }
 
 -- no inequalities, all entries zero, not strict
 abbrev pub blankZone : Zone
@@ -29,4 +17,4 @@ plusC z e = record { count = suc (z .count); ineqs = set (z .ineqs) (z .count) e
 
 -- one with 24 stays as it is
 unfoldable pub moreC : Zone → Expr → Zone
-moreC z e = pick (ltb (z .count) 24) (plusC z e) z
+moreC z e = cond (ltb (z .count) 24) (plusC z e) z

@@ -10,7 +10,6 @@ use search::System;
 ghost use mathlib.Core.Path.{_≡_};
 ghost use mathlib.Core.List.{[], _∷_, _++_, map};
 ghost use lib.ListN.{take};
-ghost use Prim.Native.Nat.{min};
 ghost use Rattle.search.specs.System.{exprs};
 ghost use Rattle.expr.specs.Three.{affine, rangeList};
 ghost use Rattle.search.specs.Valuations.{count};

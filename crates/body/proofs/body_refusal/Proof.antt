@@ -16,17 +16,23 @@ is-kind-requires c κs = search needs
 returns : tie.Need-returns
 unfolding bodyRefusal
 returns c =
+    let tested-2 = c .before .before in
+    let after-sized = tested-2 .before .before in
+    let after-contents-of = after-sized .before .before in
     let k = rw (c .before .is-kind .ensures) at (c .if3 .taken) in
-    let o = rw (c .before .before .before .before .before .before .contents-of .ensures) at (c .before .before .if2 .taken) in
-    let z = rw (c .before .before .before .before .sized .ensures) at (c .before .before .before .if1 .taken) in
+    let o = rw (after-contents-of .contents-of .ensures) at (tested-2 .if2 .taken) in
+    let z = rw (after-sized .sized .ensures) at (tested-2 .before .if1 .taken) in
     simp (z, o, k)
 
 returns-2 : tie.Need-returns-2
 unfolding bodyRefusal
 returns-2 c =
+    let tested-2 = c .before .before in
+    let after-sized = tested-2 .before .before in
+    let after-contents-of = after-sized .before .before in
     let k = rw (c .before .is-kind .ensures) at (c .if3 .left) in
-    let o = rw (c .before .before .before .before .before .before .contents-of .ensures) at (c .before .before .if2 .taken) in
-    let z = rw (c .before .before .before .before .sized .ensures) at (c .before .before .before .if1 .taken) in
+    let o = rw (after-contents-of .contents-of .ensures) at (tested-2 .if2 .taken) in
+    let z = rw (after-sized .sized .ensures) at (tested-2 .before .if1 .taken) in
     simp (z, o, k)
 
 returns-3 : tie.Need-returns-3

@@ -1,5 +1,5 @@
 -- `guards::expr_of` meets its contract: each field is a call's result, and its bits stand for it. Assumes nothing.
-use Rattle.guards.specs.Guards.{exprOf}
+use Rattle.guards.specs.Guards.{guardExpr}
 use Rattle.cursor_laws.specs.Signed.{kept-wide}
 use borrow.Author.Needs.{needs}
 use Rattle.guards.proofs.expr_of.Statement.{statement}
@@ -18,7 +18,7 @@ signed-of-requires-4 : tie.Need-signed-of-requires-4
 signed-of-requires-4 c κs = search needs
 
 returns : tie.Need-returns
-unfolding exprOf
+unfolding guardExpr
 returns c =
     let fits = c .before .before .before .before .fits in
     simp (

@@ -43,7 +43,8 @@ cast-t17 c = search needs
 returns : tie.Need-returns
 unfolding bodiesOf
 returns c =
-    let four = c .before .before .before .before .before .before .before .before .before .before in
+    let copied = c .before .before .before .before .before in
+    let four = copied .before .before .before .before .before in
     let three = four .before in
     let two = three .before .before in
     let one = two .before .before in

@@ -25,9 +25,12 @@ refused-requires-2 c κs = search needs
 returns : tie.Need-returns
 unfolding readOf refusedBy
 returns c =
-    let contents = c .before .before .before .before .before .before .contents-of .ensures in
-    let o = rw contents at (c .before .before .if2 .taken) in
-    let z = rw (c .before .before .before .before .sized .ensures) at (c .before .before .before .if1 .taken) in
+    let tested-2 = c .before .before in
+    let after-sized = tested-2 .before .before in
+    let after-contents-of = after-sized .before .before in
+    let contents = after-contents-of .contents-of .ensures in
+    let o = rw contents at (tested-2 .if2 .taken) in
+    let z = rw (after-sized .sized .ensures) at (tested-2 .before .if1 .taken) in
     simp (z, o, c .judged-bodies .ensures, c .before .bodies-of .ensures, contents)
 
 returns-2 : tie.Need-returns-2

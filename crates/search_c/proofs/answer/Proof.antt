@@ -22,7 +22,8 @@ enum-told c = search needs
 
 returns : tie.Need-returns
 unfolding firstAnswer
-returns c = same (c .packed .result) (omega arith) ∙ ap pos (c .packed .ensures .0) ∙ sym (ap firstAnswer (c .before .before .found .given .1))
+returns c =
+    same (c .packed .result) (omega arith) ∙ ap pos (c .packed .ensures .0) ∙ sym (ap firstAnswer (c .before .before .found .given .1))
 
 returns-2 : tie.Need-returns-2
 unfolding firstAnswer

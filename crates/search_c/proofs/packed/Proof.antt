@@ -32,11 +32,17 @@ add-result-2 c = search needs
 returns : tie.Need-returns
 unfolding packed
 returns c =
-    let v = c .before .before .before .before .before .before .args .v in
+    let after-shifted-2 = c .before .before in
+    let after-shifted = after-shifted-2 .before .before in
+    let start = after-shifted .before .before in
+    let v = start .args .v in
     let t = c .before .struct-told3 .given in
-    let e : c .before .before .before .before .shifted .result ≡ shifted (v .p) = c .before .before .before .before .shifted .ensures .0 ∙ ap shifted (toZ-ofZ w16 (v .p) (record { sfits = t .0 .1 })) in
-    let f : c .before .before .shifted2 .result ≡ shifted (v .q) = c .before .before .shifted2 .ensures .0 ∙ ap shifted (toZ-ofZ w16 (v .q) (record { sfits = t .1 .0 .1 })) in
-    let g : c .shifted3 .result ≡ shifted (v .r) = c .shifted3 .ensures .0 ∙ ap shifted (toZ-ofZ w16 (v .r) (record { sfits = t .1 .1 .0 .1 })) in
+    let e : after-shifted .shifted .result ≡ shifted (v .p) = after-shifted .shifted .ensures .0
+    ∙ ap shifted (toZ-ofZ w16 (v .p) (record { sfits = t .0 .1 })) in
+    let f : after-shifted-2 .shifted2 .result ≡ shifted (v .q) = after-shifted-2 .shifted2 .ensures .0
+    ∙ ap shifted (toZ-ofZ w16 (v .q) (record { sfits = t .1 .0 .1 })) in
+    let g : c .shifted3 .result ≡ shifted (v .r) = c .shifted3 .ensures .0
+    ∙ ap shifted (toZ-ofZ w16 (v .r) (record { sfits = t .1 .1 .0 .1 })) in
     (cc, omega arith)
 
 pub packed-spec : {M : Type 1} → statement M

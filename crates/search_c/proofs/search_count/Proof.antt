@@ -27,7 +27,8 @@ returns : tie.Need-returns
 returns c =
     let w = c .before .before .ranges .ensures .1 in
     let m = count-most _ (exprs (c .before .system .result)) (w .0) (w .1) (w .2) in
-    same (c .count .result) (omega arith) ∙ ap pos (c .count .ensures ∙ counts _ _ _ _ (c .before .before .ranges .ensures .0) (c .before .system .ensures))
+    same (c .count .result) (omega arith)
+    ∙ ap pos (c .count .ensures ∙ counts _ _ _ _ (c .before .before .ranges .ensures .0) (c .before .system .ensures))
 
 pub search-count-spec : {M : Type 1} → statement M
 search-count-spec =

@@ -23,7 +23,8 @@ answer-requires c κs = search needs
 returns : tie.Need-returns
 returns c =
     toZ-ofZ w64 (c .answer .result) (search needs) ∙ c .answer .ensures
-    ∙ ap firstAnswer (c .before .first .ensures ∙ firsts _ _ _ _ (c .before .before .before .ranges .ensures .0) (c .before .before .system .ensures))
+    ∙ ap firstAnswer
+    (c .before .first .ensures ∙ firsts _ _ _ _ (c .before .before .before .ranges .ensures .0) (c .before .before .system .ensures))
 
 pub search-first-spec : {M : Type 1} → statement M
 search-first-spec =

@@ -24,15 +24,18 @@ blank-requires c κs = search needs
 
 returns : tie.Need-returns
 returns c =
-    let s = c .before .before .before .before .before .before in
+    let after-read = c .before .before .before .before in
+    let s = after-read .before .before in
     same-numbers _ (toZ-ofZ w64 _ (s .fits .p)) (toZ-ofZ w64 _ (s .fits .q)) (toZ-ofZ w64 _ (s .fits .r)) (c .reply-for .ensures)
-    ∙ fine-reply (s .args .file .now) _ _ (c .before .before .before .before .read .ensures) (c .before .enum-told .given .1)
+    ∙ fine-reply (s .args .file .now) _ _ (after-read .read .ensures) (c .before .enum-told .given .1)
 
 returns-2 : tie.Need-returns-2
 returns-2 c =
-    let s = c .before .before .before .before .before .before .before in
+    let matched = c .before .before in
+    let after-read = matched .before .before .before in
+    let s = after-read .before .before in
     c .blank .ensures
-    ∙ refused-reply (s .args .file .now) _ _ (c .before .before .before .before .before .read .ensures) _ (c .before .before .checked .given .1)
+    ∙ refused-reply (s .args .file .now) _ _ (after-read .read .ensures) _ (matched .checked .given .1)
 
 pub sweep-spec : {M : Type 1} → statement M
 sweep-spec =

@@ -16,11 +16,13 @@ windows-requires c κs = search needs
 
 count-requires : tie.Need-count-requires
 unfolding windowsOn
-count-requires c κs = subst (λ (r : Tabled). r .answered .counts .pieces ≤ 32) (sym (c .windows .ensures)) (reply-few (c .before .before .args .file .now) 32)
+count-requires c κs = subst (λ (r : Tabled). r .answered .counts .pieces ≤ 32) (sym (c .windows .ensures))
+    (reply-few (c .before .before .args .file .now) 32)
 
 returns : tie.Need-returns
 unfolding windowsOn
-returns c = toZ-ofZ w64 (c .count .result) (search needs) ∙ c .count .ensures ∙ ap (λ (r : Tabled). countOf (r .answered)) (c .before .windows .ensures)
+returns c = toZ-ofZ w64 (c .count .result) (search needs) ∙ c .count .ensures
+    ∙ ap (λ (r : Tabled). countOf (r .answered)) (c .before .windows .ensures)
 
 pub windows-count-spec : {M : Type 1} → statement M
 windows-count-spec = tie.close (tie.spec windows-requires count-requires returns)

@@ -15,13 +15,18 @@ tight-test-requires : tie.Need-tight-test-requires
 tight-test-requires c κs = search needs
 
 returns-2 : tie.Need-returns-2
-returns-2 c = c .tight-test .ensures ∙ asks-second (c .before .before .before .args .r) (c .before .before .before .args .phase) (c .before .before .if1 .left) (c .before .if2 .taken)
+returns-2 c =
+    c .tight-test .ensures
+    ∙ asks-second (c .before .before .before .args .r) (c .before .before .before .args .phase) (c .before .before .if1 .left)
+    (c .before .if2 .taken)
 
 push-test-requires : tie.Need-push-test-requires
 push-test-requires c κs = search needs
 
 returns-3 : tie.Need-returns-3
-returns-3 c = c .push-test .ensures ∙ asks-third (c .before .before .before .args .r) (c .before .before .before .args .phase) (c .before .if2 .left)
+returns-3 c =
+    c .push-test .ensures
+    ∙ asks-third (c .before .before .before .args .r) (c .before .before .before .args .phase) (c .before .if2 .left)
 
 pub asked-spec : {M : Type 1} → statement M
 asked-spec =

@@ -2,7 +2,6 @@
 use borrow.Author.Needs.{needs}
 use Rattle.constrain.proofs.rule.bound_of.Statement.{statement}
 use Rattle.constrain.proofs.rule.bound_of.Tie as tie
-use mathlib.Core.Path.{_∙_, ap, sym}
 use mathlib.Core.Path.{ap, sym}
 use Rattle.constrain.specs.Rules.{viaBound}
 

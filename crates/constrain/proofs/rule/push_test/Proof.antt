@@ -21,8 +21,11 @@ tested-requires c κs = search needs
 
 returns-3 : tie.Need-returns-3
 returns-3 c =
-    let a = c .before .before .before .before .before .before .before .args in
-    push-in (a .r) (a .x) (c .before .before .before .before .before .if1 .left) (c .before .before .before .if2 .left) _ _ _ (c .tested .ensures) (c .before .before .via .ensures) (c .before .place .ensures)
+    let after-via = c .before .before in
+    let tested-1 = after-via .before .before .before in
+    let a = tested-1 .before .before .args in
+    push-in (a .r) (a .x) (tested-1 .if1 .left) (after-via .before .if2 .left) _ _ _ (c .tested .ensures) (after-via .via .ensures)
+    (c .before .place .ensures)
 
 pub push-test-spec : {M : Type 1} → statement M
 push-test-spec =

@@ -6,7 +6,6 @@ use mathlib.Core.Path.{_∙_, ap}
 use Rattle.constrain.specs.Rules.{viaC, entryC, sumC, sumSum}
 use Rattle.expr.specs.declared.bound.Bound.{Bound}
 use Rattle.expr.specs.declared.bound.BoundSum.{BoundSum}
-use Prim.Native.Nat.{_%_}
 use Prim.Native.Nat.{_/_}
 
 entry-requires : tie.Need-entry-requires
@@ -24,9 +23,13 @@ added-requires c κs = search needs
 returns : tie.Need-returns
 unfolding viaC
 returns c =
-    let r = c .before .before .before .before .before .args .r in
-    c .added .ensures ∙ ap (λ (s : BoundSum). sumSum s (c .before .before .entry2 .result)) (c .before .sum .ensures ∙ ap (λ (b : Bound). sumC b (r .bound)) (c .before .before .before .entry .ensures))
-    ∙ ap (λ (b : Bound). sumSum (sumC (entryC (r .old) (c .before .before .before .before .before .args .x / 5) (r .left)) (r .bound)) b) (c .before .before .entry2 .ensures)
+    let after-entry-2 = c .before .before in
+    let a = after-entry-2 .before .before .before .args in
+    let r = a .r in
+    c .added .ensures
+    ∙ ap (λ (s : BoundSum). sumSum s (after-entry-2 .entry2 .result))
+    (c .before .sum .ensures ∙ ap (λ (b : Bound). sumC b (r .bound)) (after-entry-2 .before .entry .ensures))
+    ∙ ap (λ (b : Bound). sumSum (sumC (entryC (r .old) (a .x / 5) (r .left)) (r .bound)) b) (after-entry-2 .entry2 .ensures)
 
 pub via-spec : {M : Type 1} → statement M
 via-spec = tie.close (tie.spec entry-requires entry-requires-2 sum-requires added-requires returns)

@@ -4,7 +4,7 @@ use Rattle.constrain.proofs.rule.void_test.Statement.{statement}
 use Rattle.constrain.proofs.rule.void_test.Tie as tie
 use mathlib.Core.Path.{_∙_, ap}
 use Rattle.constrain.specs.Rules.{voidTest, sumC, testSum}
-use Rattle.zones.specs.Zone.{zeroBound}
+use Rattle.expr.specs.Three.{zeroBound}
 use Rattle.expr.specs.declared.bound.Bound.{Bound}
 use Rattle.expr.specs.declared.bound.BoundSum.{BoundSum}
 
@@ -19,7 +19,12 @@ tested-requires c κs = search needs
 
 returns : tie.Need-returns
 unfolding voidTest
-returns c = c .tested .ensures ∙ ap (λ (s : BoundSum). testSum s zeroBound) (c .before .sum .ensures ∙ ap (λ (b : Bound). sumC (c .before .before .before .before .args .r .bound) b) (c .before .before .entry .ensures))
+returns c =
+    let after-entry = c .before .before in
+    let start = after-entry .before .before in
+    c .tested .ensures
+    ∙ ap (λ (s : BoundSum). testSum s zeroBound)
+    (c .before .sum .ensures ∙ ap (λ (b : Bound). sumC (start .args .r .bound) b) (after-entry .entry .ensures))
 
 pub void-test-spec : {M : Type 1} → statement M
 void-test-spec = tie.close (tie.spec entry-requires sum-requires tested-requires returns)

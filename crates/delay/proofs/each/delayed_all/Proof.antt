@@ -2,12 +2,12 @@
 use Rattle.delay.proofs.each.delayed_all.Statement.{statement}
 use Rattle.delay.proofs.each.delayed_all.Tie as tie
 use borrow.Author.Needs.{needs}
-use Prim.Native.Nat.{ℕ, _-_}
+use Prim.Native.Nat.{_-_}
 use lib.ListN.{length, length-map}
-use Rattle.coded.specs.Walked.{delayedZone, delayedAll}
+use Rattle.delay.specs.Delayed.{delayedZone, delayedAll}
 use mathlib.Core.Path.{_≡_}
 use native.Mathlib.Omega.{arith}
-use Rattle.delay.proofs.Steps.{Changed, changed-starts, changed-long, changed-turn, changed-done}
+use Rattle.delay.proofs.Steps.{Changed, changed-starts, changed-turn, changed-done}
 
 abbrev Inv-loop : tie.InvT-loop
 Inv-loop clocks n next₀ i₀ next i = Changed (delayedZone clocks) n next₀ next i
@@ -45,11 +45,18 @@ loop-less : tie.Need-loop-less Inv-loop μ-loop
 loop-less c = omega (arith, c .before .before .loop-test .taken)
 
 loop-again : tie.Need-loop-again Inv-loop μ-loop
-loop-again c = changed-turn (delayedZone (c .before .before .before .before .before .args .clocks)) _ (c .before .before .before .loop .i) (c .before .before .before .before .before .args .zones) (c .before .before .before .loop .next) _ (c .delayed-zone .result) (c .before .before .before .loop .inv) (c .before .before .loop-test .taken) (c .delayed-zone .ensures)
+loop-again c =
+    let in-loop = c .before .before in
+    let a = in-loop .before .before .before .args in
+    changed-turn (delayedZone (a .clocks)) _ (in-loop .before .loop .i) (a .zones) (in-loop .before .loop .next) _
+    (c .delayed-zone .result) (in-loop .before .loop .inv) (in-loop .loop-test .taken) (c .delayed-zone .ensures)
 
 returns : tie.Need-returns Inv-loop μ-loop
 unfolding delayedAll
-returns c = changed-done (delayedZone (c .before .before .before .args .clocks)) _ (c .before .loop .i) (c .before .before .before .args .zones) (c .before .loop .next) (c .before .loop .inv) (c .loop-test .left)
+returns c =
+    let a = c .before .before .before .args in
+    changed-done (delayedZone (a .clocks)) _ (c .before .loop .i) (a .zones) (c .before .loop .next) (c .before .loop .inv)
+    (c .loop-test .left)
 
 pub delayed-all-spec : {M : Type 1} → statement M
 delayed-all-spec =

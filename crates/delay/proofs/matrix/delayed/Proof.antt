@@ -5,7 +5,7 @@ use Rattle.delay.proofs.matrix.delayed.Tie as tie
 use mathlib.Core.Path.{_∙_, ap}
 use Rattle.expr.specs.declared.bound.Bound.{Bound}
 use mathlib.Core.List.{List}
-use Rattle.coded.specs.Walked.{delayedB, noneIf}
+use Rattle.delay.specs.Delayed.{delayedB, noneIf}
 use lib.Dec.{ltb}
 
 none-if-requires : tie.Need-none-if-requires

@@ -5,7 +5,7 @@ use Rattle.delay.proofs.matrix.reset.Tie as tie
 use mathlib.Core.Path.{_∙_, ap}
 use Rattle.expr.specs.declared.bound.Bound.{Bound}
 use mathlib.Core.List.{List}
-use Rattle.coded.specs.Walked.{resetB, resetPair}
+use Rattle.delay.specs.Delayed.{resetB, resetPair}
 
 reset-pair-requires : tie.Need-reset-pair-requires
 reset-pair-requires c κs = search needs

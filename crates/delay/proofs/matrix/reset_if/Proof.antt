@@ -6,13 +6,18 @@ use mathlib.Core.Path.{_∙_}
 use Rattle.delay.proofs.Steps.{if-past, if-reset, if-not}
 
 returns : tie.Need-returns
-returns c = if-past (c .before .before .args .clocks) (c .before .before .args .r) (c .before .before .args .bit) _ (c .before .if1 .taken) (c .if2 .taken)
+returns c =
+    if-past (c .before .before .args .clocks) (c .before .before .args .r) (c .before .before .args .bit) _ (c .before .if1 .taken)
+    (c .if2 .taken)
 
 reset-requires : tie.Need-reset-requires
 reset-requires c κs = search needs
 
 returns-2 : tie.Need-returns-2
-returns-2 c = c .reset .ensures ∙ if-reset (c .before .before .before .args .clocks) (c .before .before .before .args .r) (c .before .before .before .args .bit) _ (c .before .before .if1 .taken) (c .before .if2 .left)
+returns-2 c =
+    c .reset .ensures
+    ∙ if-reset (c .before .before .before .args .clocks) (c .before .before .before .args .r) (c .before .before .before .args .bit) _
+    (c .before .before .if1 .taken) (c .before .if2 .left)
 
 returns-3 : tie.Need-returns-3
 returns-3 c = if-not (c .before .args .clocks) (c .before .args .r) (c .before .args .bit) _ (c .if1 .left)

@@ -8,7 +8,9 @@ returns : tie.Need-returns
 returns c = pair-past (c .before .args .clocks) (c .before .args .r) (c .before .args .j) (c .before .args .t1) (c .if1 .taken)
 
 returns-2 : tie.Need-returns-2
-returns-2 c = pair-same (c .before .before .args .clocks) (c .before .before .args .r) (c .before .before .args .j) (c .before .before .args .t1) (c .before .if1 .left) (c .if2 .taken)
+returns-2 c =
+    let a = c .before .before .args in
+    pair-same (a .clocks) (a .r) (a .j) (a .t1) (c .before .if1 .left) (c .if2 .taken)
 
 mul-n : tie.Need-mul-n
 mul-n c = search needs
@@ -50,7 +52,10 @@ array-set-from-n-2 : tie.Need-array-set-from-n-2
 array-set-from-n-2 c = search needs
 
 returns-3 : tie.Need-returns-3
-returns-3 c = pair-other (c .before .before .before .before .args .clocks) (c .before .before .before .before .args .r) (c .before .before .before .before .args .j) (c .before .before .before .before .args .t1) (c .before .before .before .if1 .left) (c .before .before .if2 .left)
+returns-3 c =
+    let tested-2 = c .before .before in
+    let a = tested-2 .before .before .args in
+    pair-other (a .clocks) (a .r) (a .j) (a .t1) (tested-2 .before .if1 .left) (tested-2 .if2 .left)
 
 pub reset-pair-spec : {M : Type 1} → statement M
 reset-pair-spec =

@@ -5,7 +5,7 @@ use Rattle.delay.proofs.matrix.resets.Tie as tie
 use mathlib.Core.Path.{_∙_, ap}
 use Rattle.expr.specs.declared.bound.Bound.{Bound}
 use mathlib.Core.List.{List}
-use Rattle.coded.specs.Walked.{resetsB, resetIfB}
+use Rattle.delay.specs.Delayed.{resetsB, resetIfB}
 use Prim.Native.Nat.{_/_, _%_}
 
 reset-if-requires : tie.Need-reset-if-requires

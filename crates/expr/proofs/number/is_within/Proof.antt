@@ -17,25 +17,28 @@ wide-requires c κs = search needs
 sub-if1 : tie.Need-sub-if1
 sub-if1 c =
     let s = c .before in
-    op-fits _-ℤ_ w64 (pos 0) _ (pos 0) _ refl (passed w32 _ _ (c .wide .ensures) (s .fits .limit)) (sfits-lit tt)
-    (sfits-widen tt (s .fits .limit)) (negation-fits _ (s .fits .limit))
+    op-fits _-ℤ_ w64 (pos 0) _ (pos 0) _ refl (passed w32 _ _ (c .wide .ensures) (s .fits .most)) (sfits-lit tt)
+    (sfits-widen tt (s .fits .most)) (negation-fits _ (s .fits .most))
 
 returns : tie.Need-returns
 returns c =
     let d = c .before .before .before .before .before in
     let s = d .before in
-    let h = passed w32 _ _ (d .wide .ensures) (s .fits .limit) in
-    within-yes (s .args .limit) (s .args .x .value) _ _ _ (held w64 _ _ h (sfits-widen tt (s .fits .limit))) (toZ-ofZ w64 _ (record { sfits = c .struct-told2 .given .0 .1 }))
-    (op-back _-ℤ_ w64 (pos 0) _ (pos 0) _ refl h (sfits-lit tt) (sfits-widen tt (s .fits .limit)) (negation-fits _ (s .fits .limit)) ∙ zero-minus (s .args .limit))
+    let h = passed w32 _ _ (d .wide .ensures) (s .fits .most) in
+    within-yes (s .args .most) (s .args .x .value) _ _ _ (held w64 _ _ h (sfits-widen tt (s .fits .most)))
+    (toZ-ofZ w64 _ (record { sfits = c .struct-told2 .given .0 .1 }))
+    (op-back _-ℤ_ w64 (pos 0) _ (pos 0) _ refl h (sfits-lit tt) (sfits-widen tt (s .fits .most)) (negation-fits _ (s .fits .most))
+    ∙ zero-minus (s .args .most))
     (c .before .before .if1 .taken)
 
 returns-2 : tie.Need-returns-2
 returns-2 c =
     let d = c .before .before .before in
     let s = d .before in
-    let h = passed w32 _ _ (d .wide .ensures) (s .fits .limit) in
-    within-no (s .args .limit) (s .args .x .value) _ _ (toZ-ofZ w64 _ (record { sfits = c .before .struct-told .given .0 .1 }))
-    (op-back _-ℤ_ w64 (pos 0) _ (pos 0) _ refl h (sfits-lit tt) (sfits-widen tt (s .fits .limit)) (negation-fits _ (s .fits .limit)) ∙ zero-minus (s .args .limit))
+    let h = passed w32 _ _ (d .wide .ensures) (s .fits .most) in
+    within-no (s .args .most) (s .args .x .value) _ _ (toZ-ofZ w64 _ (record { sfits = c .before .struct-told .given .0 .1 }))
+    (op-back _-ℤ_ w64 (pos 0) _ (pos 0) _ refl h (sfits-lit tt) (sfits-widen tt (s .fits .most)) (negation-fits _ (s .fits .most))
+    ∙ zero-minus (s .args .most))
     (c .if1 .left)
 
 pub is-within-spec : {M : Type 1} → statement M

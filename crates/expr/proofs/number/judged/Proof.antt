@@ -23,7 +23,8 @@ fit : (c : tie.Then1) →
     All (SFits w32) (numbers (c .before .before .args .s))
 fit c =
     let s = c .before .before in
-    all-fits (s .args .limit) (numbers (s .args .s)) (s .fits .limit) (told-all (s .args .limit) (numbers (s .args .s)) _ _ (c .before .all-within .ensures) (s .fits .limit) (c .if1 .taken))
+    all-fits (s .args .most) (numbers (s .args .s)) (s .fits .most)
+    (told-all (s .args .most) (numbers (s .args .s)) _ _ (c .before .all-within .ensures) (s .fits .most) (c .if1 .taken))
 
 narrow-requires : tie.Need-narrow-requires
 narrow-requires c κs = fit c .0
@@ -41,8 +42,8 @@ returns : tie.Need-returns
 returns c =
     let t = c .before .before .before .before in
     let s = t .before .before in
-    answers-is (s .args .limit) (sums (s .args .s)) _
-    (judge-yes _ _ (told-all (s .args .limit) (numbers (s .args .s)) _ _ (t .before .all-within .ensures) (s .fits .limit) (t .if1 .taken)))
+    answers-is (s .args .most) (sums (s .args .s)) _
+    (judge-yes _ _ (told-all (s .args .most) (numbers (s .args .s)) _ _ (t .before .all-within .ensures) (s .fits .most) (t .if1 .taken)))
     (expr-path
     (held w32 _ _ (c .before .before .before .narrow .ensures) (fit t .0))
     (held w32 _ _ (c .before .before .narrow2 .ensures) (fit t .1 .0))
@@ -52,8 +53,8 @@ returns c =
 returns-2 : tie.Need-returns-2
 returns-2 c =
     let s = c .before .before in
-    answers-wide (s .args .limit) (sums (s .args .s))
-    (judge-no _ _ (told-all (s .args .limit) (numbers (s .args .s)) _ _ (c .before .all-within .ensures) (s .fits .limit) (c .if1 .left)))
+    answers-wide (s .args .most) (sums (s .args .s))
+    (judge-no _ _ (told-all (s .args .most) (numbers (s .args .s)) _ _ (c .before .all-within .ensures) (s .fits .most) (c .if1 .left)))
 
 pub judged-spec : {M : Type 1} → statement M
 judged-spec =

@@ -11,7 +11,9 @@ put-requires : tie.Need-put-requires
 put-requires c κs = search needs
 
 returns : tie.Need-returns
-returns c = entered-yes (c .before .before .before .args .r) (c .before .before .before .args .p) (c .before .before .before .args .x) _ _ _ (c .before .before .if1 .taken) (c .before .via-bound .ensures) (c .put .ensures)
+returns c =
+    entered-yes (c .before .before .before .args .r) (c .before .before .before .args .p) (c .before .before .before .args .x) _ _ _
+    (c .before .before .if1 .taken) (c .before .via-bound .ensures) (c .put .ensures)
 
 returns-2 : tie.Need-returns-2
 returns-2 c = search needs

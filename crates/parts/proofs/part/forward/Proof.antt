@@ -15,19 +15,36 @@ answered-requires : tie.Need-answered-requires
 answered-requires c κs = search needs
 
 returns : tie.Need-returns
-returns c = c .answered .ensures ∙ forward-no (c .before .before .before .before .before .before .args .b) (c .before .before .before .before .before .before .args .r) (c .before .before .before .before .before .before .args .p) _ (c .before .before .before .before .asked .ensures) _ (c .before .before .before .settled .ensures) (c .before .if1 .taken)
+returns c =
+    let after-settled = c .before .before .before in
+    let a = after-settled .before .before .before .args in
+    c .answered .ensures
+    ∙ forward-no (a .b) (a .r) (a .p) _ (after-settled .before .asked .ensures) _ (after-settled .settled .ensures)
+    (c .before .if1 .taken)
 
 answered-requires-2 : tie.Need-answered-requires-2
 answered-requires-2 c κs = search needs
 
 returns-2 : tie.Need-returns-2
-returns-2 c = c .answered2 .ensures ∙ forward-yes (c .before .before .before .before .before .before .before .before .args .b) (c .before .before .before .before .before .before .before .before .args .r) (c .before .before .before .before .before .before .before .before .args .p) _ (c .before .before .before .before .before .before .asked .ensures) _ (c .before .before .before .before .before .settled .ensures) (c .before .before .before .if1 .left) (c .before .if2 .taken)
+returns-2 c =
+    let tested-1 = c .before .before .before in
+    let after-settled = tested-1 .before .before in
+    let a = after-settled .before .before .before .args in
+    c .answered2 .ensures
+    ∙ forward-yes (a .b) (a .r) (a .p) _ (after-settled .before .asked .ensures) _ (after-settled .settled .ensures)
+    (tested-1 .if1 .left) (c .before .if2 .taken)
 
 halted-requires : tie.Need-halted-requires
 halted-requires c κs = search needs
 
 returns-3 : tie.Need-returns-3
-returns-3 c = c .halted .ensures ∙ forward-halts (c .before .before .before .before .before .before .before .before .args .b) (c .before .before .before .before .before .before .before .before .args .r) (c .before .before .before .before .before .before .before .before .args .p) _ (c .before .before .before .before .before .before .asked .ensures) _ (c .before .before .before .before .before .settled .ensures) (c .before .before .before .if1 .left) (c .before .if2 .left)
+returns-3 c =
+    let tested-1 = c .before .before .before in
+    let after-settled = tested-1 .before .before in
+    let a = after-settled .before .before .before .args in
+    c .halted .ensures
+    ∙ forward-halts (a .b) (a .r) (a .p) _ (after-settled .before .asked .ensures) _ (after-settled .settled .ensures)
+    (tested-1 .if1 .left) (c .before .if2 .left)
 
 pub forward-spec : {M : Type 1} → statement M
 forward-spec =

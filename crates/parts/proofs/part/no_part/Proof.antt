@@ -16,8 +16,11 @@ answered-requires c κs = search needs
 returns : tie.Need-returns
 unfolding noC
 returns c =
-    let p = c .before .before .before .before .args .p in
-    c .answered .ensures ∙ ap (λ (z : Zone). answeredC (c .before .before .before .before .args .r) (record { phase = p .phase; halt = 0; test = p .test; zone = z }) false) (c .before .with-opposite .ensures)
+    let a = c .before .before .before .before .args in
+    let p = a .p in
+    c .answered .ensures
+    ∙ ap (λ (z : Zone). answeredC (a .r) (record { phase = p .phase; halt = 0; test = p .test; zone = z }) false)
+    (c .before .with-opposite .ensures)
 
 pub no-part-spec : {M : Type 1} → statement M
 no-part-spec = tie.close (tie.spec with-opposite-requires answered-requires returns)

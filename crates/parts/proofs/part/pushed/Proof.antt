@@ -15,13 +15,19 @@ at-requires : tie.Need-at-requires
 at-requires c κs = search needs
 
 returns : tie.Need-returns
-returns c = c .at .ensures ∙ pushed-on (c .before .before .before .args .r) (c .before .before .before .args .p) (c .before .before .before .args .x) _ _ (c .before .before .entered .ensures) (c .before .if1 .taken)
+returns c =
+    c .at .ensures
+    ∙ pushed-on (c .before .before .before .args .r) (c .before .before .before .args .p) (c .before .before .before .args .x) _ _
+    (c .before .before .entered .ensures) (c .before .if1 .taken)
 
 at-requires-2 : tie.Need-at-requires-2
 at-requires-2 c κs = search needs
 
 returns-2 : tie.Need-returns-2
-returns-2 c = c .at2 .ensures ∙ pushed-last (c .before .before .before .args .r) (c .before .before .before .args .p) (c .before .before .before .args .x) _ _ (c .before .before .entered .ensures) (c .before .if1 .left)
+returns-2 c =
+    c .at2 .ensures
+    ∙ pushed-last (c .before .before .before .args .r) (c .before .before .before .args .p) (c .before .before .before .args .x) _ _
+    (c .before .before .entered .ensures) (c .before .if1 .left)
 
 pub pushed-spec : {M : Type 1} → statement M
 pushed-spec =

@@ -16,8 +16,11 @@ answered-requires c κs = search needs
 returns : tie.Need-returns
 unfolding yesC
 returns c =
-    let p = c .before .before .before .before .args .p in
-    c .answered .ensures ∙ ap (λ (z : Zone). answeredC (c .before .before .before .before .args .r) (record { phase = p .phase; halt = 0; test = p .test; zone = z }) true) (c .before .with-inequality .ensures)
+    let a = c .before .before .before .before .args in
+    let p = a .p in
+    c .answered .ensures
+    ∙ ap (λ (z : Zone). answeredC (a .r) (record { phase = p .phase; halt = 0; test = p .test; zone = z }) true)
+    (c .before .with-inequality .ensures)
 
 pub yes-part-spec : {M : Type 1} → statement M
 yes-part-spec = tie.close (tie.spec with-inequality-requires answered-requires returns)

@@ -13,7 +13,8 @@ use Rattle.search.proofs.ranges.floor.Tie as tie
 floor-up-requires : tie.Need-floor-up-requires
 floor-up-requires c κs =
     let s = c .before in
-    asks-up (s .args .z) (s .args .d) _ _ (toZ-ofZ w64 _ (s .fits .z)) (toZ-ofZ w64 _ (s .fits .d)) (s .pre .0) (above (s .args .d) _ (toZ-ofZ w64 _ (s .fits .d)) (c .if1 .taken))
+    asks-up (s .args .z) (s .args .d) _ _ (toZ-ofZ w64 _ (s .fits .z)) (toZ-ofZ w64 _ (s .fits .d)) (s .pre .0)
+    (above (s .args .d) _ (toZ-ofZ w64 _ (s .fits .d)) (c .if1 .taken))
 
 returns : tie.Need-returns
 returns c =

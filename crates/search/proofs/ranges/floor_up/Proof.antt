@@ -1,13 +1,14 @@
 -- Division rounds toward zero, so that it rounds down above 0, and the complement of a number below 0 is not below 0.
 use mathlib.Core.Path.{refl, _∙_}
-use lib.IntN.{pos, negsuc, _-ℤ_}
+use lib.IntN.{negsuc, _-ℤ_}
 use lib.Signed.{quotZ}
 use mir.Facts.{sfits-lit}
 use mir.Syntax.{w64}
 use mir.ValLaws.{toZ-ofZ}
 use Rattle.integer.specs.Floor.{floor-quot, floor-quot-neg}
 use Rattle.integer.specs.Bits.{op-fits, op-is, op-back}
-use Rattle.search.proofs.Floors.{not-below, below, divisor-bits, quot-fits, quot-neg-fits, complement-nonneg, complement-tame, complement-fits}
+use Rattle.search.proofs.Floors.{not-below, below, divisor-bits, quot-fits, quot-neg-fits, complement-nonneg, complement-tame}
+use Rattle.search.proofs.Floors.{complement-fits}
 use Rattle.search.proofs.ranges.floor_up.Statement.{statement}
 use Rattle.search.proofs.ranges.floor_up.Tie as tie
 

@@ -9,8 +9,9 @@ use borrow.Author.Needs.{needs}
 use Rattle.integer.specs.Floor.{floorZ}
 use Rattle.integer.specs.Split.{zero-minus}
 use Rattle.integer.specs.Bits.{op-fits, op-back}
-use Rattle.search.proofs.Cuts.{tested, interval-up, interval-down, interval-flat, flat-yes, flat-no, from-at, upTo-at, asks-floor, above-not-zero, below-not-zero, is-below, is-not-below}
-use Rattle.search.proofs.Floors.{above, not-above, floor-at, floor-tame, tame-fits, tame-neg, tame-neg-fits, tame-flip}
+use Rattle.search.proofs.Cuts.{tested, interval-up, interval-down, interval-flat, flat-yes, flat-no, from-at, upTo-at}
+use Rattle.search.proofs.Cuts.{asks-floor, above-not-zero, below-not-zero, is-below, is-not-below}
+use Rattle.search.proofs.Floors.{above, not-above, floor-at, floor-tame, tame-fits, tame-neg-fits, tame-flip}
 use Rattle.search.proofs.ranges.interval.Statement.{statement}
 use Rattle.search.proofs.ranges.interval.Tie as tie
 
@@ -70,7 +71,8 @@ floor-requires-2 c κs =
     let a = s .args .slope in
     let ek = toZ-ofZ w64 k (s .fits .constant) in
     let ea = toZ-ofZ w64 a (s .fits .slope) in
-    asks-floor (pos 0 -ℤ k) a _ _ (op-back _-ℤ_ w64 (pos 0) _ (pos 0) k refl refl (sfits-lit tt) (s .fits .constant) (tame-neg-fits k (s .pre .0))) ea
+    asks-floor (pos 0 -ℤ k) a _ _
+    (op-back _-ℤ_ w64 (pos 0) _ (pos 0) k refl refl (sfits-lit tt) (s .fits .constant) (tame-neg-fits k (s .pre .0))) ea
     (tame-flip k (s .pre .0)) (s .pre .1) (below-not-zero a (is-below a _ ea (c .if2 .taken)))
 
 up-to-requires : tie.Need-up-to-requires

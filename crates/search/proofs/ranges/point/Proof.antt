@@ -1,5 +1,5 @@
 -- The number at n lies between the range's ends, so that it fits as they do.
-use mathlib.Core.Path.{refl, sym, subst, _∙_}
+use mathlib.Core.Path.{refl, sym, subst}
 use lib.IntN.{ℤ, pos, _+ℤ_}
 use mir.Facts.{sfits-widen}
 use mir.Syntax.{w16, w64}

@@ -1,11 +1,10 @@
 -- The last range is exact, so that its lowest number is the first.
-use mathlib.Core.Path.{sym, ap, _∙_}
+use mathlib.Core.Path.{sym, _∙_}
 use mathlib.Core.List.{map}
 use mir.Syntax.{w16}
 use mir.ValLaws.{toZ-ofZ}
 use borrow.Author.Needs.{needs}
 use Rattle.search.specs.Interval.{fix}
-use Rattle.search.specs.SearchLaws.{first-last}
 use Rattle.search.specs.System.{exprs}
 use Rattle.search.proofs.Totals.{last-none, last-some, valuation-path}
 use Rattle.search.proofs.search.first_r.Statement.{statement}
@@ -19,8 +18,10 @@ width-requires c κs = search needs
 
 returns : tie.Need-returns
 returns c =
-    let a = c .before .before .before .args in
-    last-none (a .b .p .low) (a .b .q .low) (map (fix (a .b .q .low)) (map (fix (a .b .p .low)) (exprs (a .s)))) (a .b .r) _ (c .before .before .narrowed-r .ensures) (sym (c .before .width .ensures .0) ∙ c .if1 .taken)
+    let after-narrowed-r = c .before .before in
+    let a = after-narrowed-r .before .args in
+    last-none (a .b .p .low) (a .b .q .low) (map (fix (a .b .q .low)) (map (fix (a .b .p .low)) (exprs (a .s)))) (a .b .r) _
+    (after-narrowed-r .narrowed-r .ensures) (sym (c .before .width .ensures .0) ∙ c .if1 .taken)
 
 lowest-requires : tie.Need-lowest-requires
 lowest-requires c κs = search needs
@@ -30,12 +31,16 @@ lowest-requires-2 c κs = search needs
 
 returns-2 : tie.Need-returns-2
 returns-2 c =
-    let a = c .before .before .before .before .before .before .args in
+    let after-lowest = c .before .before in
+    let after-width = after-lowest .before .before in
+    let a = after-width .before .before .args in
     valuation-path
-    (toZ-ofZ w16 (c .before .before .lowest .result) (search needs) ∙ c .before .before .lowest .ensures)
+    (toZ-ofZ w16 (after-lowest .lowest .result) (search needs) ∙ after-lowest .lowest .ensures)
     (toZ-ofZ w16 (c .before .lowest2 .result) (search needs) ∙ c .before .lowest2 .ensures)
-    (toZ-ofZ w16 (c .before .before .before .before .before .narrowed-r .result .low) (record { sfits = c .struct-told .given .0 .1 }))
-    ∙ last-some (a .b .p .low) (a .b .q .low) (map (fix (a .b .q .low)) (map (fix (a .b .p .low)) (exprs (a .s)))) (a .b .r) (c .before .before .before .before .before .narrowed-r .result) (c .before .before .before .before .before .narrowed-r .ensures) (λ z. c .before .before .before .if1 .left (c .before .before .before .before .width .ensures .0 ∙ z))
+    (toZ-ofZ w16 (after-width .before .narrowed-r .result .low) (record { sfits = c .struct-told .given .0 .1 }))
+    ∙ last-some (a .b .p .low) (a .b .q .low) (map (fix (a .b .q .low)) (map (fix (a .b .p .low)) (exprs (a .s)))) (a .b .r)
+    (after-width .before .narrowed-r .result) (after-width .before .narrowed-r .ensures)
+    (λ z. after-lowest .before .if1 .left (after-width .width .ensures .0 ∙ z))
 
 pub first-r-spec : {M : Type 1} → statement M
 first-r-spec =

@@ -14,7 +14,8 @@ use Rattle.search.proofs.search.narrowed_p.Tie as tie
 abbrev Inv-loop : tie.InvT-loop
 Inv-loop b s n range₀ i₀ range i =
     (n ≤ 25) × (n ≡ length (take (s .count) (s .list)))
-    × (narrowed (map affine (drop i (take (s .count) (s .list)))) range (b .q ∷ b .r ∷ []) ≡ narrowed (map affine (take (s .count) (s .list))) range₀ (b .q ∷ b .r ∷ []))
+    × (narrowed (map affine (drop i (take (s .count) (s .list)))) range (b .q ∷ b .r ∷ [])
+    ≡ narrowed (map affine (take (s .count) (s .list))) range₀ (b .q ∷ b .r ∷ []))
 
 abbrev μ-loop : tie.MeasureT-loop
 μ-loop b s n range₀ i₀ range i = n - i
@@ -46,14 +47,19 @@ loop-less c = omega arith
 
 loop-again : tie.Need-loop-again Inv-loop μ-loop
 loop-again c =
-    let a = c .before .before .before .before .before .before .args in
-    let v = c .before .before .before .loop .inv in
-    (v .0, v .1, narrow-turn affine (a .b .q ∷ a .b .r ∷ []) (a .t2 .list) (a .t2 .count) _ _ _ _ _ (omega arith) (v .2) (c .narrow-p .ensures))
+    let at-loop = c .before .before .before in
+    let a = at-loop .before .before .before .args in
+    let v = at-loop .loop .inv in (
+      v .0,
+      v .1,
+      narrow-turn affine (a .b .q ∷ a .b .r ∷ []) (a .t2 .list) (a .t2 .count) _ _ _ _ _ (omega arith) (v .2) (c .narrow-p .ensures),
+    )
 
 returns : tie.Need-returns Inv-loop μ-loop
 returns c =
     let a = c .before .before .before .before .args in
-    narrow-done affine (a .b .q ∷ a .b .r ∷ []) (a .t2 .list) (a .t2 .count) (c .before .loop .i) _ _ (omega arith) (c .before .loop .inv .2)
+    narrow-done affine (a .b .q ∷ a .b .r ∷ []) (a .t2 .list) (a .t2 .count) (c .before .loop .i) _ _ (omega arith)
+    (c .before .loop .inv .2)
 
 pub narrowed-p-spec : {M : Type 1} → statement M
 narrowed-p-spec =

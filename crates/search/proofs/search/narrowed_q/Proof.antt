@@ -16,7 +16,8 @@ use Rattle.search.proofs.search.narrowed_q.Tie as tie
 abbrev Inv-loop : tie.InvT-loop
 Inv-loop b s n range₀ i₀ range i =
     (n ≤ 25) × (n ≡ length (take (s .count) (s .list)))
-    × (narrowed (map (λ (e : Expr). fix (b .p .low) (affine e)) (drop i (take (s .count) (s .list)))) range (b .r ∷ []) ≡ narrowed (map (λ (e : Expr). fix (b .p .low) (affine e)) (take (s .count) (s .list))) range₀ (b .r ∷ []))
+    × (narrowed (map (λ (e : Expr). fix (b .p .low) (affine e)) (drop i (take (s .count) (s .list)))) range (b .r ∷ [])
+    ≡ narrowed (map (λ (e : Expr). fix (b .p .low) (affine e)) (take (s .count) (s .list))) range₀ (b .r ∷ []))
 
 abbrev μ-loop : tie.MeasureT-loop
 μ-loop b s n range₀ i₀ range i = n - i
@@ -48,15 +49,22 @@ loop-less c = omega arith
 
 loop-again : tie.Need-loop-again Inv-loop μ-loop
 loop-again c =
-    let a = c .before .before .before .before .before .before .args in
-    let v = c .before .before .before .loop .inv in
-    (v .0, v .1, narrow-turn (λ (e : Expr). fix (a .b .p .low) (affine e)) (a .b .r ∷ []) (a .t2 .list) (a .t2 .count) _ _ _ _ _ (omega arith) (v .2) (c .narrow-q .ensures))
+    let at-loop = c .before .before .before in
+    let a = at-loop .before .before .before .args in
+    let v = at-loop .loop .inv in (
+      v .0,
+      v .1,
+      narrow-turn (λ (e : Expr). fix (a .b .p .low) (affine e)) (a .b .r ∷ []) (a .t2 .list) (a .t2 .count) _ _ _ _ _ (omega arith)
+          (v .2) (c .narrow-q .ensures),
+    )
 
 returns : tie.Need-returns Inv-loop μ-loop
 returns c =
     let a = c .before .before .before .before .args in
-    narrow-done (λ (e : Expr). fix (a .b .p .low) (affine e)) (a .b .r ∷ []) (a .t2 .list) (a .t2 .count) (c .before .loop .i) _ _ (omega arith) (c .before .loop .inv .2)
-    ∙ ap (λ (l : List Affine). narrowed l (a .b .q) (a .b .r ∷ [])) (sym (map-map affine (fix (a .b .p .low)) (take (a .t2 .count) (a .t2 .list))))
+    narrow-done (λ (e : Expr). fix (a .b .p .low) (affine e)) (a .b .r ∷ []) (a .t2 .list) (a .t2 .count) (c .before .loop .i) _ _
+    (omega arith) (c .before .loop .inv .2)
+    ∙ ap (λ (l : List Affine). narrowed l (a .b .q) (a .b .r ∷ []))
+    (sym (map-map affine (fix (a .b .p .low)) (take (a .t2 .count) (a .t2 .list))))
 
 pub narrowed-q-spec : {M : Type 1} → statement M
 narrowed-q-spec =

@@ -1,6 +1,6 @@
 -- The loop's invariant: what is left of the inequalities narrows the range to what all of them do.
 use mathlib.Core.Path.{_≡_, refl, sym, ap, _∙_}
-use mathlib.Core.List.{List, [], _∷_, map}
+use mathlib.Core.List.{List, [], map}
 use Prim.Native.Nat.{_≤_, _-_}
 use native.Mathlib.Omega.{arith}
 use borrow.Author.Needs.{needs}
@@ -16,7 +16,8 @@ use Rattle.search.proofs.search.narrowed_r.Tie as tie
 abbrev Inv-loop : tie.InvT-loop
 Inv-loop b s n range₀ i₀ range i =
     (n ≤ 25) × (n ≡ length (take (s .count) (s .list)))
-    × (narrowed (map (λ (e : Expr). fix (b .q .low) (fix (b .p .low) (affine e))) (drop i (take (s .count) (s .list)))) range [] ≡ narrowed (map (λ (e : Expr). fix (b .q .low) (fix (b .p .low) (affine e))) (take (s .count) (s .list))) range₀ [])
+    × (narrowed (map (λ (e : Expr). fix (b .q .low) (fix (b .p .low) (affine e))) (drop i (take (s .count) (s .list)))) range []
+    ≡ narrowed (map (λ (e : Expr). fix (b .q .low) (fix (b .p .low) (affine e))) (take (s .count) (s .list))) range₀ [])
 
 abbrev μ-loop : tie.MeasureT-loop
 μ-loop b s n range₀ i₀ range i = n - i
@@ -48,16 +49,25 @@ loop-less c = omega arith
 
 loop-again : tie.Need-loop-again Inv-loop μ-loop
 loop-again c =
-    let a = c .before .before .before .before .before .before .args in
-    let v = c .before .before .before .loop .inv in
-    (v .0, v .1, narrow-turn (λ (e : Expr). fix (a .b .q .low) (fix (a .b .p .low) (affine e))) [] (a .t2 .list) (a .t2 .count) _ _ _ _ _ (omega arith) (v .2) (c .narrow-r .ensures))
+    let at-loop = c .before .before .before in
+    let a = at-loop .before .before .before .args in
+    let v = at-loop .loop .inv in (
+      v .0,
+      v .1,
+      narrow-turn (λ (e : Expr). fix (a .b .q .low) (fix (a .b .p .low) (affine e))) [] (a .t2 .list) (a .t2 .count) _ _ _ _ _
+          (omega arith) (v .2) (c .narrow-r .ensures),
+    )
 
 returns : tie.Need-returns Inv-loop μ-loop
 returns c =
     let a = c .before .before .before .before .args in
     let xs = take (a .t2 .count) (a .t2 .list) in
-    narrow-done (λ (e : Expr). fix (a .b .q .low) (fix (a .b .p .low) (affine e))) [] (a .t2 .list) (a .t2 .count) (c .before .loop .i) _ _ (omega arith) (c .before .loop .inv .2)
-    ∙ ap (λ (l : List Affine). narrowed l (a .b .r) []) (sym (ap (map (fix (a .b .q .low))) (map-map affine (fix (a .b .p .low)) xs) ∙ map-map (λ (e : Expr). fix (a .b .p .low) (affine e)) (fix (a .b .q .low)) xs))
+    narrow-done (λ (e : Expr). fix (a .b .q .low) (fix (a .b .p .low) (affine e))) [] (a .t2 .list) (a .t2 .count) (c .before .loop .i)
+    _ _ (omega arith) (c .before .loop .inv .2)
+    ∙ ap (λ (l : List Affine). narrowed l (a .b .r) [])
+    (sym
+    (ap (map (fix (a .b .q .low))) (map-map affine (fix (a .b .p .low)) xs)
+    ∙ map-map (λ (e : Expr). fix (a .b .p .low) (affine e)) (fix (a .b .q .low)) xs))
 
 pub narrowed-r-spec : {M : Type 1} → statement M
 narrowed-r-spec =

@@ -2,10 +2,12 @@
 use Rattle.split.proofs.cut.cut_zone.Statement.{statement}
 use Rattle.split.proofs.cut.cut_zone.Tie as tie
 use borrow.Author.Needs.{needs}
-use Prim.Native.Nat.{suc, _-_}
+use Prim.Native.Nat.{_-_}
 use native.Mathlib.Omega.{arith}
-use mathlib.Core.Path.{_≡_, _∙_}
-use Rattle.split.proofs.Stack.{Turned, drained, load, cut-sticks, start-turned, ends-turned, refused-turned, room-turned, splits-turned, splits-less, ends-less, all-turned, start-whole, top-live}
+use mathlib.Core.Path.{_∙_}
+use lib.ListN.{replicate}
+use Rattle.split.proofs.Stack.{Turned, Turn, drained, load, cut-sticks, start-turned, ends-turned, refused-turned, room-turned}
+use Rattle.split.proofs.Stack.{splits-turned, splits-less, ends-less, all-turned, start-whole, top-live}
 
 abbrev Inv-loop : tie.InvT-loop
 Inv-loop b r stack₀ now₀ n₀ stack now n = Turned b r stack n now (drained b r stack₀ n₀ now₀)
@@ -13,14 +15,35 @@ Inv-loop b r stack₀ now₀ n₀ stack now n = Turned b r stack n now (drained 
 abbrev μ-loop : tie.MeasureT-loop
 μ-loop b r stack₀ now₀ n₀ stack now n = load stack n
 
+-- the turn that is made when `ended` has returned
+abbrev TurnAt : tie.After-ended Inv-loop μ-loop → Type 0
+TurnAt c =
+    let at-loop = c .before .before .before .before in
+    let after-start = at-loop .before in
+    let a = after-start .before .before .before .args in
+    Turn (a .b) (a .r) (at-loop .loop .stack) (at-loop .loop .n) (at-loop .loop .now) (c .ended .result)
+    (drained (a .b) (a .r) (replicate 25 (after-start .start .result)) 1 (a .out)) (c .before .run .result)
+
+turn : (c : tie.After-ended Inv-loop μ-loop) → TurnAt c
+turn c =
+    let in-loop = c .before .before .before in
+    record {
+      top = omega (arith, in-loop .loop-test .taken);
+      turned = in-loop .before .loop .inv;
+      ran = c .before .run .ensures;
+      ended = c .ended .ensures;
+    }
+
 returns : tie.Need-returns Inv-loop μ-loop
-returns c = cut-sticks (c .before .before .args .b) (c .before .before .args .r) (c .before .before .args .zone) (c .before .before .args .out) (c .if1 .taken)
+returns c = let a = c .before .before .args in cut-sticks (a .b) (a .r) (a .zone) (a .out) (c .if1 .taken)
 
 start-requires : tie.Need-start-requires Inv-loop μ-loop
 start-requires c κs = search needs
 
 loop-holds : tie.Need-loop-holds Inv-loop μ-loop
-loop-holds c = start-turned (c .before .before .before .args .b) (c .before .before .before .args .r) (c .before .before .before .args .zone) (c .before .before .before .args .out) (c .start .result) (c .start .ensures)
+loop-holds c =
+    let a = c .before .before .before .args in
+    start-turned (a .b) (a .r) (a .zone) (a .out) (c .start .result) (c .start .ensures)
 
 sub-top : tie.Need-sub-top Inv-loop μ-loop
 sub-top c = omega (arith, c .loop-test .taken)
@@ -33,16 +56,21 @@ array-copy-out-popped c = omega (arith, c .loop-test .taken, c .before .loop .in
 
 run-requires : tie.Need-run-requires Inv-loop μ-loop
 run-requires c κs =
-    let n = c .before .before .loop .n in
-    top-live (c .before .before .loop .stack) n (n - 1) (omega (arith, c .before .loop-test .taken)) (c .before .before .loop .inv .waiting)
+    let in-loop = c .before in
+    let at-loop = in-loop .before .loop in
+    top-live (at-loop .stack) (at-loop .n) (at-loop .n - 1) (omega (arith, in-loop .loop-test .taken)) (at-loop .inv .waiting)
 
 ended-requires : tie.Need-ended-requires Inv-loop μ-loop
 ended-requires c κs = search needs
 
 returns-2 : tie.Need-returns-2 Inv-loop μ-loop
 returns-2 c =
-    let e : c .before .before .before .before .before .before .loop .n ≡ suc (c .before .before .before .before .before .before .loop .n - 1) = omega (arith, c .before .before .before .before .before .loop-test .taken) in
-    refused-turned (c .before .before .before .before .before .before .before .before .before .before .args .b) (c .before .before .before .before .before .before .before .before .before .before .args .r) (c .before .before .before .before .before .before .loop .stack) (c .before .before .before .before .before .before .loop .now) (c .before .before .ended .result) _ (c .before .before .before .run .result) (c .before .before .before .before .before .before .loop .n) (c .before .before .before .before .before .before .loop .n - 1) e (c .before .before .before .before .before .before .loop .inv) (c .before .before .before .run .ensures) (c .before .before .ended .ensures) (c .if2 .taken) ∙ start-whole (c .before .before .before .before .before .before .before .before .before .before .args .b) (c .before .before .before .before .before .before .before .before .before .before .args .r) (c .before .before .before .before .before .before .before .before .before .before .args .zone) (c .before .before .before .before .before .before .before .before .before .before .args .out) (c .before .before .before .before .before .before .before .start .result) (c .before .before .before .before .before .before .before .start .ensures)
+    let after-ended = c .before .before in
+    let at-loop = after-ended .before .before .before .before in
+    let after-start = at-loop .before in
+    let a = after-start .before .before .before .args in
+    refused-turned (turn after-ended) (c .if2 .taken)
+    ∙ start-whole (a .b) (a .r) (a .zone) (a .out) (after-start .start .result) (after-start .start .ensures)
 
 no-part-requires : tie.Need-no-part-requires Inv-loop μ-loop
 no-part-requires c κs = search needs
@@ -51,42 +79,63 @@ yes-part-requires : tie.Need-yes-part-requires Inv-loop μ-loop
 yes-part-requires c κs = search needs
 
 mul-stack : tie.Need-mul-stack Inv-loop μ-loop
-mul-stack c = omega (arith, c .before .before .before .before .before .before .before .before .before .before .loop .inv .few)
+mul-stack c =
+    let split = c .before .before in
+    let after-ended = split .before .before .before .before in
+    omega (arith, turn after-ended .turned .few)
 
 array-set-from-stack : tie.Need-array-set-from-stack Inv-loop μ-loop
-array-set-from-stack c = omega (arith, c .before .before .before .before .before .before .before .before .before .loop-test .taken, c .before .before .before .before .before .before .before .before .before .before .loop .inv .few)
+array-set-from-stack c =
+    let split = c .before .before in
+    let after-ended = split .before .before .before .before in
+    omega (arith, turn after-ended .top, turn after-ended .turned .few)
 
 mul-stack-2 : tie.Need-mul-stack-2 Inv-loop μ-loop
-mul-stack-2 c = omega (arith, c .before .before .before .before .before .before .before .before .before .before .loop .inv .few)
+mul-stack-2 c =
+    let split = c .before .before in
+    let after-ended = split .before .before .before .before in
+    omega (arith, turn after-ended .turned .few)
 
 array-set-from-stack-2 : tie.Need-array-set-from-stack-2 Inv-loop μ-loop
 array-set-from-stack-2 c =
-    let e : c .before .before .before .before .before .before .before .before .before .before .loop .n ≡ suc (c .before .before .before .before .before .before .before .before .before .before .loop .n - 1) = omega (arith, c .before .before .before .before .before .before .before .before .before .loop-test .taken) in
-    room-turned (c .before .before .before .before .before .before .before .before .before .before .before .before .before .before .args .b) (c .before .before .before .before .before .before .before .before .before .before .before .before .before .before .args .r) (c .before .before .before .before .before .before .before .before .before .before .loop .stack) (c .before .before .before .before .before .before .before .before .before .before .loop .now) (c .before .before .before .before .before .before .ended .result) _ (c .before .before .before .before .before .before .before .run .result) (c .before .before .before .before .before .before .before .before .before .before .loop .n) (c .before .before .before .before .before .before .before .before .before .before .loop .n - 1) e (c .before .before .before .before .before .before .before .before .before .before .loop .inv) (c .before .before .before .before .before .before .before .run .ensures) (c .before .before .before .before .before .before .ended .ensures) (c .before .before .if3 .taken)
+    let split = c .before .before in
+    let after-ended = split .before .before .before .before in
+    room-turned (turn after-ended) (split .if3 .taken)
 
 add-n : tie.Need-add-n Inv-loop μ-loop
-add-n c = omega (arith, c .before .before .before .before .before .before .before .before .before .before .loop .inv .few)
+add-n c =
+    let split = c .before .before in
+    let after-ended = split .before .before .before .before in
+    omega (arith, turn after-ended .turned .few)
 
 loop-less : tie.Need-loop-less Inv-loop μ-loop
 loop-less c =
-    let e : c .before .before .before .before .before .before .before .before .before .before .loop .n ≡ suc (c .before .before .before .before .before .before .before .before .before .before .loop .n - 1) = omega (arith, c .before .before .before .before .before .before .before .before .before .loop-test .taken) in
-    splits-less (c .before .before .before .before .before .before .before .before .before .before .before .before .before .before .args .b) (c .before .before .before .before .before .before .before .before .before .before .before .before .before .before .args .r) (c .before .before .before .before .before .before .before .before .before .before .loop .stack) (c .before .before .before .before .before .before .before .before .before .before .loop .now) (c .before .before .before .before .before .before .ended .result) _ (c .before .before .before .before .before .before .before .run .result) (c .before .before .before .before .before .before .before .before .before .before .loop .n) (c .before .before .before .before .before .before .before .before .before .before .loop .n - 1) e (c .before .before .before .before .before .before .before .before .before .before .loop .inv) (c .before .before .before .before .before .before .before .run .ensures) (c .before .before .before .before .before .before .ended .ensures) (c .before .before .if3 .taken) (c .before .no-part .result) (c .yes-part .result) (c .before .no-part .ensures) (c .yes-part .ensures)
+    let split = c .before .before in
+    let after-ended = split .before .before .before .before in
+    splits-less (turn after-ended) (split .if3 .taken) (c .before .no-part .ensures) (c .yes-part .ensures)
 
 loop-again : tie.Need-loop-again Inv-loop μ-loop
 loop-again c =
-    let e : c .before .before .before .before .before .before .before .before .before .before .loop .n ≡ suc (c .before .before .before .before .before .before .before .before .before .before .loop .n - 1) = omega (arith, c .before .before .before .before .before .before .before .before .before .loop-test .taken) in
-    splits-turned (c .before .before .before .before .before .before .before .before .before .before .before .before .before .before .args .b) (c .before .before .before .before .before .before .before .before .before .before .before .before .before .before .args .r) (c .before .before .before .before .before .before .before .before .before .before .loop .stack) (c .before .before .before .before .before .before .before .before .before .before .loop .now) (c .before .before .before .before .before .before .ended .result) _ (c .before .before .before .before .before .before .before .run .result) (c .before .before .before .before .before .before .before .before .before .before .loop .n) (c .before .before .before .before .before .before .before .before .before .before .loop .n - 1) e (c .before .before .before .before .before .before .before .before .before .before .loop .inv) (c .before .before .before .before .before .before .before .run .ensures) (c .before .before .before .before .before .before .ended .ensures) (c .before .before .if3 .taken) (c .before .no-part .result) (c .yes-part .result) (c .before .no-part .ensures) (c .yes-part .ensures)
+    let split = c .before .before in
+    let after-ended = split .before .before .before .before in
+    splits-turned (turn after-ended) (split .if3 .taken) (c .before .no-part .ensures) (c .yes-part .ensures)
 
 loop-less-2 : tie.Need-loop-less-2 Inv-loop μ-loop
-loop-less-2 c = ends-less (c .before .before .before .before .before .before .before .before .loop .stack) (c .before .before .before .before .before .before .before .before .loop .n) (c .before .before .before .before .before .before .before .before .loop .n - 1) (omega (arith, c .before .before .before .before .before .before .before .loop-test .taken))
+loop-less-2 c =
+    let after-ended = c .before .before .before .before in
+    let at-loop = after-ended .before .before .before .before .loop in
+    ends-less (at-loop .stack) (at-loop .n) (at-loop .n - 1) (turn after-ended .top)
 
 loop-again-2 : tie.Need-loop-again-2 Inv-loop μ-loop
-loop-again-2 c =
-    let e : c .before .before .before .before .before .before .before .before .loop .n ≡ suc (c .before .before .before .before .before .before .before .before .loop .n - 1) = omega (arith, c .before .before .before .before .before .before .before .loop-test .taken) in
-    ends-turned (c .before .before .before .before .before .before .before .before .before .before .before .before .args .b) (c .before .before .before .before .before .before .before .before .before .before .before .before .args .r) (c .before .before .before .before .before .before .before .before .loop .stack) (c .before .before .before .before .before .before .before .before .loop .now) (c .before .before .before .before .ended .result) _ (c .before .before .before .before .before .run .result) (c .before .before .before .before .before .before .before .before .loop .n) (c .before .before .before .before .before .before .before .before .loop .n - 1) e (c .before .before .before .before .before .before .before .before .loop .inv) (c .before .before .before .before .before .run .ensures) (c .before .before .before .before .ended .ensures) (c .if3 .left)
+loop-again-2 c = let after-ended = c .before .before .before .before in ends-turned (turn after-ended) (c .if3 .left)
 
 returns-3 : tie.Need-returns-3 Inv-loop μ-loop
-returns-3 c = all-turned (c .before .before .before .before .before .args .b) (c .before .before .before .before .before .args .r) (c .before .loop .stack) (c .before .loop .n) (c .before .loop .now) _ (c .loop-test .left) (c .before .loop .inv) ∙ start-whole (c .before .before .before .before .before .args .b) (c .before .before .before .before .before .args .r) (c .before .before .before .before .before .args .zone) (c .before .before .before .before .before .args .out) (c .before .before .start .result) (c .before .before .start .ensures)
+returns-3 c =
+    let at-loop = c .before .loop in
+    let after-start = c .before .before in
+    let a = after-start .before .before .before .args in
+    all-turned (a .b) (a .r) (at-loop .stack) (at-loop .n) (at-loop .now) _ (c .loop-test .left) (at-loop .inv)
+    ∙ start-whole (a .b) (a .r) (a .zone) (a .out) (after-start .start .result) (after-start .start .ensures)
 
 pub cut-zone-spec : {M : Type 1} → statement M
 cut-zone-spec =

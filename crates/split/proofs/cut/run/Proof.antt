@@ -20,13 +20,24 @@ forward-requires : tie.Need-forward-requires Inv-loop μ-loop
 forward-requires c κs = search needs
 
 loop-less : tie.Need-loop-less Inv-loop μ-loop
-loop-less c = let g = c .before .before .before .loop .inv in subst (λ (p : Part). left p < left (c .before .before .before .loop .q)) (sym (c .forward .ensures)) (left-less _ _ (c .before .before .before .before .args .p) (c .before .before .before .loop .q) g (c .before .if1 .taken))
+loop-less c =
+    let at-loop = c .before .before .before in
+    let g = at-loop .loop .inv in
+    subst (λ (p : Part). left p < left (at-loop .loop .q)) (sym (c .forward .ensures))
+    (left-less _ _ (at-loop .before .args .p) (at-loop .loop .q) g (c .before .if1 .taken))
 
 loop-again : tie.Need-loop-again Inv-loop μ-loop
-loop-again c = subst (λ (p : Part). Going (c .before .before .before .before .args .b) (c .before .before .before .before .args .r) (c .before .before .before .before .args .p) p) (sym (c .forward .ensures)) (goes-on (c .before .before .before .before .args .b) (c .before .before .before .before .args .r) (c .before .before .before .before .args .p) (c .before .before .before .loop .q) (c .before .before .before .loop .inv) (c .before .if1 .taken))
+loop-again c =
+    let at-loop = c .before .before .before in
+    let a = at-loop .before .args in
+    subst (λ (p : Part). Going (a .b) (a .r) (a .p) p) (sym (c .forward .ensures))
+    (goes-on (a .b) (a .r) (a .p) (at-loop .loop .q) (at-loop .loop .inv) (c .before .if1 .taken))
 
 returns : tie.Need-returns Inv-loop μ-loop
-returns c = going-ends (c .before .before .before .args .b) (c .before .before .before .args .r) (c .before .before .before .args .p) (c .before .before .loop .q) (c .before .before .loop .inv) (c .if1 .left)
+returns c =
+    let at-loop = c .before .before in
+    let a = at-loop .before .args in
+    going-ends (a .b) (a .r) (a .p) (at-loop .loop .q) (at-loop .loop .inv) (c .if1 .left)
 
 pub run-spec : {M : Type 1} → statement M
 run-spec =

@@ -18,13 +18,18 @@ add-more : tie.Need-add-more
 add-more c = search needs
 
 returns-2 : tie.Need-returns-2
-returns-2 c = listed-more (c .before .before .before .args .zone) (c .before .before .before .args .out) (c .before .if1 .left) (c .if2 .taken)
+returns-2 c =
+    let a = c .before .before .before .args in
+    listed-more (a .zone) (a .out) (c .before .if1 .left) (c .if2 .taken)
 
 refused-requires : tie.Need-refused-requires
 refused-requires c κs = search needs
 
 returns-3 : tie.Need-returns-3
-returns-3 c = c .refused .ensures ∙ listed-full (c .before .before .before .before .args .zone) (c .before .before .before .before .args .out) (c .before .before .if1 .left) (c .before .if2 .left)
+returns-3 c =
+    let tested-1 = c .before .before in
+    let a = tested-1 .before .before .args in
+    c .refused .ensures ∙ listed-full (a .zone) (a .out) (tested-1 .if1 .left) (c .before .if2 .left)
 
 pub listed-spec : {M : Type 1} → statement M
 listed-spec =

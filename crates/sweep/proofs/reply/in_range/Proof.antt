@@ -15,15 +15,22 @@ wide16-requires-2 c κs = search needs
 
 returns : tie.Need-returns
 returns c =
-    let s = c .before .before .before .before .before in
+    let tested = c .before .before in
+    let told = tested .before .before in
+    let s = told .before in
     let t = s .args .range in
-    range-yes t (s .args .x) _ _ _ (widened _ (t .low) (c .before .before .before .wide16 .ensures) (record { sfits = c .before .before .before .before .struct-told .given .0 .1 })) (toZ-ofZ w64 _ (s .fits .x)) (widened _ (t .high) (c .wide162 .ensures) (record { sfits = c .before .struct-told2 .given .1 .0 .1 })) (c .before .before .if1 .taken)
+    range-yes t (s .args .x) _ _ _
+    (widened _ (t .low) (tested .before .wide16 .ensures) (record { sfits = told .struct-told .given .0 .1 }))
+    (toZ-ofZ w64 _ (s .fits .x))
+    (widened _ (t .high) (c .wide162 .ensures) (record { sfits = c .before .struct-told2 .given .1 .0 .1 })) (tested .if1 .taken)
 
 returns-2 : tie.Need-returns-2
 returns-2 c =
-    let s = c .before .before .before in
+    let told = c .before .before in
+    let s = told .before in
     let t = s .args .range in
-    range-no t (s .args .x) _ _ (widened _ (t .low) (c .before .wide16 .ensures) (record { sfits = c .before .before .struct-told .given .0 .1 })) (toZ-ofZ w64 _ (s .fits .x)) (c .if1 .left)
+    range-no t (s .args .x) _ _ (widened _ (t .low) (c .before .wide16 .ensures) (record { sfits = told .struct-told .given .0 .1 }))
+    (toZ-ofZ w64 _ (s .fits .x)) (c .if1 .left)
 
 pub in-range-spec : {M : Type 1} → statement M
 in-range-spec = tie.close (tie.spec wide16-requires wide16-requires-2 returns returns-2)

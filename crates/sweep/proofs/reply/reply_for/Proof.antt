@@ -28,17 +28,22 @@ blank-requires c κs = search needs
 
 returns : tie.Need-returns
 returns c =
-    let s = c .before .before .before .before .before .before .before in
-    let asked = c .before .before .before .before .before .in-ranges .ensures in
+    let matched = c .before .before .before in
+    let after-in-ranges = matched .before .before in
+    let s = after-in-ranges .before .before in
+    let asked = after-in-ranges .in-ranges .ensures in
     same-numbers (s .args .s) (toZ-ofZ w64 _ (s .fits .p)) (toZ-ofZ w64 _ (s .fits .q)) (toZ-ofZ w64 _ (s .fits .r))
-    (placed-reply (s .args .s) _ _ _ _ (sym (c .before .before .before .placed .given .1) ∙ asked) _ (c .swept .ensures ∙ ap sweptTable (c .before .walk .ensures)))
+    (placed-reply (s .args .s) _ _ _ _ (sym (matched .placed .given .1) ∙ asked) _
+    (c .swept .ensures ∙ ap sweptTable (c .before .walk .ensures)))
 
 returns-2 : tie.Need-returns-2
 returns-2 c =
-    let s = c .before .before .before .before .before .before in
-    let asked = c .before .before .before .before .in-ranges .ensures in
+    let matched = c .before .before in
+    let after-in-ranges = matched .before .before in
+    let s = after-in-ranges .before .before in
+    let asked = after-in-ranges .in-ranges .ensures in
     same-numbers (s .args .s) (toZ-ofZ w64 _ (s .fits .p)) (toZ-ofZ w64 _ (s .fits .q)) (toZ-ofZ w64 _ (s .fits .r))
-    (placed-reply (s .args .s) _ _ _ _ (sym (c .before .before .placed2 .given .1) ∙ asked) _ (c .blank .ensures))
+    (placed-reply (s .args .s) _ _ _ _ (sym (matched .placed2 .given .1) ∙ asked) _ (c .blank .ensures))
 
 pub reply-for-spec : {M : Type 1} → statement M
 reply-for-spec =

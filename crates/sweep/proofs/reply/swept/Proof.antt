@@ -32,7 +32,9 @@ array-copy-out-t25 c = search needs
 
 returns-2 : tie.Need-returns-2
 unfolding sweptTable
-returns-2 c = rw (sym (c .before .before .before .before .before .before .is-void .ensures) ∙ c .before .before .before .before .before .if1 .left) refl
+returns-2 c =
+    let tested = c .before .before .before .before .before in
+    rw (sym (tested .before .is-void .ensures) ∙ tested .if1 .left) refl
 
 pub swept-spec : {M : Type 1} → statement M
 swept-spec =

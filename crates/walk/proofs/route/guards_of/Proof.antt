@@ -12,7 +12,8 @@ use Rattle.walk.proofs.route.guards_of.Tie as tie
 
 abbrev Inv-loop : tie.InvT-loop
 Inv-loop clocks v count guards n now₀ i₀ now i =
-    (n ≤ 6) × (n ≡ length (take count guards)) × (guardsTable now clocks (point v) (drop i (take count guards)) ≡ guardsTable now₀ clocks (point v) (take count guards))
+    (n ≤ 6) × (n ≡ length (take count guards))
+    × (guardsTable now clocks (point v) (drop i (take count guards)) ≡ guardsTable now₀ clocks (point v) (take count guards))
 
 abbrev μ-loop : tie.MeasureT-loop
 μ-loop clocks v count guards n now₀ i₀ now i = n - i
@@ -45,8 +46,12 @@ loop-less c = omega arith
 loop-again : tie.Need-loop-again Inv-loop μ-loop
 loop-again c =
     let a = c .before .before .before .before .before .args in
-    let v = c .before .before .before .loop .inv in
-    (v .0, v .1, guards-turn (a .clocks) (point (a .v)) (a .t5) (a .count) (c .before .before .before .loop .i) _ _ _ _ (omega arith) (v .2) (c .guard .ensures))
+    let v = c .before .before .before .loop .inv in (
+      v .0,
+      v .1,
+      guards-turn (a .clocks) (point (a .v)) (a .t5) (a .count) (c .before .before .before .loop .i) _ _ _ _ (omega arith)
+          (v .2) (c .guard .ensures),
+    )
 
 returns : tie.Need-returns Inv-loop μ-loop
 returns c =

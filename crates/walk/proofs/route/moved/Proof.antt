@@ -1,5 +1,5 @@
 -- The guards, then the resets, as in `moveTable`.
-use Rattle.weights.specs.Tables.{Table, resetsTable}
+use Rattle.weight_matrix.specs.Tables.{Table, resetsTable}
 use Rattle.walk.specs.Walked.{moveTable}
 use borrow.Author.Needs.{needs}
 use mathlib.Core.Path.{ap, _∙_}

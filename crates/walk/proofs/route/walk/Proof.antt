@@ -1,12 +1,12 @@
 -- The loop's invariant: what is left of the route takes the matrix to where the whole route takes it.
 use Prim.Native.Nat.{ℕ, _≤_, _-_}
 use Rattle.expr.specs.Three.{point}
-use Rattle.weights.specs.Tables.{Table}
+use Rattle.weight_matrix.specs.Tables.{Table}
 use Rattle.walk.specs.Walked.{walkTable, sweepTable}
 use Rattle.sheet.specs.Lookup.{transitionC}
 use borrow.Author.Needs.{needs}
 use lib.ListN.{length, take, drop}
-use mathlib.Core.Path.{_≡_, refl, ap, _∙_}
+use mathlib.Core.Path.{_≡_, ap, _∙_}
 use native.Mathlib.Omega.{arith}
 use Rattle.walk.proofs.Steps.{size-is, walk-turn, walk-done}
 use Rattle.walk.proofs.route.walk.Statement.{statement}
@@ -14,7 +14,8 @@ use Rattle.walk.proofs.route.walk.Tie as tie
 
 abbrev Inv-loop : tie.InvT-loop
 Inv-loop v s n m₀ l₀ k₀ m l k =
-    (n ≤ 32) × (n ≡ length (take (s .moves) (s .route))) × (walkTable s (point v) l (drop k (take (s .moves) (s .route))) m ≡ sweepTable s (point v))
+    (n ≤ 32) × (n ≡ length (take (s .moves) (s .route)))
+    × (walkTable s (point v) l (drop k (take (s .moves) (s .route))) m ≡ sweepTable s (point v))
 
 abbrev μ-loop : tie.MeasureT-loop
 μ-loop v s n m₀ l₀ k₀ m l k = n - k
@@ -59,14 +60,19 @@ loop-less c = omega arith
 
 loop-again : tie.Need-loop-again Inv-loop μ-loop
 loop-again c =
-    let a = c .before .before .before .before .before .before .before .before .before .before .args in
-    let i = c .before .before .before .before .before .before .before .loop in
+    let at-location-at = c .before .before in
+    let at-transition-at = at-location-at .before in
+    let at-index = at-transition-at .before in
+    let at-loop = at-index .before .before .before in
+    let start = at-loop .before .before .before in
+    let a = start .args in
+    let i = at-loop .loop in
     let v = i .inv in (
       v .0,
       v .1,
       walk-turn (a .t1) (point (a .v)) (i .k) (i .l) (i .m) _ _ _ _ _ (omega arith) (v .2)
-          (c .before .before .before .transition-at .ensures ∙ ap (λ (n : ℕ). transitionC (a .t1) n) (c .before .before .before .before .index .ensures))
-          (c .before .before .location-at .ensures) (c .before .stay .ensures) (c .moved .ensures),
+          (at-transition-at .transition-at .ensures ∙ ap (λ (n : ℕ). transitionC (a .t1) n) (at-index .index .ensures))
+          (at-location-at .location-at .ensures) (c .before .stay .ensures) (c .moved .ensures),
     )
 
 location-at-requires-2 : tie.Need-location-at-requires-2 Inv-loop μ-loop
@@ -77,9 +83,12 @@ stay-requires-2 c κs = search needs
 
 returns : tie.Need-returns Inv-loop μ-loop
 returns c =
-    let a = c .before .before .before .before .before .before .args in
-    let i = c .before .before .before .loop in
-    walk-done (a .t1) (point (a .v)) (i .k) (i .l) (i .m) _ _ _ (omega arith) (i .inv .2) (c .before .location-at2 .ensures) (c .stay2 .ensures)
+    let at-loop = c .before .before .before in
+    let start = at-loop .before .before .before in
+    let a = start .args in
+    let i = at-loop .loop in
+    walk-done (a .t1) (point (a .v)) (i .k) (i .l) (i .m) _ _ _ (omega arith) (i .inv .2) (c .before .location-at2 .ensures)
+    (c .stay2 .ensures)
 
 pub walk-spec : {M : Type 1} → statement M
 walk-spec =

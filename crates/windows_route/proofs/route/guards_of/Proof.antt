@@ -2,15 +2,17 @@
 use Rattle.windows_route.proofs.route.guards_of.Statement.{statement}
 use Rattle.windows_route.proofs.route.guards_of.Tie as tie
 use borrow.Author.Needs.{needs}
-use Prim.Native.Nat.{ℕ, _≤_, _-_}
-use lib.ListN.{length, take, drop, length-map}
-use Rattle.coded.specs.Walked.{guardsAll}
+use Prim.Native.Nat.{_≤_, _-_}
+use lib.ListN.{length, take, drop}
+use Rattle.windows_route.specs.Walked.{guardsAll}
 use mathlib.Core.Path.{_≡_, refl}
 use native.Mathlib.Omega.{arith}
 use Rattle.windows_route.proofs.Steps.{size-is, guards-turn, guards-done}
 
 abbrev Inv-loop : tie.InvT-loop
-Inv-loop b clocks count guards n now₀ i₀ now i = (n ≤ 6) × (n ≡ length (take count guards)) × (guardsAll b clocks (drop i (take count guards)) now ≡ guardsAll b clocks (take count guards) now₀)
+Inv-loop b clocks count guards n now₀ i₀ now i =
+    (n ≤ 6) × (n ≡ length (take count guards))
+    × (guardsAll b clocks (drop i (take count guards)) now ≡ guardsAll b clocks (take count guards) now₀)
 
 abbrev μ-loop : tie.MeasureT-loop
 μ-loop b clocks count guards n now₀ i₀ now i = n - i
@@ -42,14 +44,21 @@ loop-less c = omega (arith, c .before .before .loop-test .taken)
 
 loop-again : tie.Need-loop-again Inv-loop μ-loop
 loop-again c =
-    let a = c .before .before .before .before .before .args in
-    let v = c .before .before .before .loop .inv in
-    (v .0, v .1, guards-turn (a .b) (a .clocks) (a .t5) (a .count) (c .before .before .before .loop .i) (c .before .before .before .loop .now) _ _ _ (omega (arith, c .before .before .loop-test .taken, v .1)) (v .2) (c .cut-by .ensures))
+    let in-loop = c .before .before in
+    let a = in-loop .before .before .before .args in
+    let v = in-loop .before .loop .inv in (
+      v .0,
+      v .1,
+      guards-turn (a .b) (a .clocks) (a .t5) (a .count) (in-loop .before .loop .i) (in-loop .before .loop .now) _ _ _
+          (omega (arith, in-loop .loop-test .taken, v .1)) (v .2) (c .cut-by .ensures),
+    )
 
 returns : tie.Need-returns Inv-loop μ-loop
 returns c =
-    let a = c .before .before .before .args in
-    guards-done (a .b) (a .clocks) (a .t5) (a .count) (c .before .loop .i) (c .before .loop .now) _ (omega (arith, c .loop-test .left, c .before .loop .inv .1)) (c .before .loop .inv .2)
+    let at-loop = c .before in
+    let a = at-loop .before .before .args in
+    guards-done (a .b) (a .clocks) (a .t5) (a .count) (at-loop .loop .i) (at-loop .loop .now) _
+    (omega (arith, c .loop-test .left, at-loop .loop .inv .1)) (at-loop .loop .inv .2)
 
 pub guards-of-spec : {M : Type 1} → statement M
 guards-of-spec =

@@ -5,10 +5,10 @@ use Rattle.windows_route.proofs.route.moved.Tie as tie
 use mathlib.Core.Path.{_∙_, ap}
 use Rattle.zones.specs.declared.zone.Zones.{Zones}
 use lib.ListN.{take}
-use Prim.Native.Nat.{ℕ, suc}
+use Prim.Native.Nat.{ℕ, _+_}
 use native.Mathlib.Numerals.{add-one}
-use Rattle.coded.specs.Walked.{atVisit, resetsAll, guardsAll, moveAll}
-use Prim.Native.Nat.{_+_}
+use Rattle.delay.specs.Delayed.{resetsAll}
+use Rattle.windows_route.specs.Walked.{atVisit, guardsAll, moveAll}
 
 guards-of-requires : tie.Need-guards-of-requires
 guards-of-requires c κs = search needs
@@ -25,9 +25,15 @@ at-visit-requires c κs = search needs
 returns : tie.Need-returns
 unfolding moveAll
 returns c =
-    let a = c .before .before .before .before .args in
-    c .at-visit .ensures ∙ ap (λ (z : Zones). atVisit (a .visit + 1) z) (c .before .resets-all .ensures ∙ ap (λ (z : Zones). resetsAll (a .clocks) (a .t .resets) z) (c .before .before .guards-of .ensures))
-    ∙ ap (λ (k : ℕ). atVisit k (resetsAll (a .clocks) (a .t .resets) (guardsAll (a .b) (a .clocks) (take (a .t .count) (a .t .guards)) (a .zones)))) (add-one (a .visit))
+    let after-guards-of = c .before .before in
+    let a = after-guards-of .before .before .args in
+    c .at-visit .ensures
+    ∙ ap (λ (z : Zones). atVisit (a .visit + 1) z)
+    (c .before .resets-all .ensures ∙ ap (λ (z : Zones). resetsAll (a .clocks) (a .t .resets) z) (after-guards-of .guards-of .ensures))
+    ∙ ap
+    (λ (k : ℕ).
+    atVisit k (resetsAll (a .clocks) (a .t .resets) (guardsAll (a .b) (a .clocks) (take (a .t .count) (a .t .guards)) (a .zones))))
+    (add-one (a .visit))
 
 pub moved-spec : {M : Type 1} → statement M
 moved-spec =

@@ -3,7 +3,7 @@ use borrow.Author.Needs.{needs}
 use Rattle.windows_route.proofs.route.start.Statement.{statement}
 use Rattle.windows_route.proofs.route.start.Tie as tie
 use mathlib.Core.Path.{refl}
-use Rattle.coded.specs.Walked.{startAll}
+use Rattle.windows_route.specs.Walked.{startAll}
 
 array-set-from-list : tie.Need-array-set-from-list
 array-set-from-list c = search needs

@@ -4,15 +4,16 @@ use Rattle.windows_route.proofs.route.walk.Tie as tie
 use Prim.Native.Nat.{ℕ, _≤_, _-_}
 use lib.ListN.{length, take, drop}
 use Rattle.sheet.specs.Lookup.{transitionC}
-use Rattle.coded.specs.Walked.{walkAll, zonesAll}
+use Rattle.windows_route.specs.Walked.{walkAll, zonesAll}
 use Rattle.zones.specs.declared.zone.Zones.{Zones}
-use mathlib.Core.Path.{_≡_, refl, ap, _∙_}
+use mathlib.Core.Path.{_≡_, ap, _∙_}
 use native.Mathlib.Omega.{arith}
 use Rattle.windows_route.proofs.Steps.{size-is, walk-turn, walk-done}
 use borrow.Author.Needs.{needs}
 
 abbrev Inv-loop : tie.InvT-loop
-Inv-loop s b n zones₀ l₀ k₀ zones l k = (n ≤ 32) × (n ≡ length (take (s .moves) (s .route))) × (walkAll s k l (drop k (take (s .moves) (s .route))) zones ≡ zonesAll s)
+Inv-loop s b n zones₀ l₀ k₀ zones l k =
+    (n ≤ 32) × (n ≡ length (take (s .moves) (s .route))) × (walkAll s k l (drop k (take (s .moves) (s .route))) zones ≡ zonesAll s)
 
 abbrev μ-loop : tie.MeasureT-loop
 μ-loop s b n zones₀ l₀ k₀ zones l k = n - k
@@ -47,23 +48,37 @@ stay-requires : tie.Need-stay-requires Inv-loop μ-loop
 stay-requires c κs = search needs
 
 moved-requires : tie.Need-moved-requires Inv-loop μ-loop
-moved-requires c κs = omega (arith, c .before .before .before .before .before .loop-test .taken, c .before .before .before .before .before .before .loop .inv .0)
+moved-requires c κs =
+    let in-loop = c .before .before .before .before .before in
+    omega (arith, in-loop .loop-test .taken, in-loop .before .loop .inv .0)
 
 add-k : tie.Need-add-k Inv-loop μ-loop
-add-k c = omega (arith, c .before .before .before .before .before .before .loop-test .taken, c .before .before .before .before .before .before .before .loop .inv .0)
+add-k c =
+    let after-location-at = c .before .before in
+    let in-loop = after-location-at .before .before .before .before in
+    omega (arith, in-loop .loop-test .taken, in-loop .before .loop .inv .0)
 
 loop-less : tie.Need-loop-less Inv-loop μ-loop
-loop-less c = omega (arith, c .before .before .before .before .before .before .loop-test .taken)
+loop-less c =
+    let after-location-at = c .before .before in
+    let in-loop = after-location-at .before .before .before .before in
+    omega (arith, in-loop .loop-test .taken)
 
 loop-again : tie.Need-loop-again Inv-loop μ-loop
 loop-again c =
-    let s = c .before .before .before .before .before .before .before .before .before .before .before .args .t1 in
-    let i = c .before .before .before .before .before .before .before .loop in
+    let after-location-at = c .before .before in
+    let after-index = after-location-at .before .before in
+    let in-loop = after-index .before .before in
+    let start = in-loop .before .before .before .before .before in
+    let s = start .args .t1 in
+    let i = in-loop .before .loop in
     let v = i .inv in (
       v .0,
       v .1,
-      walk-turn s (i .k) (i .l) (i .zones) (c .before .stay .result) (c .moved .result) _ (c .before .before .location-at .result) (c .before .before .before .transition-at .result) (omega (arith, c .before .before .before .before .before .before .loop-test .taken, v .1)) (v .2)
-          (c .before .before .before .transition-at .ensures ∙ ap (λ (n : ℕ). transitionC s n) (c .before .before .before .before .index .ensures)) (c .before .before .location-at .ensures) (c .before .stay .ensures) (c .moved .ensures),
+      walk-turn s (i .k) (i .l) (i .zones) (c .before .stay .result) (c .moved .result) _ (after-location-at .location-at .result)
+          (after-location-at .before .transition-at .result) (omega (arith, in-loop .loop-test .taken, v .1)) (v .2)
+          (after-location-at .before .transition-at .ensures ∙ ap (λ (n : ℕ). transitionC s n) (after-index .index .ensures))
+          (after-location-at .location-at .ensures) (c .before .stay .ensures) (c .moved .ensures),
     )
 
 location-at-requires-2 : tie.Need-location-at-requires-2 Inv-loop μ-loop
@@ -74,9 +89,12 @@ stay-requires-2 c κs = search needs
 
 returns : tie.Need-returns Inv-loop μ-loop
 returns c =
-    let s = c .before .before .before .before .before .before .before .args .t1 in
-    let i = c .before .before .before .loop in
-    walk-done s (i .k) (i .l) (i .zones) _ _ (c .before .location-at2 .result) (omega (arith, c .before .before .loop-test .left, i .inv .1)) (i .inv .2) (c .before .location-at2 .ensures) (c .stay2 .ensures)
+    let past-loop = c .before .before in
+    let start = past-loop .before .before .before .before .before in
+    let s = start .args .t1 in
+    let i = past-loop .before .loop in
+    walk-done s (i .k) (i .l) (i .zones) _ _ (c .before .location-at2 .result) (omega (arith, past-loop .loop-test .left, i .inv .1))
+    (i .inv .2) (c .before .location-at2 .ensures) (c .stay2 .ensures)
 
 pub walk-spec : {M : Type 1} → statement M
 walk-spec =

@@ -17,10 +17,18 @@ enum-told-2 : tie.Need-enum-told-2
 enum-told-2 c = search needs
 
 returns : tie.Need-returns
-returns c = something-is (c .before .before .before .before .args .b) (c .before .before .before .before .args .zone) (c .before .before .before .before .args .e) (c .before .before .before .system .result) (c .before .before .first .result) (c .enum-told .given .0 .0) (c .before .before .before .system .ensures) (c .before .before .first .ensures) (c .enum-told .given .1)
+returns c =
+    let after-first = c .before .before in
+    let a = after-first .before .before .args in
+    something-is (a .b) (a .zone) (a .e) (after-first .before .system .result) (after-first .first .result) (c .enum-told .given .0 .0)
+    (after-first .before .system .ensures) (after-first .first .ensures) (c .enum-told .given .1)
 
 returns-2 : tie.Need-returns-2
-returns-2 c = nothing-is (c .before .before .before .before .args .b) (c .before .before .before .before .args .zone) (c .before .before .before .before .args .e) (c .before .before .before .system .result) (c .before .before .first .result) (c .before .before .before .system .ensures) (c .before .before .first .ensures) (c .enum-told2 .given .1)
+returns-2 c =
+    let after-first = c .before .before in
+    let a = after-first .before .before .args in
+    nothing-is (a .b) (a .zone) (a .e) (after-first .before .system .result) (after-first .first .result)
+    (after-first .before .system .ensures) (after-first .first .ensures) (c .enum-told2 .given .1)
 
 pub never-spec : {M : Type 1} → statement M
 never-spec =

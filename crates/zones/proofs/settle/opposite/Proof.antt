@@ -3,7 +3,6 @@ use borrow.Author.Needs.{needs}
 use Rattle.zones.proofs.settle.opposite.Statement.{statement}
 use Rattle.zones.proofs.settle.opposite.Tie as tie
 use Rattle.zones.proofs.Steps.{opposite-of}
-use mathlib.Core.Path.{ap, sym, refl}
 use mathlib.Core.Path.{ap, sym}
 use Rattle.zones.specs.Settled.{exprIn}
 

@@ -3,7 +3,6 @@ use borrow.Author.Needs.{needs}
 use Rattle.zones.proofs.settle.settled.Statement.{statement}
 use Rattle.zones.proofs.settle.settled.Tie as tie
 use Rattle.zones.specs.Settled.{settledC}
-use Rattle.expr.specs.declared.bound.Test.{Test}
 use mathlib.Core.Path.{_∙_, ap, sym}
 
 enum-told : tie.Need-enum-told
@@ -28,7 +27,10 @@ returns-2 : tie.Need-returns-2
 returns-2 c = ap (settledC (c .before .before .args .b) (c .before .before .args .zone)) (sym (c .enum-told2 .given .1))
 
 returns-3 : tie.Need-returns-3
-returns-3 c = c .on .ensures ∙ ap (settledC (c .before .before .before .before .args .b) (c .before .before .before .before .args .zone)) (sym (c .before .before .test .given .1))
+returns-3 c =
+    let matched = c .before .before in
+    let a = matched .before .before .args in
+    c .on .ensures ∙ ap (settledC (a .b) (a .zone)) (sym (matched .test .given .1))
 
 returns-4 : tie.Need-returns-4
 returns-4 c = ap (settledC (c .before .before .args .b) (c .before .before .args .zone)) (sym (c .enum-told3 .given .1))

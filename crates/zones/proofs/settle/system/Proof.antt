@@ -1,16 +1,16 @@
 -- The loop's invariant: the first i expressions are copied.
 use Rattle.zones.proofs.settle.system.Statement.{statement}
 use Rattle.zones.proofs.settle.system.Tie as tie
-use Prim.Native.Nat.{ℕ, _≤_, _-_}
-use lib.ListN.{length, take, length-set}
-use mathlib.Core.Path.{_≡_, refl, sym, _∙_}
+use Prim.Native.Nat.{_≤_, _-_}
+use lib.ListN.{length, take, length-set, length-map}
+use mathlib.Core.Path.{_≡_, refl, _∙_}
 use native.Mathlib.Omega.{arith}
 use Rattle.zones.proofs.Steps.{system-turn, system-done}
 use borrow.Author.Needs.{needs}
-use lib.ListN.{length, take, length-set, length-map}
 
 abbrev Inv-loop : tie.InvT-loop
-Inv-loop e zone n list₀ i₀ list i = (n ≤ 24) × (i ≤ n) × (length list ≡ 25) × (length (zone .ineqs) ≡ 24) × (take i list ≡ take i (zone .ineqs))
+Inv-loop e zone n list₀ i₀ list i =
+    (n ≤ 24) × (i ≤ n) × (length list ≡ 25) × (length (zone .ineqs) ≡ 24) × (take i list ≡ take i (zone .ineqs))
 
 abbrev μ-loop : tie.MeasureT-loop
 μ-loop e zone n list₀ i₀ list i = n - i
@@ -43,8 +43,13 @@ loop-less c = omega (arith, c .before .loop-test .taken)
 
 loop-again : tie.Need-loop-again Inv-loop μ-loop
 loop-again c =
-    let v = c .before .before .loop .inv in
-    (v .0, omega arith, length-set (c .before .before .loop .list) (c .before .before .loop .i) _ ∙ v .2, v .3, system-turn (c .before .before .loop .list) _ (c .before .before .loop .i) _ (omega (arith, v .2)) (omega (arith, v .3)) (v .4))
+    let v = c .before .before .loop .inv in (
+      v .0,
+      omega arith,
+      length-set (c .before .before .loop .list) (c .before .before .loop .i) _ ∙ v .2,
+      v .3,
+      system-turn (c .before .before .loop .list) _ (c .before .before .loop .i) _ (omega (arith, v .2)) (omega (arith, v .3)) (v .4),
+    )
 
 mul-list-2 : tie.Need-mul-list-2 Inv-loop μ-loop
 mul-list-2 c = omega (arith, c .before .loop .inv .0)
@@ -58,7 +63,8 @@ add-t8 c = omega (arith, c .before .loop .inv .0)
 returns : tie.Need-returns Inv-loop μ-loop
 returns c =
     let v = c .before .loop .inv in
-    system-done (c .before .loop .list) _ _ (c .before .loop .i) _ _ (c .before .before .at-most .ensures) (v .3) (v .2) (v .1) (c .loop-test .left) (v .4)
+    system-done (c .before .loop .list) _ _ (c .before .loop .i) _ _ (c .before .before .at-most .ensures) (v .3) (v .2) (v .1)
+    (c .loop-test .left) (v .4)
 
 pub system-spec : {M : Type 1} → statement M
 system-spec =

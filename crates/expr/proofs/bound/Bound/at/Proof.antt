@@ -3,8 +3,8 @@ use mathlib.Core.Path.{refl, _∙_}
 use mir.Syntax.{w64}
 use mir.ValLaws.{toZ-ofZ}
 use borrow.Author.Needs.{needs}
-use Rattle.expr.specs.Limit.{atV}
-use Rattle.expr.proofs.Limits.{weight-path}
+use Rattle.expr.specs.Bounds.{atV}
+use Rattle.expr.proofs.Cases.{weight-path}
 use Rattle.expr.proofs.bound.Bound.at.Statement.{statement}
 use Rattle.expr.proofs.bound.Bound.at.Tie as tie
 

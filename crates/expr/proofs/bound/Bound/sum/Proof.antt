@@ -1,6 +1,6 @@
--- The branches are the cases of `sumB`, and `added` judges the sum.
+-- The branches are the cases of `sumB`, and `judged` judges the sum.
 use borrow.Author.Needs.{needs}
-use Rattle.expr.proofs.Limits.{sum-left, sum-right, sum-is, sum-wide}
+use Rattle.expr.proofs.Cases.{sum-left, sum-right, sum-is, sum-wide}
 use Rattle.expr.proofs.bound.Bound.sum.Statement.{statement}
 use Rattle.expr.proofs.bound.Bound.sum.Tie as tie
 
@@ -10,11 +10,11 @@ returns c = sum-left (c .before .args .self) (c .before .args .other) (c .if1 .t
 returns-2 : tie.Need-returns-2
 returns-2 c = sum-right (c .before .before .args .self) (c .before .before .args .other) (c .before .if1 .left) (c .if2 .taken)
 
-either-requires : tie.Need-either-requires
-either-requires c κs = search needs
+plus-requires : tie.Need-plus-requires
+plus-requires c κs = search needs
 
-added-requires : tie.Need-added-requires
-added-requires c κs = search needs
+judged-requires : tie.Need-judged-requires
+judged-requires c κs = search needs
 
 enum-known-judged : tie.Need-enum-known-judged
 enum-known-judged c = search needs
@@ -24,13 +24,22 @@ enum-told c = search needs
 
 returns-3 : tie.Need-returns-3
 returns-3 c =
-    let a = c .before .before .before .before .before .before .before .args in
-    sum-is (a .self) (a .other) _ _ _ (c .before .before .before .before .before .before .if1 .left) (c .before .before .before .before .before .if2 .left) (c .before .before .before .before .either .ensures) (c .before .before .before .added .ensures) (c .before .judged .given .1)
+    let told = c .before .before .before in
+    let judged = told .before .before in
+    let tested = judged .before .before in
+    let a = tested .before .before .args in
+    sum-is (a .self) (a .other) (tested .before .if1 .left) (tested .if2 .left) _ (judged .before .plus .ensures) _
+    (judged .judged .ensures)
+    _ (told .judged2 .given .1)
 
 returns-4 : tie.Need-returns-4
 returns-4 c =
-    let a = c .before .before .before .before .before .before .args in
-    sum-wide (a .self) (a .other) _ (c .before .before .before .before .before .if1 .left) (c .before .before .before .before .if2 .left) (c .before .before .added .ensures) (c .enum-told .given .1)
+    let judged = c .before .before in
+    let tested = judged .before .before in
+    let a = tested .before .before .args in
+    sum-wide (a .self) (a .other) (tested .before .if1 .left) (tested .if2 .left) _ (judged .before .plus .ensures) _
+    (judged .judged .ensures)
+    (c .enum-told .given .1)
 
 pub sum-spec : {M : Type 1} → statement M
 sum-spec =
@@ -38,8 +47,8 @@ sum-spec =
     (tie.spec
     returns
     returns-2
-    either-requires
-    added-requires
+    plus-requires
+    judged-requires
     enum-known-judged
     enum-told
     returns-3

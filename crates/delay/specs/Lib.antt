@@ -1,0 +1,2 @@
+-- What the code does, step by step.
+pub mod Delayed

@@ -1,0 +1,4 @@
+-- What the proofs cite.
+mod Flipped
+mod Residue
+mod Sign

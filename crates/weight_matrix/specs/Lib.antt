@@ -1,0 +1,5 @@
+-- What is read first: Records, the code's rows of weights. Tables is what the code does to a matrix, step by step: a guard here, a wait and
+-- resets in crate weight_delay.
+pub mod Laws
+pub mod Records
+pub mod Tables

@@ -1,0 +1,117 @@
+// Matrices of weights, five rows of five, by value, and Sweep's rules for a guard. A void matrix is marked by a strict zero at (0, 0).
+use weight::Weight;
+ghost use mathlib.Core.Path.{_≡_};
+ghost use Prim.Native.Nat.{_<_};
+ghost use Rattle.weight_matrix.specs.Tables.{voidTable, isVoid, limitedEntry, limitedRow, limitedLine, limitedTable, guardedTable};
+
+// The void matrix.
+fn void() -> [[Weight; 5]; 5]
+    ensures { λ r. ⌜ r ≡ voidTable ⌝ }
+{
+    let mut m = [[Weight::ZERO; 5]; 5];
+    m[0][0] = Weight {
+        none: false,
+        strict: true,
+        value: 0,
+    };
+    m
+}
+
+// Whether m is void.
+pub fn is_void(m: [[Weight; 5]; 5]) -> bool
+    ensures { λ r. ⌜ r ≡ isVoid m ⌝ }
+{
+    let x = m[0][0];
+    x.strict
+}
+
+// An entry: s + add where that is tighter than it was, unless it lies past the clocks.
+fn limited_entry(past: bool, was: Weight, s: Weight, add: Weight) -> Weight
+    ensures { λ r. ⌜ r ≡ limitedEntry past was s add ⌝ }
+{
+    if past {
+        return was;
+    }
+    let via = s.sum(add);
+    if via.tighter(was) {
+        return via;
+    }
+    was
+}
+
+// A row: each entry takes s + add where that is tighter.
+fn limited_row(clocks: usize, old: [Weight; 5], s: Weight, add: [Weight; 5]) -> [Weight; 5]
+    ensures { λ r. ⌜ r ≡ limitedRow clocks old s add ⌝ }
+{
+    [
+        limited_entry(false, old[0], s, add[0]),
+        limited_entry(clocks < 1, old[1], s, add[1]),
+        limited_entry(clocks < 2, old[2], s, add[2]),
+        limited_entry(clocks < 3, old[3], s, add[3]),
+        limited_entry(clocks < 4, old[4], s, add[4]),
+    ]
+}
+
+// Row k after the guard i - j with the weight e: (k, l) takes (k, i) + e + (j, l) where that is tighter. A row past the clocks stays.
+fn limited_line(
+    m: [[Weight; 5]; 5],
+    clocks: usize,
+    k: usize,
+    i: usize,
+    j: usize,
+    e: Weight,
+) -> [Weight; 5]
+    requires { ⌜ (k < 5) × ((i < 5) × (j < 5)) ⌝ }
+    ensures { λ r. ⌜ r ≡ limitedLine m clocks k i j e ⌝ }
+{
+    let old = m[k];
+    if clocks < k {
+        return old;
+    }
+    let first = old[i];
+    let add = m[j];
+    limited_row(clocks, old, first.sum(e), add)
+}
+
+// The matrix after the guard i - j with the weight e, which is tighter than (i, j): all old entries are read.
+fn limited(m: [[Weight; 5]; 5], clocks: usize, i: usize, j: usize, e: Weight) -> [[Weight; 5]; 5]
+    requires { ⌜ (i < 5) × (j < 5) ⌝ }
+    ensures { λ r. ⌜ r ≡ limitedTable m clocks i j e ⌝ }
+{
+    [
+        limited_line(m, clocks, 0, i, j, e),
+        limited_line(m, clocks, 1, i, j, e),
+        limited_line(m, clocks, 2, i, j, e),
+        limited_line(m, clocks, 3, i, j, e),
+        limited_line(m, clocks, 4, i, j, e),
+    ]
+}
+
+// One guard i - j with the weight e: void if e + (j, i) is tighter than zero; else m, if e isn't tighter than (i, j); else limited.
+pub fn guarded(
+    m: [[Weight; 5]; 5],
+    clocks: usize,
+    i: usize,
+    j: usize,
+    e: Weight,
+) -> [[Weight; 5]; 5]
+    ensures { λ r. ⌜ r ≡ guardedTable m clocks i j e ⌝ }
+{
+    if 4 < i {
+        return m;
+    }
+    if 4 < j {
+        return m;
+    }
+    if is_void(m) {
+        return m;
+    }
+    let back = m[j][i];
+    if e.sum(back).tighter(Weight::ZERO) {
+        return void();
+    }
+    if e.tighter(m[i][j]) {
+        return limited(m, clocks, i, j, e);
+    }
+    m
+}

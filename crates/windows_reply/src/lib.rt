@@ -1,0 +1,111 @@
+// What Windows works out for a file: the answer, and the zones by value.
+use answers::file::Checked;
+use answers::windows::Answer;
+use answers::windows::Counts;
+use expr::Ranges;
+use sheet::Sheet;
+use zones::Zone;
+use zones::Zones;
+ghost use mathlib.Core.Path.{_≡_};
+ghost use Prim.Native.Nat.{_≤_};
+ghost use lib.ListN.{take};
+ghost use Rattle.search.specs.Valuations.{widths};
+ghost use Rattle.expr.specs.Three.{rangeList};
+ghost use Rattle.sheet.specs.WellFormed.{WellFormed};
+ghost use Rattle.windows_reply.specs.Reply.{sheetReply, replyOf};
+ghost use Rattle.windows_reply.specs.Work.{shown, shownOf, blankShown, refusedBy, listedC};
+ghost use Rattle.coded.specs.CodedRead.{keptC};
+
+// What is worked out: the answer, how many pieces, and their zones in order, blank past them.
+pub struct Worked {
+    pub answer: Answer,
+    pub pieces: usize,
+    pub zones: [Zone; 32],
+}
+
+// An answer without zones.
+fn blank(answer: Answer) -> Worked
+    ensures { λ r. ⌜ shown r ≡ blankShown answer ⌝ }
+{
+    Worked {
+        answer,
+        pieces: 0,
+        zones: [Zone::BLANK; 32],
+    }
+}
+
+// Refusal 7, 8 or 9 at a visit.
+fn refused(number: usize, visit: usize) -> Answer
+    ensures { λ r. ⌜ r ≡ refusedBy number visit ⌝ }
+{
+    if number == 7 {
+        return Answer::Zones(visit);
+    }
+    if number == 8 {
+        return Answer::Inequalities(visit);
+    }
+    Answer::Numbers(visit)
+}
+
+// How many valuations the zones hold.
+fn kept(b: Ranges, zones: Zones) -> usize
+    requires { ⌜ widths (rangeList b) ≤ 262144 ⌝ }
+    ensures { λ n. ⌜ n ≡ keptC b (take (zones .count) (zones .list)) ⌝ }
+{
+    let n = numbers::at_most(zones.count, 32);
+    let mut total = 0;
+    let mut i = 0;
+    while i < n {
+        let z = zones.list[i];
+        total += zones::held(b, z);
+        i += 1;
+    }
+    total
+}
+
+// The reply for the zones that a route leaves, or for their refusal.
+fn listed(b: Ranges, zones: Zones) -> Worked
+    requires { ⌜ widths (rangeList b) ≤ 262144 ⌝ }
+    ensures { λ r. ⌜ shown r ≡ listedC b zones ⌝ }
+{
+    if 0 < zones.refusal {
+        return blank(refused(zones.refusal, zones.visit));
+    }
+    let kept = kept(b, zones);
+    let all = zones::held(b, Zone::BLANK);
+    let list = zones.list;
+    Worked {
+        answer: Answer::Listed(Counts {
+            pieces: zones.count,
+            kept,
+            cut: numbers::less(all, kept),
+        }),
+        pieces: zones.count,
+        zones: list,
+    }
+}
+
+// The reply for a sheet.
+fn cut_sheet(s: Sheet) -> Worked
+    requires { ⌜ WellFormed s ⌝ }
+    ensures { λ r. ⌜ shown r ≡ shownOf (sheetReply s) ⌝ }
+{
+    let b = s.ranges;
+    listed(b, windows_route::walk(s))
+}
+
+// The reply for a file and a table of so many places.
+pub fn work_for(file: &[u8], places: usize) -> Worked
+    ensures { λ r. ⌜ shown r ≡ shownOf (replyOf (now (file .entry)) places) ⌝ }
+{
+    if places < 32 {
+        return blank(Answer::Small);
+    }
+    let reading = reading::read(file);
+    let checked = reading.checked;
+    let s = reading.sheet;
+    match checked {
+        Checked::Fine => cut_sheet(s),
+        Checked::Refused(refusal) => blank(Answer::Refused(refusal)),
+    }
+}

@@ -1,0 +1,56 @@
+-- The whole route, on the code's records: stays and transitions, their guards in file order.
+use mathlib.Core.List.{List, [], _∷_}
+use mathlib.Core.Bool.{cond}
+use Prim.Native.Nat.{ℕ, suc}
+use lib.Dec.{eqb}
+use lib.ListN.{set, take, replicate}
+use Rattle.expr.specs.Three.{zeroBound, zeroExpr}
+use Rattle.expr.specs.declared.range.Ranges.{Ranges}
+use Rattle.guards.specs.declared.Guard.{Guard}
+use Rattle.automaton.specs.declared.Location.{Location}
+use Rattle.automaton.specs.declared.Transition.{Transition}
+use Rattle.sheet.specs.declared.Sheet.{Sheet}
+use Rattle.sheet.specs.Lookup.{locationC, transitionC}
+use Rattle.zones.specs.Zone.{blankZone}
+use Rattle.zones.specs.declared.zone.Zones.{Zones}
+use Rattle.split.specs.Guarded.{guardedC}
+use Rattle.delay.specs.Delayed.{delayedAll, resetsAll}
+
+-- the visit, unless it was refused before
+unfoldable pub atVisit : ℕ → Zones → Zones
+atVisit k zs = cond (eqb (zs .refusal) 0) (record { refusal = zs .refusal; visit = k; count = zs .count; list = zs .list }) zs
+
+-- guards in file order
+unfoldable pub guardsAll : Ranges → ℕ → List Guard → Zones → Zones
+guardsAll b w [] zs = zs
+guardsAll b w (g ∷ gs) zs = guardsAll b w gs (guardedC b w g zs)
+
+-- a stay: a wait, then the location's invariants
+unfoldable pub stayAll : Ranges → ℕ → Location → Zones → Zones
+stayAll b w here zs = guardsAll b w (take (here .count) (here .guards)) (delayedAll w zs)
+
+-- a transition: its guards, which belong to the visit before it, then its resets
+unfoldable pub moveAll : Ranges → ℕ → ℕ → Transition → Zones → Zones
+moveAll b w visit t zs = atVisit (suc visit) (resetsAll w (t .resets) (guardsAll b w (take (t .count) (t .guards)) zs))
+
+-- from location l along the rest of a route
+unfoldable pub walkAll : Sheet → ℕ → ℕ → List ℕ → Zones → Zones
+walkAll s visit l [] zs = stayAll (s .ranges) (s .clocks) (locationC s l) zs
+walkAll s visit l (n ∷ ns) zs =
+    walkAll s (suc visit) (transitionC s n .to) ns
+    (moveAll (s .ranges) (s .clocks) visit (transitionC s n) (stayAll (s .ranges) (s .clocks) (locationC s l) zs))
+
+-- one zone without inequalities, all entries zero, not strict
+unfoldable pub startAll : Zones
+startAll =
+    record {
+      refusal = 0;
+      visit = 0;
+      count = 1;
+      list = set (replicate 32 blankZone) 0
+          (record { count = 0; ineqs = replicate 24 zeroExpr; bounds = replicate 25 zeroBound });
+    }
+
+-- the whole route
+unfoldable pub zonesAll : Sheet → Zones
+zonesAll s = walkAll s 0 0 (take (s .moves) (s .route)) startAll
