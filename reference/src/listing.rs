@@ -1,6 +1,6 @@
 //! The text that the program prints of a sheet (paper 01, "Sheets to try").
 
-use crate::bound::{Bound, Expr};
+use crate::bound::Bound;
 use crate::sheet::{read, Refusal};
 use crate::windows::{windows, Windows, Zone, PLACES};
 
@@ -23,9 +23,9 @@ fn listed(found: &Windows, clocks: usize) -> String {
     text
 }
 
-/// The inequalities of a zone, and the bounds of clock 0 and the sheet's clocks.
+/// The first valuation of a zone, its inequalities, and the bounds of clock 0 and the sheet's clocks.
 fn listed_zone(zone: &Zone, clocks: usize) -> String {
-    let mut text = String::new();
+    let mut text = format!("first {}\n", numbers(zone.first));
     for &e in &zone.inequalities {
         text += &format!("ineq {}\n", numbers(e));
     }
@@ -48,15 +48,17 @@ fn bound_words(bound: Bound) -> String {
     }
 }
 
-/// The constant and the three coefficients.
-fn numbers(e: Expr) -> String {
-    e.map(|x| x.to_string()).join(" ")
+/// Numbers with a space between two: a valuation, or the constant and the three coefficients.
+fn numbers<const N: usize>(list: [i64; N]) -> String {
+    list.map(|x| x.to_string()).join(" ")
 }
 
 #[cfg(test)]
 mod tests {
     use super::*;
-    use crate::samples::sheet_a;
+    use crate::rows;
+    use crate::samples::{at_most, range, sheet_a};
+    use crate::sheet::Sheet;
     use crate::writer;
 
     /// Sheet A is listed as in the paper.
@@ -65,6 +67,7 @@ mod tests {
         let text = "\
 pieces 1 kept 8 cut 3
 piece 0
+first 3 0 0
 ineq -3 1 0 0
 bound 0 0 le 0 0 0 0
 bound 0 1 le -3 0 0 0
@@ -72,6 +75,33 @@ bound 1 0 none
 bound 1 1 le 0 0 0 0
 ";
         assert_eq!(listing(&writer::file(&sheet_a())), text);
+    }
+
+    /// What is listed of a sheet's zones as their first valuations: the line after each `piece`.
+    fn firsts(sheet: &Sheet) -> Vec<String> {
+        let text = listing(&writer::file(sheet));
+        let lines: Vec<&str> = text.lines().collect();
+        let of_zones = lines.windows(2).filter(|two| two[0].starts_with("piece "));
+        of_zones.map(|two| two[1].to_string()).collect()
+    }
+
+    /// A zone's first valuation has three numbers: 0 for a parameter that lacks, and a sign where one is negative. It
+    /// need not have the least number of each parameter by itself.
+    #[test]
+    fn first_valuations_are_listed() {
+        assert_eq!(firsts(&rows::no_limits()), ["first 0 0 0"]);
+        assert_eq!(firsts(&rows::below_zero()), [""; 0]);
+        assert_eq!(
+            firsts(&rows::from_minus_p()),
+            ["first -5 0 0", "first 0 0 0"]
+        );
+        assert_eq!(firsts(&rows::p_then_q()), ["first 1 0 0", "first 0 0 0"]);
+        let sum = [at_most(1, 0, -5, [1, 1, 0])];
+        let small = rows::one_stay(&[range(0, 3); 2], &sum);
+        assert_eq!(firsts(&small), ["first 2 3 0"]);
+        let turned = [at_most(1, 0, -3, [-1, 2, 1])];
+        let below = rows::one_stay(&[range(-9, 9), range(-8, 5), range(-6, 4)], &turned);
+        assert_eq!(firsts(&below), ["first -9 -5 4"]);
     }
 
     /// With 1 - 0 < p and the move's guard < -3, strict bounds are listed as such, and a file that is
@@ -85,6 +115,7 @@ bound 1 1 le 0 0 0 0
         let wanted = "\
 pieces 1 kept 7 cut 4
 piece 0
+first 4 0 0
 ineq -1 1 0 0
 ineq -4 1 0 0
 bound 0 0 le 0 0 0 0

@@ -5,7 +5,7 @@
 //!
 //! The sheets of the paper are not among them. They stand in the folder `sheets`, beside their texts.
 
-use crate::cuttings::{drawn, edges};
+use crate::cuttings::{self, drawn, edges, firsts};
 use crate::family::Family;
 use crate::listing::listing;
 use crate::random::Random;
@@ -30,9 +30,10 @@ pub struct Case {
 pub fn cases() -> Vec<Case> {
     let mut list = refused_files();
     list.extend(far_places());
-    list.extend(at_limits());
+    list.extend(built(edges::cases()));
     list.push(largest_numbers());
     list.extend(some_of_each());
+    list.extend(built(firsts::cases()));
     let mut seen = HashSet::new();
     list.retain(|case| seen.insert(case.file.clone()));
     list
@@ -89,13 +90,14 @@ fn far_places() -> Vec<Case> {
     ]
 }
 
-/// Refusals 7 and 8, 32 zones and none: the sheets that are built to end at a limit or past it.
-fn at_limits() -> Vec<Case> {
-    let one = |case: crate::cuttings::Case| Case {
+/// Sheets that are built for Windows' vectors: those that end at a limit or past it (refusals 7 and 8, 32 zones
+/// and none), and those that are built for a first valuation.
+fn built(cases: Vec<cuttings::Case>) -> Vec<Case> {
+    let one = |case: cuttings::Case| Case {
         name: case.name,
         file: case.file,
     };
-    edges::cases().into_iter().map(one).collect()
+    cases.into_iter().map(one).collect()
 }
 
 /// A clock that is never reset beside one that each of 32 moves resets, with bounds as far from zero as they

@@ -7,7 +7,7 @@ use crate::sheet::{Parameter, MOST_PARAMETERS};
 /// Three numbers, one for each parameter.
 pub type Valuation = [i64; MOST_PARAMETERS];
 
-/// All the valuations of those parameters.
+/// All the valuations of those parameters, in order: parameter 1 is compared first, then 2, then 3.
 pub fn all(parameters: &[Parameter]) -> Vec<Valuation> {
     products(parameters, |p| (p.lowest..=p.highest).collect())
 }
@@ -73,4 +73,22 @@ fn past(parameter: Option<&Parameter>) -> Vec<i64> {
         i64::MIN,
         i64::MAX,
     ]
+}
+
+#[cfg(test)]
+mod tests {
+    use super::*;
+    use crate::samples::range;
+
+    /// All valuations are there once and in order, the last parameter changing fastest; a parameter that lacks is 0.
+    #[test]
+    fn all_in_order() {
+        assert_eq!(all(&[]), [[0, 0, 0]]);
+        let two = all(&[range(-2, -1), range(7, 9)]);
+        let rows = [[-2, 7], [-2, 8], [-2, 9], [-1, 7], [-1, 8], [-1, 9]];
+        assert_eq!(two, rows.map(|[p, q]| [p, q, 0]));
+        let three = all(&[range(-3, 5), range(0, 0), range(-1, 63)]);
+        assert_eq!(three.len(), 9 * 65);
+        assert!(three.windows(2).all(|pair| pair[0] < pair[1]));
+    }
 }

@@ -28,8 +28,9 @@ def sheet_data(given):
 
 def listing_data(found, windows, names):
     return {"kept": found.kept, "cut": found.cut,
-            "pieces": [{"settings": window.settings, "where": inequalities_words(window.where, names.allowance),
-                        "simplified": window.where, "inequalities": window.piece.inequalities,
+            "pieces": [{"settings": window.settings, "first": setting_data(window.piece.first, names),
+                        "where": inequalities_words(window.where, names.allowance), "simplified": window.where,
+                        "inequalities": window.piece.inequalities,
                         "bounds": [[bound and {"strict": bound.strict, "numbers": bound.numbers} for bound in row]
                                    for row in window.piece.bounds]} for window in windows],
             "groups": [[window.number for window in group] for group in grouped(windows)]}

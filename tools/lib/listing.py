@@ -8,6 +8,7 @@ from faults import plain
 COUNT, NUMBER = "([0-9]{1,9})", "(-?[0-9]{1,9})"  # no number of a listing is longer
 REFUSED = re.compile(f"refused {COUNT} place {COUNT}")
 COUNTS = re.compile(f"pieces {COUNT} kept {COUNT} cut {COUNT}")
+FIRST = re.compile(f"first {NUMBER} {NUMBER} {NUMBER}")
 INEQUALITY = re.compile(f"ineq {NUMBER} {NUMBER} {NUMBER} {NUMBER}")
 BOUND = re.compile(f"bound ([0-9]) ([0-9]) (?:(none)|(le|lt) {NUMBER} {NUMBER} {NUMBER} {NUMBER})")
 
@@ -27,6 +28,7 @@ class Bound(NamedTuple):
 
 
 class Piece(NamedTuple):
+    first: tuple  # its first setting: three numbers, 0 for an allowance that the sheet lacks
     inequalities: tuple  # expressions that are at least 0
     bounds: tuple  # entry (i, j) bounds watch i - watch j; None is the bound none
 
@@ -84,15 +86,16 @@ class Lines:
 
 
 def piece(lines, number, watches):
-    """One piece: its number, its inequalities, and its bounds in row order."""
+    """One piece: its number, its first setting, its inequalities, and its bounds in row order."""
     lines.need(re.compile(f"piece {number}"), f"'piece {number}'")
+    first = tuple(map(int, lines.need(FIRST, "'first' and its three numbers")))
     inequalities = []
     found = lines.has(INEQUALITY)
     while found:
         inequalities.append(tuple(map(int, found)))
         found = lines.has(INEQUALITY)
     side = range(watches + 1)
-    return Piece(tuple(inequalities), tuple(tuple(bound(lines, i, j, watches) for j in side) for i in side))
+    return Piece(first, tuple(inequalities), tuple(tuple(bound(lines, i, j, watches) for j in side) for i in side))
 
 
 def bound(lines, i, j, watches):

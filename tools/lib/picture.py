@@ -1,4 +1,5 @@
-"""Pieces as a picture: one colour a piece, settings without a run hatched. svg.py and png.py draw its shapes.
+"""Pieces as a picture: one colour a piece, its first setting framed, settings without a run hatched. svg.py and png.py draw
+its shapes.
 
 One allowance gives a strip, two give a chart, three a chart for each value of the third, none a line of text.
 Each setting is a cell. The panel is hatched first and the regions are laid over it, each with a rectangle for
@@ -9,7 +10,7 @@ import textwrap
 from typing import NamedTuple
 
 import settings
-from shapes import CUT, NONE, Box, Cells, Grid, Picture, Tick, Words
+from shapes import CUT, HATCH, NONE, PAPER, Box, Cells, Grid, Picture, Tick, Words
 from wording import inequalities_words, plural
 
 # Okabe and Ito's colours, which people with any colour vision can tell apart, and an indigo
@@ -25,6 +26,7 @@ NUMBERS = 22  # the height of the numbers below a panel
 NAME = 18  # the height of an allowance's name at its axis
 GAP = 14  # between panels
 HEAD = 20  # the height of a panel's own title
+FRAME = 2  # the white round the cell of a first setting, inside a dark edge
 LONGEST_TITLE, LONGEST_HEADING = 40, 110
 NO_BREAK = "\u00a0"
 
@@ -47,17 +49,18 @@ class Scale(NamedTuple):
 
 
 class Region(NamedTuple):
-    """What gets one colour: its label in the charts, its words in the legend, and its settings as rows (value of the
-    second allowance, of the third, low and high of the first)."""
+    """What gets one colour: its label in the charts, its words in the legend, its settings as rows (value of the second
+    allowance, of the third, low and high of the first), and the first of them if it is to be framed."""
 
     label: str
     words: str
     rows: list
+    first: tuple = None
 
 
 class Panel(NamedTuple):
-    """One chart: where it stands, the room for its name across, its axes, and the cells of each region as rows
-    (value up, low, high across)."""
+    """One chart: where it stands, the room for its name across, its axes, the cells of each region as rows (value up, low,
+    high across), and such a row of one cell for the first setting of each region that has it there."""
 
     x: int
     y: int
@@ -65,11 +68,12 @@ class Panel(NamedTuple):
     across: Scale
     up: Scale
     rows: list
+    firsts: dict
 
 
 def piece_regions(windows, ranges, names):
     """A region for each piece."""
-    return [Region(str(window.number), key_text(window, names), list(settings.rows(window.where, ranges)))
+    return [Region(str(window.number), key_text(window, names), list(settings.rows(window.where, ranges)), window.piece.first)
             for window in windows]
 
 
@@ -81,7 +85,7 @@ def draw(regions, cut, ranges, names, heading):
         return Picture(width, height, heading, [Words(MARGIN, MARGIN + 12, heading, heading=True)])
     parts, width, bottom = charts(regions, ranges, names)
     width = max(width, LEAST_WIDTH, 2 * MARGIN + 9 * len(heading))
-    key, height = legend(regions, cut, bottom + GAP, width)
+    key, height = legend(keys(regions, cut, names), bottom + GAP, width)
     top = Words(MARGIN, MARGIN + 10, heading, heading=True)
     return Picture(width, height, heading, [top, *parts, *key])
 
@@ -118,7 +122,7 @@ def charts(regions, ranges, names):
     parts = []
     for k, (value, title) in enumerate(titles.items()):
         x, y = left + k % columns * step_x, top + k // columns * step_y + head
-        panel = Panel(x, y, room, across, up, [slices.get(value, []) for slices in by_slice])
+        panel = Panel(x, y, room, across, up, [slices.get(value, []) for slices in by_slice], firsts_of(regions, value))
         parts += chart(panel, labels, k % columns == 0 and len(ranges) > 1, k + columns >= len(titles))
         parts += [Words(x, y - 6, title)] if title else []
     bottom = top + -(-len(titles) // columns) * step_y + NUMBERS + NAME
@@ -162,15 +166,20 @@ def slices_of(region):
     return slices
 
 
+def firsts_of(regions, value):
+    """By the number of a region, its first setting as a row, where the third allowance has that value there."""
+    firsts = {number: region.first for number, region in enumerate(regions) if region.first}
+    return {number: (q, p, p) for number, (p, q, r) in firsts.items() if r == value}
+
+
 def chart(panel, labels, numbers_up, numbers_across):
-    """One panel: the hatched box, the regions with their labels, lines between cells, and the axes."""
+    """One panel: the hatched box, the regions, lines between cells, the first settings, the regions' labels, and the axes."""
     box = panel.x, panel.y, panel.across.length(), panel.up.length()
     parts = [Box(*box, CUT, role="cut")]
     parts += [cells(panel, number, rows) for number, rows in enumerate(panel.rows) if rows]
-    parts += cell_lines(panel)
+    parts += [*cell_lines(panel), Box(*box, NONE, edge=True), *first_cells(panel)]
     for number, (text, rows) in enumerate(zip(labels, panel.rows)):
         parts += label(panel, number, text, rows) if text else []
-    parts.append(Box(*box, NONE, edge=True))
     if numbers_across:
         parts += axis_across(panel)
     if numbers_up:
@@ -188,6 +197,17 @@ def row_place(panel, row):
     value, low, high = row
     return (panel.x + (low - panel.across.low) * panel.across.cell,
             panel.y + (panel.up.high - value) * panel.up.cell, (high - low + 1) * panel.across.cell, panel.up.cell)
+
+
+def first_cells(panel):
+    """The cells of first settings in their frames; no frame lies on another one's cell."""
+    cells_there = [Box(*row_place(panel, row), colour(number), role="first") for number, row in panel.firsts.items()]
+    return [*(frame(cell, "frame") for cell in cells_there), *cells_there]
+
+
+def frame(cell, role):
+    """What lies round a cell, and can be seen on every colour."""
+    return Box(cell.x - FRAME, cell.y - FRAME, cell.width + 2 * FRAME, cell.height + 2 * FRAME, PAPER, edge=True, role=role)
 
 
 def cell_lines(panel):
@@ -266,20 +286,35 @@ def fitted(name, room):
 # Legend and colours
 
 
-def legend(regions, cut, top, width):
-    """What the colours mean, a line or more for each region, and where that ends."""
+def keys(regions, cut, names):
+    """What each colour means, and the frame, as (fill or None, words)."""
     entries = [(colour(number), region.words) for number, region in enumerate(regions)]
     if cut:
         entries.append((CUT, f"no run, {plural(cut, 'setting')}"))
+    if any(region.first for region in regions):
+        entries.append((None, f"where to start: of each piece the setting with the least {', then '.join(names.allowance)}"))
+    return entries
+
+
+def legend(entries, top, width):
+    """A line or more for each entry, and where that ends."""
     parts = []
     y = top
     for fill, text in entries:
-        parts.append(Box(MARGIN, y, 13, 13, fill, edge=True, role="key"))
+        parts += swatch(fill, y)
         for line in textwrap.wrap(text, (width - 2 * MARGIN - 22) // LETTER, break_on_hyphens=False):
             parts.append(Words(MARGIN + 22, y + 11, line.replace(NO_BREAK, " ")))
             y += LINE
         y += 4
     return parts, y + MARGIN
+
+
+def swatch(fill, y):
+    """A box of a colour, or the frame round a grey cell."""
+    if fill:
+        return [Box(MARGIN, y, 13, 13, fill, edge=True, role="key")]
+    cell = Box(MARGIN + 4, y + 4, 5, 5, HATCH[2])
+    return [frame(cell, "key"), cell]
 
 
 def key_text(window, names):

@@ -31,6 +31,7 @@ class Canvas:
         self.width = width
         self.height = height
         self.colours = []
+        self.mixes = {}  # by colour, the lighter one
         self.rows = [bytearray([self.number(PAPER)]) * width for _ in range(height)]
 
     def number(self, colour):
@@ -63,8 +64,11 @@ class Canvas:
             row[left:right] = line[start:start + right - left]
 
     def lighter(self, part):
-        """For each colour the number of its mix with that part of the paper's, as a table."""
-        numbers = bytes(self.number(mixed(colour, PAPER, part)) for colour in list(self.colours))
+        """For each colour the number of its mix with that part of the paper's, as a table. A mix stays as it is, so that there
+        are at most twice as many colours."""
+        made = set(self.mixes.values())
+        self.mixes.update((colour, mixed(colour, PAPER, part)) for colour in self.colours if colour not in made)
+        numbers = bytes(self.number(self.mixes.get(colour, colour)) for colour in list(self.colours))
         return numbers + bytes(256 - len(numbers))
 
     def change(self, left, top, right, bottom, table):

@@ -28,18 +28,24 @@ def pieces_lines(windows, found, names):
 
 
 def group_lines(group, names):
-    """Which pieces a group has, and where each holds."""
+    """Which pieces a group has, where each holds, and a setting to start from."""
     if len(group) == 1:
-        return [window_words(group[0]), *where_lines(group[0], names, "  ")]
+        return [window_words(group[0]), *settings_lines(group[0], names, "  ")]
     total = sum(window.settings for window in group)
     lines = [f"pieces {listed(str(window.number) for window in group)}, {plural(total, 'setting')}, the same bounds"]
     for window in group:
-        lines += [f"  {window_words(window)}", *where_lines(window, names, "    ")]
+        lines += [f"  {window_words(window)}", *settings_lines(window, names, "    ")]
     return lines
 
 
 def window_words(window):
     return f"piece {window.number}, {plural(window.settings, 'setting')}"
+
+
+def settings_lines(window, names, indent):
+    """Where a piece holds, and its first setting, which has nothing to choose without allowances."""
+    start = [f"{indent}start from {setting_words(window.piece.first, names)}"] if names.allowance else []
+    return where_lines(window, names, indent) + start
 
 
 def where_lines(window, names, indent):

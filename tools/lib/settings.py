@@ -15,6 +15,11 @@ def count_all(ranges):
     return prod(high - low + 1 for low, high in ranges)
 
 
+def inside(setting, ranges):
+    """Each of the three numbers lies in its range."""
+    return all(low <= x <= high for x, (low, high) in zip(setting, three(ranges)))
+
+
 def holds(piece, setting):
     """A setting in the ranges meets all inequalities of the piece."""
     return all(value(e, setting) >= 0 for e in piece.inequalities)

@@ -52,13 +52,18 @@ def narrowed(sheet, setting):
 
 
 def windows_of(found, ranges):
-    """The pieces of a listing, counted. The counts must be those that the listing says."""
+    """The pieces of a listing, counted. The counts must be those that the listing says, and each piece must hold its first
+    setting."""
     windows = [Window(number, piece, settings.count(piece.inequalities, ranges), simplified(piece.inequalities, ranges))
                for number, piece in enumerate(found.pieces)]
     everything, held = settings.count_all(ranges), sum(window.settings for window in windows)
     if (found.kept + found.cut, held) != (everything, found.kept):
         raise Fault(f"the listing of Windows says {found.kept} settings with a run and {found.cut} without, and its pieces "
                     f"hold {held}; expected {everything} in all", FAILED)
+    for number, piece in enumerate(found.pieces):
+        if not (settings.inside(piece.first, ranges) and settings.holds(piece, piece.first)):
+            raise Fault(f"the listing of Windows says that {piece.first} is the first setting of piece {number}; expected one that "
+                        "the piece holds", FAILED)
     return windows
 
 

@@ -4,6 +4,8 @@ import os
 import shlex
 import subprocess
 import sys
+import tempfile
+import unittest
 from functools import lru_cache
 from pathlib import Path
 
@@ -76,6 +78,17 @@ def said(done):
     """What was said on standard error, without the notes on the programs."""
     lines = done.stderr.decode("utf-8").splitlines()
     return "\n".join(line for line in lines if "(from LISTING)" not in line and "(from SWEEP)" not in line)
+
+
+class Folder(unittest.TestCase):
+    """Tests with a folder of their own and the listing program."""
+
+    def setUp(self):
+        if not lister():
+            self.skipTest("no program that prints listings")
+        folder = tempfile.TemporaryDirectory()
+        self.addCleanup(folder.cleanup)
+        self.folder = Path(folder.name)
 
 
 # The sheets

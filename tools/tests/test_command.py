@@ -8,14 +8,11 @@ import re
 import signal
 import subprocess
 import sys
-import tempfile
 import time
-import unittest
 import xml.etree.ElementTree as ElementTree
-from pathlib import Path
 
 from records import records
-from stored import EXPECTED, ROOT, SHEETS, WINDOWS_RECORDS, environment, lister, moyanthu, said, sweeper
+from stored import EXPECTED, ROOT, SHEETS, WINDOWS_RECORDS, Folder, environment, moyanthu, said, sweeper
 
 COMMAND = [sys.executable, str(ROOT / "tools" / "moyanthu")]
 REFUSED_7 = list(records(WINDOWS_RECORDS, 1))[49]
@@ -30,15 +27,8 @@ route cure
 """
 
 
-class Folder(unittest.TestCase):
-    """Tests with a folder of their own and the listing program."""
-
-    def setUp(self):
-        if not lister():
-            self.skipTest("no program that prints listings")
-        folder = tempfile.TemporaryDirectory()
-        self.addCleanup(folder.cleanup)
-        self.folder = Path(folder.name)
+class Commands(Folder):
+    """Tests of the whole command."""
 
     def file(self, name, data):
         path = self.folder / name
@@ -56,7 +46,7 @@ class Folder(unittest.TestCase):
         return why
 
 
-class Answers(Folder):
+class Answers(Commands):
     def test_pieces(self):
         for name in ("a", "week"):
             done = moyanthu("windows", SHEETS / f"{name}.txt")
@@ -140,9 +130,13 @@ class Answers(Folder):
         self.assertEqual(data, {
             "sheet": str(SHEETS / "a.txt"), "allowances": [{"name": "p", "lowest": 0, "highest": 10}], "watches": ["since-mixing"],
             "warnings": [], "kept": 8, "cut": 3, "groups": [[0]], "status": 0, "pieces": [{
-                "settings": 8, "where": ["p ≥ 3"], "simplified": [[-3, 1, 0, 0]], "inequalities": [[-3, 1, 0, 0]],
+                "settings": 8, "first": {"p": 3}, "where": ["p ≥ 3"], "simplified": [[-3, 1, 0, 0]], "inequalities": [[-3, 1, 0, 0]],
                 "bounds": [[{"strict": False, "numbers": [0, 0, 0, 0]}, {"strict": False, "numbers": [-3, 0, 0, 0]}],
                            [None, {"strict": False, "numbers": [0, 0, 0, 0]}]]}]})
+        firsts = {name: [piece["first"] for piece in json.loads(moyanthu("windows", SHEETS / f"{name}.txt", "--json").stdout)["pieces"]]
+                  for name in ("week", "no-limits", "never")}
+        self.assertEqual(firsts["week"][1], {"green": 151, "hard": 189, "pot": 38})
+        self.assertEqual((firsts["no-limits"], firsts["never"]), ([{}], []))
         data = json.loads(moyanthu("windows", SHEETS / "week.txt", "--json", "--at", SETTING).stdout)
         self.assertEqual((data["at"][0]["piece"], data["at"][0]["room"]["green"]), (9, [90, 153]))
         data = json.loads(moyanthu("windows", SHEETS / "a.txt", "--json", "--schedule", "p=5").stdout)
@@ -168,7 +162,7 @@ class Answers(Folder):
                 self.assertIn(wanted, done.stdout)
 
 
-class Use(Folder):
+class Use(Commands):
     def test_bad_use(self):
         self.fails(3, "required")
         self.fails(3, "invalid choice", "window", SHEETS / "a.txt")
@@ -199,7 +193,7 @@ class Use(Folder):
         self.assertIn(b"standard input is a terminal", done.stderr)
 
 
-class InputAndOutput(Folder):
+class InputAndOutput(Commands):
     def shell(self, script, *words):
         """The command by a shell script, as "$@"."""
         return subprocess.run(["bash", "-c", script, "bash", *COMMAND, *map(str, words)], stdin=subprocess.DEVNULL,
@@ -306,7 +300,8 @@ class InputAndOutput(Folder):
         for script, words in (("exit 3", "status 3; it printed nothing"), ("echo listing: read: bad >&2", "listing: read: bad"),
                               ("echo pieces 1 kept 1 cut 0", "line 2: the listing ends"), ("printf '\\033[31m'", "\\x1b[31m"),
                               (f"echo refused {'7' * 5000} place 0", "line 1: found 'refused 7777"),
-                              ("echo pieces 0 kept 0 cut 5", "expected 11 in all")):
+                              ("echo pieces 0 kept 0 cut 5", "expected 11 in all"),
+                              (f"sed 's/first 3/first 2/' {EXPECTED / 'a.listing'}", "(2, 0, 0) is the first setting of piece 0")):
             program = self.file("program", f"#!/bin/sh\ncat > /dev/null\n{script}\n")
             program.chmod(0o755)
             self.fails(4, words, "windows", SHEETS / "a.txt", env=environment(LISTING=str(program)))
@@ -314,7 +309,7 @@ class InputAndOutput(Folder):
         self.fails(4, "none.so", "sweep", SHEETS / "a.txt", "--at", "p=3", env=environment(SWEEP=str(self.folder / "none.so")))
 
 
-class Many(Folder):
+class Many(Commands):
     def test_a_line_for_each_in_order(self):
         bad, short = self.file("bad.txt", "watch w\n"), self.file("short.sheet", b"\x01")
         paths = [SHEETS / "week.txt", self.folder / "none", bad, short, self.file("many.sheet", REFUSED_7), SHEETS / "never.txt",
@@ -335,7 +330,7 @@ class Many(Folder):
         self.assertEqual(lines[5]["lost"]["limit"], "since-coat > 0")
 
 
-class Sweeps(Folder):
+class Sweeps(Commands):
     def setUp(self):
         super().setUp()
         if not sweeper():

@@ -45,7 +45,7 @@ class Schema(unittest.TestCase):
             return set().union(*map(self.keys, data))
         if not isinstance(data, dict):
             return set()
-        named = ("setting", "room", "nearest")
+        named = ("setting", "first", "room", "nearest")
         return set(data).union(*(self.keys(value) for key, value in data.items() if key not in named))
 
     def test_every_key_is_described(self):

@@ -8,7 +8,7 @@ import xml.etree.ElementTree as ElementTree
 import picture
 import settings
 import svg
-from shapes import Words
+from shapes import INK, PAPER, Words
 from stored import DOCS, NAMES, PICTURES, drawn, found, sheet
 
 SVG = "{http://www.w3.org/2000/svg}"
@@ -66,8 +66,7 @@ class Pictures(unittest.TestCase):
 
     def hatched(self, tree, name, across, up, cells):
         """The hatched boxes have a cell for each setting, and every coloured cell lies in one of them."""
-        boxes = [tuple(int(box.get(key)) for key in ("x", "y", "width", "height"))
-                 for box in tree.iter(f"{SVG}rect") if box.get("class") == "cut"]
+        boxes = [self.place(box) for box in tree.iter(f"{SVG}rect") if box.get("class") == "cut"]
         area = sum(width // across.cell * (height // up.cell) for _, _, width, height in boxes)
         self.assertEqual(area, settings.count_all(sheet(name)[0].ranges), name)
         inside = {(x, y) for left, top, width, height in boxes
@@ -102,12 +101,43 @@ class Pictures(unittest.TestCase):
             fills = {path.get("data-piece"): path.get("fill") for path in tree.iter(f"{SVG}path") if path.get("class")}
             self.assertEqual(len(set(fills.values())), len(fills))
             keys = [rect for rect in tree.iter(f"{SVG}rect") if rect.get("class") == "key"]
-            self.assertEqual(len(keys), len(found(name).pieces) + (found(name).cut > 0), name)
+            self.assertEqual(len(keys), len(found(name).pieces) + (found(name).cut > 0) + (found(name).kept > 0), name)
             self.assertLessEqual(set(fills.values()), {key.get("fill") for key in keys})
+
+    def test_first_settings_are_framed(self):
+        """Of each piece one cell, that of its first setting, with a frame that is wider than the cell on each side."""
+        for name in NAMES:
+            whole, names = sheet(name)
+            rects = list(root(name).iter(f"{SVG}rect"))
+            frames, cells, panels = ([rect for rect in rects if rect.get("class") == kind] for kind in ("frame", "first", "cut"))
+            if not whole.ranges:
+                self.assertEqual((frames, cells), ([], []))
+                continue
+            across, up = picture.scales(whole.ranges, names)
+            ranges = settings.three(whole.ranges)
+            wanted = set()
+            for number, (p, q, r) in enumerate(piece.first for piece in found(name).pieces):
+                x, y = self.place(panels[r - ranges[2][0]])[:2]
+                cell = x + (p - ranges[0][0]) * across.cell, y + (ranges[1][1] - q) * up.cell, across.cell, up.cell
+                wanted.add((picture.colour(number), cell))
+            self.assertEqual({(cell.get("fill"), self.place(cell)) for cell in cells}, wanted, name)
+            self.assertEqual(len(frames), len(cells))
+            for frame, (x, y, width, height) in zip(frames, map(self.place, cells)):
+                self.assertEqual(self.place(frame), (x - 2, y - 2, width + 4, height + 4))
+                self.assertEqual((frame.get("fill"), frame.get("stroke")), (PAPER, INK))
+
+    def place(self, rect):
+        return tuple(int(rect.get(key)) for key in ("x", "y", "width", "height"))
+
+    def test_regions_without_a_first_setting(self):
+        """All settings with a run, as Sweep finds them, have no frame and no words on it."""
+        shapes = picture.draw([picture.Region("", "a run", [(0, 0, 3, 10)])], 3, ((0, 10),), sheet("a")[1], "x").shapes
+        self.assertFalse([shape for shape in shapes if getattr(shape, "role", "") == "frame" or "start" in getattr(shape, "text", "")])
 
     def test_words_of_the_pictures(self):
         words = [text.text for text in root("week").iter(f"{SVG}text")]
-        for wanted in ("pot = 28", "pot = 39", "green (minutes)", "hard (minutes)", "no run, 10,272 settings", "90", "220"):
+        for wanted in ("pot = 28", "pot = 39", "green (minutes)", "hard (minutes)", "no run, 10,272 settings", "90", "220",
+                       "where to start: of each piece the setting with the least green, then hard, then pot"):
             self.assertIn(wanted, words)
         self.assertIn("p (minutes)", [text.text for text in root("a").iter(f"{SVG}text")])
         for name, wanted in (("no-limits", "no-limits: the only setting has a run (piece 0)"),

@@ -2,11 +2,9 @@
 
 import itertools
 import struct
-import tempfile
 import unittest
 import zlib
 from functools import lru_cache
-from pathlib import Path
 
 import font
 import picture
@@ -14,7 +12,7 @@ import png
 import settings
 import svg
 from shapes import CUT, HATCH, INK, PAPER, Box, Cells, Picture, Words
-from stored import NAMES, SHEETS, drawn as picture_of, found, lister, moyanthu, said, sheet
+from stored import NAMES, SHEETS, Folder, drawn as picture_of, found, moyanthu, said, sheet
 
 
 @lru_cache(maxsize=None)
@@ -86,8 +84,8 @@ class Files(unittest.TestCase):
             self.assertEqual(image.at(0, 0), PAPER)
 
     def test_sheet_a_has_the_size_of_its_svg(self):
-        self.assertIn('width="560" height="199"', svg.text(drawn("a")))
-        self.assertEqual((pixels("a").width, pixels("a").height), (1120, 398))
+        self.assertIn('width="560" height="220"', svg.text(drawn("a")))
+        self.assertEqual((pixels("a").width, pixels("a").height), (1120, 440))
 
 
 class CellsOfSheets(unittest.TestCase):
@@ -95,7 +93,8 @@ class CellsOfSheets(unittest.TestCase):
         return [shape for shape in drawn(name).shapes if isinstance(shape, Box) and shape.role == "cut"]
 
     def check(self, name, step=1):
-        """The middle of every step-th cell has its piece's colour, or the colour of the number on it, or is hatched."""
+        """The middle of every step-th cell has its piece's colour, or the colour of the number on it, or is hatched, or is part of
+        the frame of another cell."""
         whole, names = sheet(name)
         ranges, image = settings.three(whole.ranges), pixels(name)
         across, up = picture.scales(whole.ranges, names)
@@ -110,6 +109,8 @@ class CellsOfSheets(unittest.TestCase):
                 wanted = {picture.colour(pieces[0])}
                 if self.labelled(name, x, y):
                     wanted.add(picture.ink(pieces[0]))
+            if self.beside_a_first(name, x, y):
+                wanted |= {PAPER, INK}
             self.assertIn(image.at(x, y), wanted, (name, p, q, r))
             kept, cut = kept + bool(pieces), cut + (not pieces)
         return kept, cut
@@ -118,6 +119,16 @@ class CellsOfSheets(unittest.TestCase):
         """A piece's number lies there."""
         return any(isinstance(shape, Words) and shape.fill != INK and abs(2 * shape.x - x) <= 6 * 2 * len(shape.text)
                    and 0 <= 2 * shape.y - y <= 16 for shape in drawn(name).shapes)
+
+    def beside_a_first(self, name, x, y):
+        """A frame lies there, and no cell of a first setting."""
+        return self.within(name, "frame", x, y, 1) and not self.within(name, "first", x, y, 0)
+
+    def within(self, name, role, x, y, edge):
+        """A box of that role, and so many pixels more, lies there."""
+        boxes = (shape for shape in drawn(name).shapes if isinstance(shape, Box) and shape.role == role)
+        return any(2 * box.x - edge <= x < 2 * (box.x + box.width) + edge
+                   and 2 * box.y - edge <= y < 2 * (box.y + box.height) + edge for box in boxes)
 
     def test_small_sheets(self):
         for name in ("a", "p-then-q", "q-then-p", "a-strict", "below-zero"):
@@ -128,13 +139,14 @@ class CellsOfSheets(unittest.TestCase):
         self.assertTrue(kept > 700 and cut > 150)
 
     def test_whole_cells_of_sheet_a(self):
-        """Settings 0 to 2 are hatched in two colours, 3 to 10 have the piece's; the number 0 stands between 6 and 7."""
+        """Settings 0 to 2 are hatched in two colours, 3 to 10 have the piece's; the number 0 stands between 6 and 7, and the frame
+        of 3 lies on 2 and 4."""
         (panel,) = self.panels("a")
         for p in range(11):
             left, top = 2 * panel.x + 80 * p, 2 * panel.y
             colours = pixels("a").inside(left + 2, top + 2, left + 78, top + 78)
             wanted = {PAPER, "#999999"} if p < 3 else {"#56b4e9", "#000000"} if p in (6, 7) else {"#56b4e9"}
-            self.assertEqual(colours, wanted, p)
+            self.assertEqual(colours, wanted | ({PAPER, INK} if p in (2, 4) else set()), p)
 
     def test_hatching(self):
         """A quarter of the pixels are in stripes, which run up to the right."""
@@ -142,6 +154,13 @@ class CellsOfSheets(unittest.TestCase):
         dark = sum(row.count(image.colours.index(HATCH[2])) for row in image.rows)
         self.assertAlmostEqual(dark / 200 / 200, 0.25, delta=0.02)
         self.assertTrue(all(image.at(x, 50) == image.at(x + 9, 41) for x in range(150)))
+
+    def test_32_pieces_in_many_charts(self):
+        """The lines between cells add one colour for each, however many charts there are."""
+        regions = [picture.Region(str(k), "", [(k % 10, r, k // 10, k // 10) for r in range(16)]) for k in range(32)]
+        image = Pixels(png.data(picture.draw(regions, 1, ((0, 9), (0, 9), (0, 15)), sheet("week")[1], "x")))
+        self.assertLessEqual({picture.colour(k) for k in range(32)}, set(image.colours))
+        self.assertLess(len(image.colours), 80)
 
     def test_32_pieces_have_32_colours(self):
         shapes = [Cells(k, picture.colour(k), ((10 * k, 0, 10, 10),)) for k in range(32)]
@@ -209,14 +228,7 @@ class Letters(unittest.TestCase):
         self.assertEqual((image.width, image.height), (200, 20))
 
 
-class Commands(unittest.TestCase):
-    def setUp(self):
-        if not lister():
-            self.skipTest("no program that prints listings")
-        folder = tempfile.TemporaryDirectory()
-        self.addCleanup(folder.cleanup)
-        self.folder = Path(folder.name)
-
+class Commands(Folder):
     def show(self, *words, sheet="a.txt"):
         done = moyanthu("windows", SHEETS / sheet, *words)
         return done.returncode, done.stdout, said(done)

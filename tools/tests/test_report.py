@@ -15,7 +15,7 @@ import svg
 from faults import Fault
 from records import records
 from sheet_text import default_names
-from stored import NAMES, WINDOWS_RECORDS, found, fresh_listing, lister, listing_text, outputs, runner, sheet
+from stored import NAMES, WINDOWS_RECORDS, found, fresh_listing, lister, listing_text, outputs, runner, sheet, windows
 from windows import windows_of
 
 
@@ -44,6 +44,7 @@ def brute(name, setting):
             if held:
                 break
             number, held, bounds = int(rest[0]), True, {}
+        if kind in ("piece", "first"):
             continue
         numbers = [int(word) for word in rest[-4:]] if rest[-1] != "none" else None
         total = numbers and numbers[0] + sum(k * x for k, x in zip(numbers[1:], setting))
@@ -78,6 +79,30 @@ def entry(bounds, what, watches, relation, value):
         bounds[second, first] = strict, -int(value)
     else:
         bounds[first, second] = strict, int(value)
+
+
+class FirstSettings(unittest.TestCase):
+    def starts(self, name):
+        """What is said of where to start, with the spaces before it."""
+        lines = report.pieces_lines(windows(name), found(name), sheet(name)[1])
+        return [line for line in lines if "start" in line]
+
+    def test_the_first_of_those_that_are_tried_in_order(self):
+        for name in NAMES:
+            whole = list(itertools.product(*(range(low, high + 1) for low, high in settings.three(sheet(name)[0].ranges))))
+            for piece in found(name).pieces:
+                self.assertEqual(piece.first, next(setting for setting in whole if settings.holds(piece, setting)), name)
+
+    def test_words(self):
+        """Of each piece, those with the same bounds too; without allowances there is nothing to choose."""
+        self.assertEqual(self.starts("a"), ["  start from p = 3"])
+        self.assertEqual(self.starts("p-then-q"), ["  start from p = 1, q = 0", "  start from p = 0, q = 0"])
+        self.assertEqual(self.starts("from-minus-p"), ["  start from p = -5", "  start from p = 0"])
+        self.assertEqual(self.starts("no-limits") + self.starts("never"), [])
+        week = self.starts("week")
+        self.assertEqual(len(week), len(found("week").pieces))
+        self.assertIn("    start from green = 144, hard = 183, pot = 39", week)
+        self.assertIn("  start from green = 90, hard = 160, pot = 28", week)
 
 
 class OneSetting(unittest.TestCase):
@@ -170,11 +195,29 @@ class WrongListings(unittest.TestCase):
         good = listing_text("a")
         self.refused("", "line 1: the listing ends; expected 'pieces N kept N cut N'")
         self.refused(good.replace("piece 0", "piece 1"), "line 2: found 'piece 1'; expected 'piece 0'")
-        self.refused(good.replace("ineq -3", "ineq -x"), "line 3: found 'ineq -x 1 0 0'; expected 'bound 0 0'")
-        self.refused(good.replace("bound 0 1", "bound 1 1"), "line 5: found 'bound 1 1 le -3 0 0 0'; expected 'bound 0 1'")
-        self.refused(good + "piece 1\n", "line 8: found 'piece 1'; expected the end")
-        self.refused(good[:65], "expected 'bound 0 1' and its bound, since the sheet has 1 watch")
+        self.refused(good.replace("ineq -3", "ineq -x"), "line 4: found 'ineq -x 1 0 0'; expected 'bound 0 0'")
+        self.refused(good.replace("bound 0 1", "bound 1 1"), "line 6: found 'bound 1 1 le -3 0 0 0'; expected 'bound 0 1'")
+        self.refused(good + "piece 1\n", "line 9: found 'piece 1'; expected the end")
+        self.refused(good[:77], "expected 'bound 0 1' and its bound, since the sheet has 1 watch")
         self.refused(good.replace("kept 8", "kept ٨"), "line 1: found 'pieces 1 kept ٨ cut 3'")
+
+    def test_the_line_of_the_first_setting(self):
+        """It comes after each piece's line and has three numbers."""
+        expected = "; expected 'first' and its three numbers"
+        good = listing_text("p-then-q")
+        self.refused(good.replace("first 1 0 0\n", ""), f"line 3: found 'ineq -1 1 -1 0'{expected}")
+        self.refused(good.replace("first 0 0 0\n", ""), f"line 10: found 'ineq 0 -1 1 0'{expected}")
+        self.refused(good[:good.index("first")], f"line 3: the listing ends{expected}")
+        for wrong in ("first 1 0", "first 1 0 0 0", "first 1 0 x", "first  1 0 0", "first 1 0 0 ", "first"):
+            self.refused(good.replace("first 1 0 0", wrong), f"line 3: found '{wrong}'{expected}")
+
+    def test_a_first_setting_that_the_piece_does_not_hold(self):
+        """Against an inequality, outside the range, or not 0 for an allowance that the sheet lacks."""
+        for wrong in ("2 0 0", "11 0 0", "3 1 0", "3 0 -1"):
+            pieces = listing.parse(listing_text("a").replace("first 3 0 0", f"first {wrong}"), 1)
+            with self.assertRaises(Fault) as caught:
+                windows_of(pieces, sheet("a")[0].ranges)
+            self.assertIn(f"({wrong.replace(' ', ', ')}) is the first setting of piece 0; expected", str(caught.exception))
 
     def test_a_number_of_5000_digits(self):
         text = f"refused {'7' * 5000} place 0\n"
@@ -204,6 +247,8 @@ class StoredRecords(unittest.TestCase):
             names, held = default_names(whole), windows_of(pieces, whole.ranges)
             lines = report.pieces_lines(held, pieces, names)
             self.assertEqual(sum(line.startswith(("piece ", "  piece ")) for line in lines), len(pieces.pieces))
+            for window in held:
+                self.assertEqual(window.piece.first, min((p, q, r) for q, r, p, _ in settings.rows(window.where, whole.ranges)))
             drawn = picture.draw(picture.piece_regions(held, whole.ranges, names), pieces.cut, whole.ranges, names, "record")
             ElementTree.fromstring(svg.text(drawn))
             shown += 1

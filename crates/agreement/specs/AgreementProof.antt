@@ -8,12 +8,12 @@ use lib.IntN.{ℤ}
 use lib.ListN.{length, getD}
 use Rattle.coded.specs.CodedRead.{holds-coded, entry-coded}
 use Rattle.cutting.specs.Cutting as cutting
-use Rattle.cutting.specs.Disjoint.{zones-apart}
+use Rattle.cutting.specs.DisjointProof.{zones-apart}
 use Rattle.cutting.specs.Held.{holds, at, HeldBy}
 use Rattle.expr.specs.Ranges.{Inside}
 use Rattle.expr.specs.Three.{rangeList}
 use Rattle.reading.specs.Accepted.{read-well-formed}
-use Rattle.soundness.specs.Theorems.{matrices-agree, zones-tightest, held-iff-run}
+use Rattle.soundness.specs.TheoremsProof.{matrices-agree, zones-tightest, held-iff-run}
 use Rattle.sweep.specs.Proofs.{reply-entry, sweep-right}
 use Rattle.sweep.specs.Theorems.{sheetOf}
 use Rattle.timed.specs.Runs.{Tightest}

@@ -13,8 +13,8 @@ use lib.ListN.{length, getD, replicate}
 use Rattle.answers.specs.Numbers.{numbered}
 use Rattle.cutting.specs.Cutting.{Listing, listed, refused, startB, zonesOf, SevenToNine}
 use Rattle.cutting.specs.Cutting as cutting
-use Rattle.cutting.specs.Numbered.{zones-numbered}
-use Rattle.cutting.specs.Shape.{zones-shaped}
+use Rattle.cutting.specs.NumberedProof.{zones-numbered}
+use Rattle.cutting.specs.ShapeProof.{zones-shaped}
 use Rattle.expr.specs.Ranges.{Inside}
 use Rattle.expr.specs.Three.{rangeList}
 use Rattle.reading.specs.File.{Fine, readOf}
@@ -27,13 +27,13 @@ use Rattle.windows_reply.specs.Reply.{WindowsReply, refusedReply, listingReply}
 use Rattle.windows.specs.Pieces.{pieceOf, blankPiece, tableOf}
 use Rattle.windows.specs.Table.{in-list, past-list}
 use Rattle.windows.specs.declared.table.Piece.{Piece}
-use Rattle.agreement.specs.Words.{windowsOf, Lists, countsFor, pieces, table, pieceAt, InRange}
+use Rattle.agreement.specs.Words.{windowsOf, Lists, listedReply, pieces, table, pieceAt, InRange}
 
 pub record Behind (file : List ℕ) (n : ℕ) (zs : List cutting.Zone) : Type 0 where
   pub room : 32 ≤ n
   pub fine : Fine (readOf file)
   pub listing : zonesOf (sheetOf file) ≡ listed zs
-  pub reply : windowsOf file n ≡ record { answer = numbered 0 0; counts = countsFor (sheetOf file) zs; zones = zs }
+  pub reply : windowsOf file n ≡ listedReply (sheetOf file) zs
 
 some-number : {n : ℕ} → SevenToNine n → n ≡ 0 → ⊥
 some-number (inl e) h = omega arith
@@ -43,7 +43,7 @@ some-number (inr (inr e)) h = omega arith
 -- a listing whose reply has the number 0
 listing-behind : (s : Sheet) (o : Listing) → zonesOf s ≡ o → listingReply s o .answer .number ≡ 0
     → (zs : List cutting.Zone) × (o ≡ listed zs)
-    × (listingReply s o ≡ record { answer = numbered 0 0; counts = countsFor s zs; zones = zs })
+    × (listingReply s o ≡ listedReply s zs)
 unfolding listingReply
 listing-behind s (listed zs) e g = (zs, refl, refl)
 listing-behind s (refused m visit) e g = absurd (some-number (zones-numbered s m visit e) g)
@@ -112,21 +112,22 @@ module _ {file : List ℕ} {n : ℕ} {zs : List cutting.Zone} (b : Behind file n
   few-pieces = zones-shaped (sheetOf file) zs (b .listing) .0
 
   -- the table: the pieces of the zones in order, and blanks past them
-  pub table-is : table file n ≡ map pieceOf zs ++ replicate (n - length zs) blankPiece
+  pub table-is : table file n ≡ map (pieceOf (sheetOf file .ranges)) zs ++ replicate (n - length zs) blankPiece
   unfolding tableOf
   table-is = rw (b .reply) refl
 
   -- piece i is that of zone i
-  pub piece-is : (i : ℕ) → i < pieces file n → pieceAt file n i ≡ pieceOf (getD zs i noZone)
+  pub piece-is : (i : ℕ) → i < pieces file n → pieceAt file n i ≡ pieceOf (sheetOf file .ranges) (getD zs i noZone)
   piece-is i h =
       let e = pieces-are in
       let l : i < length zs = omega arith in
       ap (λ (t : List Piece). getD t i blankPiece) table-is
-      ∙ in-list pieceOf blankPiece zs (replicate (n - length zs) blankPiece) noZone i l
+      ∙ in-list (pieceOf (sheetOf file .ranges)) blankPiece zs (replicate (n - length zs) blankPiece) noZone i l
 
   -- the places past the pieces are blank
   pub past-pieces : (i : ℕ) → pieces file n ≤ i → pieceAt file n i ≡ blankPiece
   past-pieces i h =
       let e = pieces-are in
       let l : length zs ≤ i = omega arith in
-      ap (λ (t : List Piece). getD t i blankPiece) table-is ∙ past-list pieceOf blankPiece zs (n - length zs) i l
+      ap (λ (t : List Piece). getD t i blankPiece) table-is
+      ∙ past-list (pieceOf (sheetOf file .ranges)) blankPiece zs (n - length zs) i l

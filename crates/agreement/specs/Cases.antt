@@ -30,9 +30,10 @@ use Rattle.constrain.specs.Rules.{entryC}
 use Rattle.windows.specs.declared.table.Piece.{Piece}
 
 -- ---- a row
--- a piece: its inequalities, each an expression that is at least 0, and how many valuations (paper: settings) it holds
+-- a piece: how many valuations (paper: settings) it holds, the first of them, and its inequalities, each an expression that is at least 0
 pub record PieceRow : Type 0 where
   pub holds : ℕ
+  pub first : Valuation
   pub ineqs : List Expr
 
 -- entry (row, column) of the matrix of a piece
@@ -67,7 +68,11 @@ pub data Row : Type 0 where
 -- a piece of the table, as a row has it
 abbrev pub pieceIn : Sheet → Piece → PieceRow
 pieceIn s z =
-    record { holds = count (rangeList (s .ranges)) (map affine (take (z .count) (z .ineqs))); ineqs = take (z .count) (z .ineqs) }
+    record {
+      holds = count (rangeList (s .ranges)) (map affine (take (z .count) (z .ineqs)));
+      first = z .first;
+      ineqs = take (z .count) (z .ineqs);
+    }
 
 abbrev pub countsIn : SheetRow → Counts
 countsIn r = record { pieces = length (r .pieces); kept = r .kept; cut = r .cut }
@@ -92,8 +97,12 @@ Yields (inequality r) = IntervalYields r
 abbrev pub at : ℤ → Valuation
 at p = record { p = p; q = pos 0; r = pos 0 }
 
-abbrev piece : ℕ → List Expr → PieceRow
-piece n ineqs = record { holds = n; ineqs = ineqs }
+-- p and q
+abbrev both : ℤ → ℤ → Valuation
+both p q = record { p = p; q = q; r = pos 0 }
+
+abbrev piece : ℕ → Valuation → List Expr → PieceRow
+piece n v ineqs = record { holds = n; first = v; ineqs = ineqs }
 
 abbrev entry : ℕ → ℕ → ℕ → Bound → Entry
 entry n i j b = record { piece = n; row = i; column = j; bound = b }
@@ -122,7 +131,7 @@ abbrev pub rowA : SheetRow
 rowA =
     record {
       file = moving (range (pos 0) (pos 10) ∷ []) (atMost 1 0 p-only ∷ []) (atMost 0 1 (constant (minus 3)) ∷ []);
-      pieces = piece 8 (p-less 3 ∷ []) ∷ [];
+      pieces = piece 8 (at (pos 3)) (p-less 3 ∷ []) ∷ [];
       kept = 8;
       cut = 3;
       entries =
@@ -137,7 +146,7 @@ abbrev pub rowStrict : SheetRow
 rowStrict =
     record {
       file = moving (range (pos 0) (pos 10) ∷ []) (under 1 0 p-only ∷ []) (atMost 0 1 (constant (minus 3)) ∷ []);
-      pieces = piece 7 (p-less 1 ∷ p-less 4 ∷ []) ∷ [];
+      pieces = piece 7 (at (pos 4)) (p-less 1 ∷ p-less 4 ∷ []) ∷ [];
       kept = 7;
       cut = 4;
       entries = [];
@@ -150,7 +159,9 @@ abbrev pub rowPQ : SheetRow
 rowPQ =
     record {
       file = standing zeroTo5 (atMost 1 0 p-only ∷ atMost 1 0 q-only ∷ []);
-      pieces = piece 15 (withPQ (minus 1) (pos 1) (minus 1) ∷ []) ∷ piece 21 (withPQ (pos 0) (minus 1) (pos 1) ∷ []) ∷ [];
+      pieces =
+          piece 15 (both (pos 1) (pos 0)) (withPQ (minus 1) (pos 1) (minus 1) ∷ [])
+          ∷ piece 21 (both (pos 0) (pos 0)) (withPQ (pos 0) (minus 1) (pos 1) ∷ []) ∷ [];
       kept = 36;
       cut = 0;
       entries = [];
@@ -163,7 +174,9 @@ abbrev pub rowQP : SheetRow
 rowQP =
     record {
       file = standing zeroTo5 (atMost 1 0 q-only ∷ atMost 1 0 p-only ∷ []);
-      pieces = piece 15 (withPQ (minus 1) (minus 1) (pos 1) ∷ []) ∷ piece 21 (withPQ (pos 0) (pos 1) (minus 1) ∷ []) ∷ [];
+      pieces =
+          piece 15 (both (pos 0) (pos 1)) (withPQ (minus 1) (minus 1) (pos 1) ∷ [])
+          ∷ piece 21 (both (pos 0) (pos 0)) (withPQ (pos 0) (pos 1) (minus 1) ∷ []) ∷ [];
       kept = 36;
       cut = 0;
       entries = [];
@@ -176,7 +189,7 @@ abbrev pub rowFree : SheetRow
 rowFree =
     record {
       file = standing [] [];
-      pieces = piece 1 [] ∷ [];
+      pieces = piece 1 (at (pos 0)) [] ∷ [];
       kept = 1;
       cut = 0;
       entries = entry 0 1 0 noBound ∷ [];
@@ -202,7 +215,7 @@ abbrev pub rowBack : SheetRow
 rowBack =
     record {
       file = moving (range (minus 5) (pos 5) ∷ []) [] (atMost 0 1 p-only ∷ []);
-      pieces = piece 5 (withP (minus 1) (minus 1) ∷ []) ∷ piece 6 (p-only ∷ []) ∷ [];
+      pieces = piece 5 (at (minus 5)) (withP (minus 1) (minus 1) ∷ []) ∷ piece 6 (at (pos 0)) (p-only ∷ []) ∷ [];
       kept = 11;
       cut = 0;
       entries = [];
@@ -223,7 +236,7 @@ abbrev pub rowTouch : SheetRow
 rowTouch =
     record {
       file = moving [] (atMost 1 0 (constant (pos 0)) ∷ []) (atMost 0 1 (constant (pos 0)) ∷ []);
-      pieces = piece 1 [] ∷ [];
+      pieces = piece 1 (at (pos 0)) [] ∷ [];
       kept = 1;
       cut = 0;
       entries = [];

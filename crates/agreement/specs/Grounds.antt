@@ -9,7 +9,7 @@ use Rattle.cutting.specs.Cutting.{Listing, listed, refused, zonesOf, SevenToNin
 use Rattle.cutting.specs.Cutting as cutting
 use Rattle.reading.specs.File.{Fine, readOf, TwoToFive}
 use Rattle.sweep.specs.Theorems.{sheetOf}
-use Rattle.agreement.specs.Words.{windowsOf, countsFor}
+use Rattle.agreement.specs.Words.{windowsOf, listedReply}
 
 -- what the cutting of the file's sheet comes to is the listing, the table having room (not 1) and the file being fine (not 2 to 5)
 abbrev pub CutTo : List ℕ → ℕ → Listing → Type 0
@@ -27,7 +27,7 @@ pub record Grounds (file : List ℕ) (n : ℕ) : Type 0 where
   -- else the zones are listed
   pub zones-listed :
       (zs : List cutting.Zone)
-      → (windowsOf file n ≡ record { answer = numbered 0 0; counts = countsFor (sheetOf file) zs; zones = zs }) ↔ CutTo file n (listed zs)
+      → (windowsOf file n ≡ listedReply (sheetOf file) zs) ↔ CutTo file n (listed zs)
   -- there are no other answers
   pub only :
       (windowsOf file n .answer .number ≡ 0) ⊎ (windowsOf file n .answer ≡ numbered 1 0)

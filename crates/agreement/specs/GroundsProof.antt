@@ -8,10 +8,11 @@ use native.Mathlib.Omega.{arith}
 use borrow.Author.Tests.{ltb-true, ltb-false, lt-ltb, le-ltb, eqb-true, eqb-false, ne-eqb}
 use lib.Dec.{ltb, eqb}
 use Rattle.integer.specs.Apart.{apart}
-use Rattle.answers.specs.Numbers.{Numbered, numbered}
+use Rattle.answers.specs.Numbers.{numbered}
+use Rattle.answers.specs.declared.Numbered.{Numbered}
 use Rattle.cutting.specs.Cutting.{Listing, listed, refused, zonesOf, SevenToNine}
 use Rattle.cutting.specs.Cutting as cutting
-use Rattle.cutting.specs.Numbered.{zones-numbered}
+use Rattle.cutting.specs.NumberedProof.{zones-numbered}
 use Rattle.reading.specs.File.{Fine, readOf, TwoToFive}
 use Rattle.reading.specs.Accepted.{read-numbered}
 use Rattle.sheet.specs.declared.Sheet.{Sheet}
@@ -19,7 +20,7 @@ use Rattle.sweep.specs.Theorems.{sheetOf}
 use Rattle.windows_reply.specs.Reply as windows
 use Rattle.windows_reply.specs.Reply.{WindowsReply, refusedReply, listingReply}
 use Rattle.agreement.specs.Behind.{lists-behind}
-use Rattle.agreement.specs.Words.{windowsOf, countsFor}
+use Rattle.agreement.specs.Words.{windowsOf, listedReply}
 use Rattle.agreement.specs.Grounds.{CutTo, Grounds}
 
 number-of : {a b : Numbered} → a ≡ b → a .number ≡ b .number
@@ -66,7 +67,7 @@ module _ (file : List ℕ) (n : ℕ) where
   cut-refused h f m k e = ap (λ (r : WindowsReply). r .answer) (cut-reply h f (refused m k) e)
 
   cut-listed : 32 ≤ n → Fine (readOf file) → (zs : List cutting.Zone) → zonesOf s ≡ listed zs
-      → windowsOf file n ≡ record { answer = numbered 0 0; counts = countsFor s zs; zones = zs }
+      → windowsOf file n ≡ listedReply s zs
   unfolding listingReply
   cut-listed h f zs e = cut-reply h f (listed zs) e
 
@@ -141,7 +142,7 @@ module _ (file : List ℕ) (n : ℕ) where
   from-cut m k t (is-listed h f zs q) e =
       let u = seven-to-nine t in let g = number-of (sym (answer-listed h f zs q) ∙ e) in absurd (omega (arith, u .0))
 
-  from-listed : (zs : List cutting.Zone) → windowsOf file n ≡ record { answer = numbered 0 0; counts = countsFor s zs; zones = zs }
+  from-listed : (zs : List cutting.Zone) → windowsOf file n ≡ listedReply s zs
       → CutTo file n (listed zs)
   from-listed zs e =
       let behind = lists-behind file n (ap (λ (r : WindowsReply). r .answer .number) e) in

@@ -9,7 +9,7 @@ use Rattle.search.specs.Once.{valuations-once}
 use Rattle.search.specs.SearchLaws.{valuations-inside, valuations-all}
 use Rattle.reading.specs.File.{Fine, readOf}
 use Rattle.reading.specs.Accepted.{read-well-formed}
-use Rattle.soundness.specs.Counts.{kept-counts-runs, cut-counts-the-rest, kept-and-cut}
+use Rattle.soundness.specs.CountsProof.{kept-counts-runs, cut-counts-the-rest, kept-and-cut}
 use Rattle.sweep.specs.Proofs.{sweep-right}
 use Rattle.sweep.specs.Theorems.{sheetOf, IsRun, IsVoid}
 use Rattle.agreement.specs.Behind.{lists-behind, six-outside}

@@ -19,7 +19,9 @@ pub record Filled (file : List ℕ) (n : ℕ) : Type 0 where
   pub long : length (table file n) ≡ n
   pub few : pieces file n ≤ 32
   -- the pieces are the zones that the cutting lists, in order
-  pub zones : (zs : List cutting.Zone) × (zonesOf (sheetOf file) ≡ listed zs) × (take (pieces file n) (table file n) ≡ map pieceOf zs)
+  pub zones :
+      (zs : List cutting.Zone) × (zonesOf (sheetOf file) ≡ listed zs)
+      × (take (pieces file n) (table file n) ≡ map (pieceOf (sheetOf file .ranges)) zs)
   -- a piece is in use; it has at most 24 inequalities, and zeros past them; past the sheet's clocks its entries are zero, not strict
   pub used : (i : ℕ) → i < pieces file n → pieceAt file n i .used ≡ true
   pub ineqs : (i : ℕ) → i < pieces file n → pieceAt file n i .count ≤ 24

@@ -12,7 +12,8 @@ use Rattle.coded.specs.Coded.{taken, entry-at}
 use Rattle.constrain.specs.Rules.{entryC}
 use Rattle.cutting.specs.Cutting.{Listing, listed, refused, zonesOf}
 use Rattle.cutting.specs.Cutting as cutting
-use Rattle.cutting.specs.Shape.{Shaped, zones-shaped}
+use Rattle.cutting.specs.Shape.{Shaped}
+use Rattle.cutting.specs.ShapeProof.{zones-shaped}
 use Rattle.dbm.specs.Matrix.{Outside}
 use Rattle.expr.specs.Affine.{Affine}
 use Rattle.weight.specs.Upper.{Upper}
@@ -31,9 +32,6 @@ use Rattle.agreement.specs.Stored.{TableFilled, RefusedBlank}
 
 -- ---- a zone as a piece
 module _ (w : ℕ) (z : cutting.Zone) (h : Shaped w z) where
-  zone-used : pieceOf z .used ≡ true
-  zone-used = refl
-
   zone-ineqs : zoneOf z .count ≤ 24
   unfolding zoneOf
   zone-ineqs = h .few
@@ -48,18 +46,18 @@ module _ (w : ℕ) (z : cutting.Zone) (h : Shaped w z) where
 
 module _ {file : List ℕ} {n : ℕ} {zs : List cutting.Zone} (b : Behind file n zs) where
   -- what holds of each zone of the sheet holds of each piece
-  each-piece : (P : Piece → Type 0) → ((z : cutting.Zone) → Shaped (sheetOf file .clocks) z → P (pieceOf z)) → (i : ℕ)
-      → i < pieces file n → P (pieceAt file n i)
+  each-piece : (P : Piece → Type 0) → ((z : cutting.Zone) → Shaped (sheetOf file .clocks) z → P (pieceOf (sheetOf file .ranges) z))
+      → (i : ℕ) → i < pieces file n → P (pieceAt file n i)
   each-piece P f i h =
       let e = pieces-are b in
       let l : i < length zs = omega arith in
       let z = getD zs i noZone in
       subst P (sym (piece-is b i h)) (f z (zones-shaped (sheetOf file) zs (b .listing) .1 z (member zs i l)))
 
-  taken-pieces : take (pieces file n) (table file n) ≡ map pieceOf zs
+  taken-pieces : take (pieces file n) (table file n) ≡ map (pieceOf (sheetOf file .ranges)) zs
   taken-pieces =
       ap (λ (k : ℕ). take k (table file n)) (pieces-are b) ∙ ap (take (length zs)) (table-is b)
-      ∙ taken pieceOf blankPiece (n - length zs) zs
+      ∙ taken (pieceOf (sheetOf file .ranges)) blankPiece (n - length zs) zs
 
 pub table-filled : TableFilled
 table-filled file n lists =
@@ -71,7 +69,7 @@ table-filled file n lists =
       long = table-length file n;
       few = let e = pieces-are b in let h = few-pieces b in omega arith;
       zones = (zs, b .listing, taken-pieces b);
-      used = each-piece b (λ z. z .used ≡ true) (zone-used w);
+      used = each-piece b (λ z. z .used ≡ true) (λ z f. refl);
       ineqs = each-piece b (λ z. z .count ≤ 24) (zone-ineqs w);
       spare = λ i k h. each-piece b (λ z. z .count ≤ k → getD (z .ineqs) k zeroExpr ≡ zeroExpr) (λ z f. zone-spare w z f k) i h;
       padding = λ i k l h hk hl o. each-piece b (λ z. entryC (z .bounds) k l ≡ zeroBound) (λ z f. zone-padding w z f k l hk hl o) i h;

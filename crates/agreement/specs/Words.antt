@@ -5,7 +5,7 @@ use mathlib.Core.Bool.{true}
 use Prim.Native.Nat.{ℕ}
 use lib.IntN.{ℤ}
 use lib.ListN.{length, getD, take}
-use Rattle.answers.specs.declared.windows.Counts.{Counts}
+use Rattle.answers.specs.Numbers.{numbered}
 use Rattle.constrain.specs.Rules.{entryC}
 use Rattle.cutting.specs.Cutting as cutting
 use Rattle.cutting.specs.Kept.{keptOf, cutOf}
@@ -27,9 +27,15 @@ windowsOf = replyOf
 abbrev pub Lists : List ℕ → ℕ → Type 0
 Lists file n = windowsOf file n .answer .number ≡ 0
 
--- the numbers of a reply that lists these zones of the sheet: how many, kept and cut
-abbrev pub countsFor : Sheet → List cutting.Zone → Counts
-countsFor s zs = record { pieces = length zs; kept = keptOf (rangeList (s .ranges)) zs; cut = cutOf (rangeList (s .ranges)) zs }
+-- the reply that lists these zones of the sheet: how many, kept and cut, the ranges that were cut, and the zones
+abbrev pub listedReply : Sheet → List cutting.Zone → WindowsReply
+listedReply s zs =
+    record {
+      answer = numbered 0 0;
+      counts = record { pieces = length zs; kept = keptOf (rangeList (s .ranges)) zs; cut = cutOf (rangeList (s .ranges)) zs };
+      ranges = s .ranges;
+      zones = zs;
+    }
 
 -- how many pieces there are
 abbrev pub pieces : List ℕ → ℕ → ℕ

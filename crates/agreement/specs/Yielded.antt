@@ -7,6 +7,7 @@ use Prim.Native.Nat.{ℕ}
 use native.Mathlib.Omega.{arith}
 use lib.IntN.{ℤ, pos, _+ℤ_, _*ℤ_}
 use lib.Signed.{_≤ℤ_}
+use Rattle.cutting.specs.FirstHeld.{firstHeld}
 use Rattle.cutting.specs.Kept.{keptOf}
 use Rattle.cutting.specs.Cutting.{startB, summed, tested, putEntry, rowFrom, rowsFrom, places, pushed, guardTree, never, listZone}
 use Rattle.cutting.specs.Cutting.{worked, guardZones, onBounds, stepZones, cutSteps, zonesAlong, zonesOf}
@@ -103,8 +104,8 @@ bytes-of-A = refl
 -- ---- every row
 pub listed-cases : ListedCases
 unfolding startB summed tested putEntry rowFrom rowsFrom places pushed guardTree never listZone worked guardZones onBounds stepZones
-    cutSteps zonesAlong zonesOf keptOf widths start delayed resetM resetsM limitedM guarded dot value plusL minusL plus minus lessOne
-    opposite judge atV sumW marked sumB tighterW asked tighterB span width before valuations satisfies firstIn countIn first count p n
+    cutSteps zonesAlong zonesOf keptOf firstHeld widths start delayed resetM resetsM limitedM guarded dot value plusL minusL plus minus
+    lessOne opposite judge atV sumW marked sumB tighterW asked tighterB span width before valuations satisfies firstIn countIn first count p n
     sized entryField headOf oneOf firstOf twoOf secondOf threeOf thirdOf fourOf contentsOf shifted judged byteTaken wordTaken
     signedTaken byteField wordField signedField finished iterate rangeOf highestRight highestField rangeAt parametersAt blankLocation
     blankLocations locationStep locationsRead locationsAt belowField resetsRight resetsField transitionAt blankTransition

@@ -1,5 +1,6 @@
 -- The number and the place of each answer (paper 01, "When no piece is given"). The calls' promises and all statements speak through these.
 use Prim.Native.Nat.{ℕ}
+use Rattle.answers.specs.declared.Numbered.{Numbered}
 use Rattle.answers.specs.declared.file.Checked.{Checked}
 use Rattle.answers.specs.declared.file.Checked.the-variants as checked
 use Rattle.answers.specs.declared.file.Refusal.{Refusal}
@@ -11,10 +12,6 @@ use Rattle.answers.specs.declared.windows.Answer.the-variants as windows
 use Rattle.answers.specs.declared.windows.Counts.{Counts}
 
 -- a number of the paper and a place
-pub record Numbered : Type 0 where
-  pub number : ℕ
-  pub place : ℕ
-
 abbrev pub numbered : ℕ → ℕ → Numbered
 numbered n k = record { number = n; place = k }
 

@@ -1,4 +1,5 @@
 // Whether a sheet file is refused, and why.
+use crate::Numbered;
 ghost use mathlib.Core.Path.{_≡_};
 ghost use Rattle.answers.specs.Numbers.{refusalAs, checkedAs};
 
@@ -16,46 +17,39 @@ pub enum Checked {
     Refused(Refusal),
 }
 
-// The refusal's number.
-pub(crate) fn refusal_number(refusal: Refusal) -> usize
-    ensures { λ r. ⌜ r ≡ refusalAs refusal .number ⌝ }
+// The refusal's number and place.
+pub(crate) fn refusal_numbered(refusal: Refusal) -> Numbered
+    ensures { λ r. ⌜ r ≡ refusalAs refusal ⌝ }
 {
     match refusal {
-        Refusal::Size => 2,
-        Refusal::Contents(_) => 3,
-        Refusal::Body(_) => 4,
-        Refusal::Route(_) => 5,
+        Refusal::Size => Numbered {
+            number: 2,
+            place: 0,
+        },
+        Refusal::Contents(at) => Numbered {
+            number: 3,
+            place: at,
+        },
+        Refusal::Body(at) => Numbered {
+            number: 4,
+            place: at,
+        },
+        Refusal::Route(at) => Numbered {
+            number: 5,
+            place: at,
+        },
     }
 }
 
-// The refusal's place.
-pub(crate) fn refusal_place(refusal: Refusal) -> usize
-    ensures { λ r. ⌜ r ≡ refusalAs refusal .place ⌝ }
-{
-    match refusal {
-        Refusal::Size => 0,
-        Refusal::Contents(at) => at,
-        Refusal::Body(at) => at,
-        Refusal::Route(at) => at,
-    }
-}
-
-// The refusal's number; 0 for a file that is fine.
-pub fn number(checked: Checked) -> usize
-    ensures { λ r. ⌜ r ≡ checkedAs checked .number ⌝ }
-{
-    match checked {
-        Checked::Fine => 0,
-        Checked::Refused(refusal) => refusal_number(refusal),
-    }
-}
-
-// The refusal's place; 0 for a file that is fine.
-pub fn place(checked: Checked) -> usize
-    ensures { λ r. ⌜ r ≡ checkedAs checked .place ⌝ }
+// The refusal's number and place; 0 and 0 for a file that is fine.
+pub fn numbered(checked: Checked) -> Numbered
+    ensures { λ r. ⌜ r ≡ checkedAs checked ⌝ }
 {
     match checked {
-        Checked::Fine => 0,
-        Checked::Refused(refusal) => refusal_place(refusal),
+        Checked::Fine => Numbered {
+            number: 0,
+            place: 0,
+        },
+        Checked::Refused(refusal) => refusal_numbered(refusal),
     }
 }

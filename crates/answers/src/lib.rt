@@ -2,3 +2,9 @@
 pub mod file;
 pub mod sweep;
 pub mod windows;
+
+// A number of the paper and a place.
+pub struct Numbered {
+    pub number: usize,
+    pub place: usize,
+}

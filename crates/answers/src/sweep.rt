@@ -1,4 +1,5 @@
 // What Sweep answers.
+use crate::Numbered;
 use crate::file;
 use crate::file::Refusal;
 ghost use mathlib.Core.Path.{_≡_};
@@ -12,26 +13,23 @@ pub enum Answer {
     Outside(usize),
 }
 
-// The answer's number: 0 a run, 1 void, else the refusal.
-pub fn number(answer: Answer) -> usize
-    ensures { λ r. ⌜ r ≡ sweepAs answer .number ⌝ }
+// The answer's number, 0 a run, 1 void, else the refusal; and the refusal's place, 0 for a run or void.
+pub fn numbered(answer: Answer) -> Numbered
+    ensures { λ r. ⌜ r ≡ sweepAs answer ⌝ }
 {
     match answer {
-        Answer::Run => 0,
-        Answer::Void => 1,
-        Answer::Refused(refusal) => file::refusal_number(refusal),
-        Answer::Outside(_) => 6,
-    }
-}
-
-// The refusal's place; 0 for a run or void.
-pub fn place(answer: Answer) -> usize
-    ensures { λ r. ⌜ r ≡ sweepAs answer .place ⌝ }
-{
-    match answer {
-        Answer::Run => 0,
-        Answer::Void => 0,
-        Answer::Refused(refusal) => file::refusal_place(refusal),
-        Answer::Outside(index) => index,
+        Answer::Run => Numbered {
+            number: 0,
+            place: 0,
+        },
+        Answer::Void => Numbered {
+            number: 1,
+            place: 0,
+        },
+        Answer::Refused(refusal) => file::refusal_numbered(refusal),
+        Answer::Outside(index) => Numbered {
+            number: 6,
+            place: index,
+        },
     }
 }

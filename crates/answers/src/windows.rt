@@ -1,4 +1,5 @@
 // What Windows answers.
+use crate::Numbered;
 use crate::file;
 use crate::file::Refusal;
 ghost use mathlib.Core.Path.{_≡_};
@@ -22,30 +23,31 @@ pub enum Answer {
     Numbers(usize),
 }
 
-// The answer's number: 0 where the zones are listed, else the refusal.
-pub fn number(answer: Answer) -> usize
-    ensures { λ r. ⌜ r ≡ windowsAs answer .number ⌝ }
+// The answer's number, 0 where the zones are listed, else the refusal; and the refusal's place, 0 where the zones are listed.
+pub fn numbered(answer: Answer) -> Numbered
+    ensures { λ r. ⌜ r ≡ windowsAs answer ⌝ }
 {
     match answer {
-        Answer::Listed(_) => 0,
-        Answer::Small => 1,
-        Answer::Refused(refusal) => file::refusal_number(refusal),
-        Answer::Zones(_) => 7,
-        Answer::Inequalities(_) => 8,
-        Answer::Numbers(_) => 9,
-    }
-}
-
-// The refusal's place; 0 where the zones are listed.
-pub fn place(answer: Answer) -> usize
-    ensures { λ r. ⌜ r ≡ windowsAs answer .place ⌝ }
-{
-    match answer {
-        Answer::Listed(_) => 0,
-        Answer::Small => 0,
-        Answer::Refused(refusal) => file::refusal_place(refusal),
-        Answer::Zones(visit) => visit,
-        Answer::Inequalities(visit) => visit,
-        Answer::Numbers(visit) => visit,
+        Answer::Listed(_) => Numbered {
+            number: 0,
+            place: 0,
+        },
+        Answer::Small => Numbered {
+            number: 1,
+            place: 0,
+        },
+        Answer::Refused(refusal) => file::refusal_numbered(refusal),
+        Answer::Zones(visit) => Numbered {
+            number: 7,
+            place: visit,
+        },
+        Answer::Inequalities(visit) => Numbered {
+            number: 8,
+            place: visit,
+        },
+        Answer::Numbers(visit) => Numbered {
+            number: 9,
+            place: visit,
+        },
     }
 }

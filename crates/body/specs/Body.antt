@@ -5,7 +5,8 @@ use mathlib.Core.Bool.{Bool, cond, _&&_}
 use mathlib.Core.List.{List, []}
 use lib.Dec.{eqb}
 use lib.ListN.{length, take, drop}
-use Rattle.answers.specs.Numbers.{Numbered, numbered}
+use Rattle.answers.specs.Numbers.{numbered}
+use Rattle.answers.specs.declared.Numbered.{Numbered}
 use Rattle.contents.specs.Contents.{sized, contentsOf}
 use Rattle.contents.specs.declared.Contents.{Contents}
 use Rattle.cursor.specs.Cursor.{within}

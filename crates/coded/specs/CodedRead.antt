@@ -11,13 +11,13 @@ use Rattle.cutting.specs.Held.{holds, at}
 use Rattle.expr.specs.Bounds.{atV}
 use Rattle.expr.specs.Ranges.{Inside}
 use Rattle.expr.specs.Three.{affine, exprOf, boundAs, rangeList, zeroExpr}
-use Rattle.search.specs.Valuations.{satisfies, count}
+use Rattle.search.specs.Valuations.{satisfies, first, count}
 use Rattle.expr.specs.declared.bound.Bound.{Bound}
 use Rattle.expr.specs.declared.number.Expr.{Expr}
 use Rattle.expr.specs.declared.range.Ranges.{Ranges}
 use Rattle.coded.specs.Records.{zoneOf, zonesIn}
 use Rattle.coded.specs.Coded.{taken, entry-at}
-use Rattle.coded.specs.CodedTests.{pad-at, pad-satisfies, pad-count, inside-length}
+use Rattle.coded.specs.CodedTests.{pad-at, pad-satisfies, pad-first, pad-count, inside-length}
 use Rattle.zones.specs.Zone.{blankZone}
 use Rattle.constrain.specs.Rules.{entryC}
 use Rattle.zones.specs.declared.zone.Zone.{Zone}
@@ -50,6 +50,11 @@ entry-coded b z v h i j hi hj =
 pub count-coded : (b : Ranges) (z : cutting.Zone)
     → count (rangeList b) (map affine (take (zoneOf z .count) (zoneOf z .ineqs))) ≡ count (rangeList b) (z .ineqs)
 count-coded b z = ap (λ (l : List Expr). count (rangeList b) (map affine l)) (ineqs-coded z) ∙ pad-count b (z .ineqs)
+
+-- and the same is the first
+pub first-coded : (b : Ranges) (z : cutting.Zone)
+    → first (rangeList b) (map affine (take (zoneOf z .count) (zoneOf z .ineqs))) ≡ first (rangeList b) (z .ineqs)
+first-coded b z = ap (λ (l : List Expr). first (rangeList b) (map affine l)) (ineqs-coded z) ∙ pad-first b (z .ineqs)
 
 -- ---- all zones
 pub list-coded : (zs : List cutting.Zone) → take (length zs) (zonesIn zs) ≡ map zoneOf zs

@@ -71,6 +71,14 @@ test wide′ = TestWide
 abbrev pub rangeList : Ranges → List Range
 rangeList b = b .p ∷ b .q ∷ b .r ∷ []
 
+-- 0 to 0 for each
+abbrev pub zeroRanges : Ranges
+zeroRanges =
+    record { p = record { low = pos 0; high = pos 0 }; q = record { low = pos 0; high = pos 0 }; r = record { low = pos 0; high = pos 0 } }
+
 -- a valuation of the code from its parameters
 abbrev pub valuationOf : List ℤ → Valuation
 valuationOf v = record { p = getD v 0 (pos 0); q = getD v 1 (pos 0); r = getD v 2 (pos 0) }
+
+abbrev pub zeroValuation : Valuation
+zeroValuation = record { p = pos 0; q = pos 0; r = pos 0 }

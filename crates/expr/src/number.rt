@@ -24,6 +24,10 @@ pub struct Valuation {
     pub r: i16,
 }
 
+impl Valuation {
+    pub const ZERO: Valuation = Valuation { p: 0, q: 0, r: 0 };
+}
+
 // A number that is not judged yet.
 pub struct Number {
     pub value: i64,

@@ -12,3 +12,12 @@ pub struct Ranges {
     pub q: Range,
     pub r: Range,
 }
+
+impl Ranges {
+    // 0 to 0 for each.
+    pub const ZERO: Ranges = Ranges {
+        p: Range { low: 0, high: 0 },
+        q: Range { low: 0, high: 0 },
+        r: Range { low: 0, high: 0 },
+    };
+}

@@ -11,31 +11,31 @@ use windows::Piece;
 
 // The line of the counts. It answers whether all was written, as each function below does.
 fn print_counts(counts: Counts) -> bool {
-    text::named(b"pieces", counts.pieces)
-        && text::named(b" kept", counts.kept)
-        && text::named(b" cut", counts.cut)
-        && text::word(b"\n")
+    let pieces = text::named(true, b"pieces", counts.pieces);
+    let kept = text::named(pieces, b" kept", counts.kept);
+    let cut = text::named(kept, b" cut", counts.cut);
+    text::word(cut, b"\n")
 }
 
-// The lines of the first zones of a table, that many.
-fn print_zones(table: [Piece; 40], pieces: usize, clocks: usize) -> bool {
+// The lines of the first zones of a table, that many, if all before was written.
+fn print_zones(ok: bool, table: [Piece; 40], pieces: usize, clocks: usize) -> bool {
     let n = numbers::at_most(pieces, 32);
+    let mut written = ok;
     let mut k = 0;
     while k < n {
         let z = table[k];
-        if !zone::print_zone(k, z, clocks) {
-            return false;
-        }
+        written = zone::print_zone(written, k, z, clocks);
         k += 1;
     }
-    true
+    written
 }
 
 // The line of a refusal.
 fn print_refusal(answer: Answer) -> bool {
-    text::named(b"refused", answers::windows::number(answer))
-        && text::named(b" place", answers::windows::place(answer))
-        && text::word(b"\n")
+    let refusal = answers::windows::numbered(answer);
+    let number = text::named(true, b"refused", refusal.number);
+    let place = text::named(number, b" place", refusal.place);
+    text::word(place, b"\n")
 }
 
 // How many clocks the sheet of a file has.
@@ -51,7 +51,7 @@ fn print_listing(file: &[u8]) -> bool {
     let answer = reply.answer;
     let table = reply.table;
     if let Answer::Listed(counts) = answer {
-        return print_counts(counts) && print_zones(table, counts.pieces, clocks_of(file));
+        return print_zones(print_counts(counts), table, counts.pieces, clocks_of(file));
     }
     print_refusal(answer)
 }

@@ -6,7 +6,8 @@ use Prim.Native.Nat.{ℕ, _+_}
 use mathlib.Core.List.{List}
 use mathlib.Core.Bool.{cond}
 use lib.ListN.{length, replicate}
-use Rattle.answers.specs.Numbers.{Numbered, numbered, checkedAs}
+use Rattle.answers.specs.Numbers.{numbered, checkedAs}
+use Rattle.answers.specs.declared.Numbered.{Numbered}
 use Rattle.contents.specs.declared.Contents.{Contents}
 use Rattle.cursor.specs.Cursor.{advanced}
 use Rattle.contents.specs.Contents.{sized, contentsOf}

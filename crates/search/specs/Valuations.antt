@@ -47,6 +47,11 @@ countIn t (v ∷ vs) = cond (t v) (suc (countIn t vs)) (countIn t vs)
 unfoldable pub first : List Range → List Affine → Option (List ℤ)
 first rs es = firstIn (satisfies es) (valuations rs)
 
+-- its numbers; no numbers where there is none
+abbrev pub numbersIn : Option (List ℤ) → List ℤ
+numbersIn none = []
+numbersIn (some v) = v
+
 -- how many valuations of the ranges meet the inequalities
 unfoldable pub count : List Range → List Affine → ℕ
 count rs es = countIn (satisfies es) (valuations rs)

@@ -6,7 +6,6 @@ ghost use mathlib.Core.Path.{_≡_};
 ghost use Rattle.sheet.specs.Lookup.{locationC, transitionC};
 use automaton::Location;
 use automaton::Transition;
-use expr::Range;
 use expr::Ranges;
 
 // A sheet: parameters (paper: allowances) with their ranges, clocks (paper: watches), locations (paper: stages),
@@ -27,11 +26,7 @@ impl Sheet {
     // A sheet with nothing but zeros.
     pub const BLANK: Sheet = Sheet {
         parameters: 0,
-        ranges: Ranges {
-            p: Range { low: 0, high: 0 },
-            q: Range { low: 0, high: 0 },
-            r: Range { low: 0, high: 0 },
-        },
+        ranges: Ranges::ZERO,
         clocks: 0,
         locations: 0,
         location: [Location::BLANK; 16],

@@ -10,13 +10,10 @@ use Rattle.dbm.specs.Matrix.{kept}
 use Rattle.sheet.specs.declared.Sheet.{Sheet}
 use Rattle.sheet.specs.WellFormed.{WellFormed}
 use Rattle.concrete.specs.Walk.{sweepAt}
-use Rattle.timed.specs.Automaton.{routeOf}
 use Rattle.timed.specs.Runs.{Run, Tightest}
-use Rattle.soundness.specs.Along.{along-agree, along-tightest, along-held}
 use Rattle.cutting.specs.Cutting.{Zone, listed, zonesOf}
 use Rattle.cutting.specs.Held.{HeldBy, InRanges, at}
 
--- ---- the statements
 -- a zone holds v exactly if a run follows the route under v
 abbrev pub HeldIffRun : Type 0
 HeldIffRun = (s : Sheet) → WellFormed s → (zs : List Zone) → zonesOf s ≡ listed zs → (v : List ℤ) → InRanges s v → HeldBy v zs ↔ Run s v
@@ -32,16 +29,3 @@ abbrev pub ZonesTightest : Type 0
 ZonesTightest =
     (s : Sheet) → WellFormed s → (zs : List Zone) → zonesOf s ≡ listed zs → (v : List ℤ) → InRanges s v → (h : HeldBy v zs)
     → (i j : ℕ) → i ≤ s .clocks → j ≤ s .clocks → Tightest s v i j (at v (h .zone .bounds) i j)
-
--- ---- the proofs
-pub matrices-agree : MatricesAgree
-unfolding zonesOf sweepAt
-matrices-agree s zs q v i h = along-agree s (routeOf s) zs q v i h
-
-pub zones-tightest : ZonesTightest
-unfolding zonesOf
-zones-tightest s f zs q v i h = along-tightest s (routeOf s) zs q v i f h
-
-pub held-iff-run : HeldIffRun
-unfolding zonesOf
-held-iff-run s f zs q v i = along-held s (routeOf s) zs q v i f

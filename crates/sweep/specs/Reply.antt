@@ -9,7 +9,8 @@ use lib.Dec.{eqb}
 use lib.IntN.{ℤ}
 use lib.ListN.{replicate}
 use lib.Signed.{leZ}
-use Rattle.answers.specs.Numbers.{Numbered, numbered, sweepAs}
+use Rattle.answers.specs.Numbers.{numbered, sweepAs}
+use Rattle.answers.specs.declared.Numbered.{Numbered}
 use Rattle.dbm.specs.Matrix.{Outcome, void, kept}
 use Rattle.expr.specs.Three.{rangeList}
 use Rattle.expr.specs.declared.range.Range.{Range}

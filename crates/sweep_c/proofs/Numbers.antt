@@ -5,6 +5,7 @@ use Prim.Native.Nat.{ℕ, _<_, _≤_, _^_}
 use native.Mathlib.Omega.{arith}
 use lib.IntN.{ℤ}
 use Rattle.answers.specs.Numbers.{refusalAs, sweepAs}
+use Rattle.answers.specs.declared.Numbered.{Numbered}
 use Rattle.answers.specs.declared.file.Refusal.{Refusal}
 use Rattle.answers.specs.declared.file.Refusal.the-variants.{Size, Contents, Body, Route}
 use Rattle.answers.specs.declared.sweep.Answer.{Answer}
@@ -23,8 +24,8 @@ answer-small answer.Void = omega arith
 answer-small (answer.Refused r) = refusal-small r
 answer-small (answer.Outside k) = omega arith
 
-pub fits : (n : ℕ) (a : Answer) → n ≡ sweepAs a .number → n < 2 ^ 63
-fits n a e = omega (arith, answer-small a)
+pub fits : (n : Numbered) (a : Answer) → n ≡ sweepAs a → n .number < 2 ^ 63
+fits n a e = rw e (omega (arith, answer-small a))
 
 -- the reply at numbers that were passed as their bits
 pub same-reply : (file : List ℕ) {p q r p′ q′ r′ : ℤ} → p ≡ p′ → q ≡ q′ → r ≡ r′

@@ -20,5 +20,6 @@ pub extern "C" fn sweep_sheet(sheet: &[u8], p: i64, q: i64, r: i64) -> i64
 {
     let reply = sweep::sweep(sheet, p, q, r);
     let answer = reply.answer;
-    signed(answers::sweep::number(answer))
+    let numbered = answers::sweep::numbered(answer);
+    signed(numbered.number)
 }

@@ -152,9 +152,9 @@ fn with_part(h: u64, part: &[u8]) -> u64 {
 
 // The digest with the body of a kind: why it is refused, and its part.
 fn with_body(h: u64, file: &[u8], kind: u8) -> u64 {
-    let checked = body::body_refusal(file, kind);
-    let number = with_count(h, answers::file::number(checked));
-    let place = with_count(number, answers::file::place(checked));
+    let refusal = answers::file::numbered(body::body_refusal(file, kind));
+    let number = with_count(h, refusal.number);
+    let place = with_count(number, refusal.place);
     with_part(place, body::body(file, kind))
 }
 

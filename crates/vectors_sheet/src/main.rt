@@ -38,11 +38,11 @@ fn print_refusal(number: usize, place: usize) {
 // Writes what reading a file gave.
 fn print_reading(reading: Reading) {
     let checked = reading.checked;
-    let number = answers::file::number(checked);
-    if number == 0 {
+    let refusal = answers::file::numbered(checked);
+    if refusal.number == 0 {
         print_sheet(reading.sheet);
     } else {
-        print_refusal(number, answers::file::place(checked));
+        print_refusal(refusal.number, refusal.place);
     }
 }
 

@@ -24,10 +24,11 @@ fn print_answer(file: &[u8], p: i64, q: i64, r: i64) {
     let reply = sweep::sweep(file, p, q, r);
     let answer = reply.answer;
     let rows = reply.rows;
+    let numbered = answers::sweep::numbered(answer);
     io::write_all(STDOUT_FILENO, b" ");
-    print_number(answers::sweep::number(answer));
+    print_number(numbered.number);
     io::write_all(STDOUT_FILENO, b"/");
-    print_number(answers::sweep::place(answer));
+    print_number(numbered.place);
     io::write_all(STDOUT_FILENO, b"/");
     io::print_decimal(STDOUT_FILENO, digest::digest(rows));
 }

@@ -1,13 +1,22 @@
-// The digest of the places of a table. The numbers of a place are: 1 if it is used and 0 otherwise, the count of inequalities,
-// the four numbers with sign of each of the 24 inequalities, and for each of the 25 bounds in row order 1 if it is none, 1 if it
-// is strict, each 0 otherwise, and its four numbers with sign. A blank table has the digest 0.
+// The digest of the places of a table. The numbers of a place are: 1 if it is used and 0 otherwise, the three numbers with sign of its
+// first valuation, the count of inequalities, the four numbers with sign of each of the 24 inequalities, and for each of the 25 bounds in
+// row order 1 if it is none, 1 if it is strict, each 0 otherwise, and its four numbers with sign. A blank table has the digest 0.
 use expr::Bound;
 use expr::Expr;
+use expr::Valuation;
 use numbers::wide;
+use numbers::wide16;
 use stored::with_number;
 use stored::with_signed;
 use windows::Piece;
 ghost use Prim.Native.Nat.{_≤_};
+
+// The digest with the three numbers of a valuation.
+fn with_valuation(h: u64, v: Valuation) -> u64 {
+    let p = with_signed(h, wide16(v.p));
+    let q = with_signed(p, wide16(v.q));
+    with_signed(q, wide16(v.r))
+}
 
 // The digest with the four numbers of an expression.
 fn with_expr(h: u64, e: Expr) -> u64 {
@@ -48,7 +57,8 @@ fn with_bounds(h: u64, z: Piece) -> u64 {
 // The digest with a place of the table.
 fn with_zone(h: u64, z: Piece) -> u64 {
     let used = with_number(h, z.used as u64);
-    let count = with_number(used, z.count as u64);
+    let first = with_valuation(used, z.first);
+    let count = with_number(first, z.count as u64);
     with_bounds(with_inequalities(count, z), z)
 }
 

@@ -8,6 +8,7 @@ use answers::windows::Answer;
 use answers::windows::Counts;
 use expr::Bound;
 use expr::Expr;
+use expr::Valuation;
 use libc::STDOUT_FILENO;
 use numbers::at_most;
 use numbers::index;
@@ -29,6 +30,7 @@ fn filled() -> [Piece; 40] {
     };
     let z = Piece {
         used: true,
+        first: Valuation { p: 4, q: -6, r: 8 },
         count: 24,
         ineqs: [e; 24],
         bounds: [b; 25],
@@ -67,9 +69,10 @@ fn counts_of(answer: Answer) -> Counts {
 
 // Writes what Windows answers.
 fn print_answer(answer: Answer) {
-    print_next_number(answers::windows::number(answer));
+    let numbered = answers::windows::numbered(answer);
+    print_next_number(numbered.number);
     io::write_all(STDOUT_FILENO, b"/");
-    print_number(answers::windows::place(answer));
+    print_number(numbered.place);
     let counts = counts_of(answer);
     print_next_number(counts.pieces);
     print_next_number(counts.kept);

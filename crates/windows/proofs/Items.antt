@@ -6,12 +6,15 @@ use native.Mathlib.Nat.{not-suc-le-zero, le-of-suc-le-suc, le-refl, add-zero, ad
 use native.Mathlib.Omega.{arith}
 use borrow.Author.Tests.{lt-ltb, le-ltb}
 use lib.ListN.{length, getD, set, drop, length-set, drop-of-length-le}
+use mathlib.Core.Bool.{true}
+use Rattle.expr.specs.declared.number.Valuation.{Valuation}
+use Rattle.expr.specs.declared.range.Ranges.{Ranges}
 use Rattle.windows_reply.specs.declared.Worked.{Worked}
 use Rattle.zones.specs.Zone.{blankZone}
 use Rattle.zones.specs.declared.zone.Zone.{Zone}
 use Rattle.windows.specs.declared.table.Piece.{Piece}
-use Rattle.windows.specs.Pieces.{pieceIn, blankPiece}
-use Rattle.windows.specs.Table.{itemOf, itemsOf, items-length}
+use Rattle.windows.specs.Pieces.{blankPiece}
+use Rattle.windows.specs.Table.{pieceIn, itemOf, itemsOf, items-length}
 
 -- an element that the list has does not depend on the default
 any-default : {A : Type 0} (l : List A) (i : ℕ) (d e : A) → i < length l → getD l i d ≡ getD l i e
@@ -19,13 +22,18 @@ any-default [] i d e h = absurd (not-suc-le-zero h)
 any-default (x ∷ l) zero d e h = refl
 any-default (x ∷ l) (suc i) d e h = any-default l i d e (le-of-suc-le-suc h)
 
+-- a piece with the first valuation that its zone holds
+pub piece-with : (b : Ranges) (z : Zone) (v : Valuation) → v ≡ pieceIn b z .first
+    → record { used = true; first = v; count = z .count; ineqs = z .ineqs; bounds = z .bounds } ≡ pieceIn b z
+piece-with b z v e = ap (λ (x : Valuation). record { used = true; first = x; count = z .count; ineqs = z .ineqs; bounds = z .bounds }) e
+
 -- the two cases of an item
 module _ (work : Worked) (n i : ℕ) where
   pub item-in : (d : Zone) (p : Piece) → n ≡ min (work .pieces) 32 → length (work .zones) ≡ 32 → i < n → p
-      ≡ pieceIn (getD (work .zones) i d) → p ≡ itemOf work i
+      ≡ pieceIn (work .ranges) (getD (work .zones) i d) → p ≡ itemOf work i
   unfolding itemOf
   item-in d p e l h k =
-      rw (lt-ltb i (min (work .pieces) 32) (omega arith)) (k ∙ ap (λ (z : Zone). pieceIn z)
+      rw (lt-ltb i (min (work .pieces) 32) (omega arith)) (k ∙ ap (pieceIn (work .ranges))
       (any-default (work .zones) i d blankZone (omega arith)))
 
   pub item-past : n ≡ min (work .pieces) 32 → n ≤ i → blankPiece ≡ itemOf work i

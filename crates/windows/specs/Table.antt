@@ -1,4 +1,4 @@
--- What the code stores, place by place, is the table of Reply: the pieces in order, and blanks behind them.
+-- What the code stores, place by place, is the table of Pieces: the pieces in order, and blanks behind them.
 use mathlib.Core.Path.{_≡_, refl, sym, ap, _∙_}
 use mathlib.Core.List.{List, [], _∷_, _++_, map}
 use mathlib.Core.Bool.{Bool, true, false, cond}
@@ -10,23 +10,39 @@ use lib.ListN.{length, getD, take, replicate, length-append, length-map, length-
 use lib.Seq.{getD-append-seam, getD-take, ext-getD}
 use Rattle.coded.specs.Records.{zoneOf, zonesIn}
 use Rattle.coded.specs.Coded.{taken}
+use Rattle.coded.specs.CodedRead.{first-coded}
 use Rattle.cutting.specs.Cutting.{Listing, listed, refused, zonesOf}
 use Rattle.cutting.specs.Cutting as cutting
+use Rattle.cutting.specs.FirstHeld.{firstHeld}
 use Rattle.answers.specs.Numbers.{numbered}
-use Rattle.cutting.specs.Shape.{zones-shaped}
+use Rattle.expr.specs.Three.{affine, rangeList, valuationOf}
+use Rattle.expr.specs.declared.range.Ranges.{Ranges}
+use Rattle.search.specs.Valuations.{first, numbersIn}
+use Rattle.cutting.specs.ShapeProof.{zones-shaped}
 use Rattle.sheet.specs.declared.Sheet.{Sheet}
 use Rattle.reading.specs.File.{readOf}
 use Rattle.windows_reply.specs.Reply.{WindowsReply, answeredOf, answeredAs, refusedReply, listingReply, sheetReply, readReply, replyOf}
-use Rattle.windows.specs.Pieces.{pieceIn, pieceOf, blankPiece, tableOf}
+use Rattle.windows.specs.Pieces.{pieceOf, blankPiece, tableOf}
 use Rattle.windows_reply.specs.Work.{Shown, shown, shownOf}
 use Rattle.windows_reply.specs.declared.Worked.{Worked}
 use Rattle.windows.specs.declared.table.Piece.{Piece}
 use Rattle.zones.specs.Zone.{blankZone}
 use Rattle.zones.specs.declared.zone.Zone.{Zone}
 
+-- the piece of a zone of the code
+abbrev pub pieceIn : Ranges → Zone → Piece
+pieceIn b z =
+    record {
+      used = true;
+      first = valuationOf (numbersIn (first (rangeList b) (map affine (take (z .count) (z .ineqs)))));
+      count = z .count;
+      ineqs = z .ineqs;
+      bounds = z .bounds;
+    }
+
 -- the item at place i of the table: the piece of the zone worked out for it, or a blank one
 unfoldable pub itemOf : Worked → ℕ → Piece
-itemOf work i = cond (ltb i (min (work .pieces) 32)) (pieceIn (getD (work .zones) i blankZone)) blankPiece
+itemOf work i = cond (ltb i (min (work .pieces) 32)) (pieceIn (work .ranges) (getD (work .zones) i blankZone)) blankPiece
 
 -- the items at the first n places
 unfoldable pub itemsOf : Worked → ℕ → List Piece
@@ -81,7 +97,7 @@ module _ {A B : Type 0} (f : A → B) (blank : B) where
 -- ---- the table
 -- the places that the code fills, and blanks
 unfoldable placesOf : Worked → ℕ → List Piece
-placesOf work n = map pieceIn (take (work .pieces) (work .zones)) ++ replicate (n - work .pieces) blankPiece
+placesOf work n = map (pieceIn (work .ranges)) (take (work .pieces) (work .zones)) ++ replicate (n - work .pieces) blankPiece
 
 -- as many zones as are listed, and a place for each
 record Fits (work : Worked) (n : ℕ) : Type 0 where
@@ -93,14 +109,17 @@ module _ (work : Worked) (n : ℕ) (f : Fits work n) where
   abbrev zones : List Zone
   zones = take (work .pieces) (work .zones)
 
+  abbrev piece : Zone → Piece
+  piece = pieceIn (work .ranges)
+
   zones-long : length zones ≡ work .pieces
   zones-long = let a = length-take (work .pieces) (work .zones) in omega (arith, f .long, f .few)
 
   table-long : length (placesOf work n) ≡ n
   unfolding placesOf
   table-long =
-      let a = length-append (map pieceIn zones) (replicate (n - work .pieces) blankPiece) in
-      let b : length (map pieceIn zones) ≡ work .pieces = length-map zones pieceIn ∙ zones-long in
+      let a = length-append (map piece zones) (replicate (n - work .pieces) blankPiece) in
+      let b : length (map piece zones) ≡ work .pieces = length-map zones piece ∙ zones-long in
       let c = length-replicate (n - work .pieces) blankPiece in
       omega (arith, f .room)
 
@@ -110,12 +129,12 @@ module _ (work : Worked) (n : ℕ) (f : Fits work n) where
       let h = ltb-true i (work .pieces) e in
       let l : i < length zones = rw zones-long h in
       rw (lt-ltb i (min (work .pieces) 32) (omega (arith, f .few)))
-      (sym (in-list pieceIn blankPiece zones (replicate (n - work .pieces) blankPiece) blankZone i l
-      ∙ ap (λ (z : Zone). pieceIn z) (getD-take (work .pieces) (work .zones) i blankZone h)))
+      (sym (in-list piece blankPiece zones (replicate (n - work .pieces) blankPiece) blankZone i l
+      ∙ ap piece (getD-take (work .pieces) (work .zones) i blankZone h)))
   at-place i false e =
       let h = ltb-false i (work .pieces) e in
       let l : length zones ≤ i = rw zones-long h in
-      rw (le-ltb i (min (work .pieces) 32) (omega arith)) (sym (past-list pieceIn blankPiece zones (n - work .pieces) i l))
+      rw (le-ltb i (min (work .pieces) 32) (omega arith)) (sym (past-list piece blankPiece zones (n - work .pieces) i l))
 
   items-table : itemsOf work n ≡ placesOf work n
   items-table =
@@ -160,16 +179,21 @@ work-fits w r n e f =
     let z = ap (λ (x : Shown). length (x .zones)) e in
     record { long = z ∙ zones-in-long (r .zones) (f .0); few = omega (arith, f .0); room = omega (arith, f .1) }
 
-map-pieces : (zs : List cutting.Zone) → map pieceIn (map zoneOf zs) ≡ map pieceOf zs
-map-pieces [] = refl
-map-pieces (z ∷ zs) = ap (λ (l : List Piece). pieceOf z ∷ l) (map-pieces zs)
+piece-coded : (b : Ranges) (z : cutting.Zone) → pieceIn b (zoneOf z) ≡ pieceOf b z
+unfolding firstHeld
+piece-coded b z = rw (first-coded b z) refl
+
+map-pieces : (b : Ranges) (zs : List cutting.Zone) → map (pieceIn b) (map zoneOf zs) ≡ map (pieceOf b) zs
+map-pieces b [] = refl
+map-pieces b (z ∷ zs) = rw (piece-coded b z, map-pieces b zs) refl
 
 places-table : (w : Worked) (r : WindowsReply) (n : ℕ) → shown w ≡ shownOf r → placesOf w n ≡ tableOf r n
 unfolding placesOf tableOf zonesIn
 places-table w r n e =
     let p : w .pieces ≡ length (r .zones) = ap (λ (x : Shown). x .pieces) e in
+    let b : w .ranges ≡ r .ranges = ap (λ (x : Shown). x .ranges) e in
     let z : w .zones ≡ zonesIn (r .zones) = ap (λ (x : Shown). x .zones) e in
-    rw (p, z, taken zoneOf blankZone (32 - length (r .zones)) (r .zones), map-pieces (r .zones)) refl
+    rw (p, b, z, taken zoneOf blankZone (32 - length (r .zones)) (r .zones), map-pieces (r .ranges) (r .zones)) refl
 
 -- the items that are stored are the table
 pub work-table : (file : List ℕ) (n : ℕ) (w : Worked) → shown w ≡ shownOf (replyOf file n) → itemsOf w n ≡ tableOf (replyOf file n) n
@@ -179,8 +203,9 @@ pub table-length : (file : List ℕ) (n : ℕ) → length (tableOf (replyOf file
 unfolding tableOf
 table-length file n =
     let zs = replyOf file n .zones in
-    let a = length-append (map pieceOf zs) (replicate (n - length zs) blankPiece) in
-    let b = length-map zs pieceOf in
+    let piece = pieceOf (replyOf file n .ranges) in
+    let a = length-append (map piece zs) (replicate (n - length zs) blankPiece) in
+    let b = length-map zs piece in
     let c = length-replicate (n - length zs) blankPiece in
     omega (arith, reply-few file n .1)
 

@@ -1,40 +1,45 @@
 // The table that the caller lends.
 use expr::Bound;
 use expr::Expr;
+use expr::Ranges;
+use expr::Valuation;
 use windows_reply::Worked;
 use zones::Zone;
 ghost use mathlib.Core.Path.{_≡_};
 ghost use lib.ListN.{length};
-ghost use Rattle.windows.specs.Pieces.{pieceIn};
-ghost use Rattle.windows.specs.Table.{itemOf, itemsOf};
+ghost use Rattle.windows.specs.Table.{pieceIn, itemOf, itemsOf};
 
-// A place of the table (paper: piece): whether it is used; its inequalities, the first `count` of the list, each an expression that is at
-// least 0, zeros past them; and its matrix, five rows of five: entry 5i + j bounds clock i - clock j.
+// A place of the table (paper: piece): whether it is used; the first valuation that it holds (paper: the setting to start from); its
+// inequalities, the first `count` of the list, each an expression that is at least 0, zeros past them; and its matrix, five rows of
+// five: entry 5i + j bounds clock i - clock j.
 pub struct Piece {
     pub used: bool,
+    pub first: Valuation,
     pub count: usize,
     pub ineqs: [Expr; 24],
     pub bounds: [Bound; 25],
 }
 
 impl Piece {
-    // A place that is not used: no inequalities, all entries zero, not strict.
+    // A place that is not used: its first valuation zeros, no inequalities, all entries zero, not strict.
     pub const BLANK: Piece = Piece {
         used: false,
+        first: Valuation::ZERO,
         count: 0,
         ineqs: [Expr::ZERO; 24],
         bounds: [Bound::ZERO; 25],
     };
 }
 
-// The piece of a zone.
-fn piece_of(zone: Zone) -> Piece
-    ensures { λ r. ⌜ r ≡ pieceIn zone ⌝ }
+// The piece of a zone of these ranges.
+fn piece_of(b: Ranges, zone: Zone) -> Piece
+    ensures { λ r. ⌜ r ≡ pieceIn b zone ⌝ }
 {
     let ineqs = zone.ineqs;
     let bounds = zone.bounds;
     Piece {
         used: true,
+        first: zones::first_held(b, zone),
         count: zone.count,
         ineqs,
         bounds,
@@ -48,7 +53,7 @@ fn item_at(work: Worked, i: usize) -> Piece
     let n = numbers::at_most(work.pieces, 32);
     if i < n {
         let zone = work.zones[i];
-        return piece_of(zone);
+        return piece_of(work.ranges, zone);
     }
     Piece::BLANK
 }

@@ -9,12 +9,13 @@ use borrow.Author.Tests.{eq-eqb, ne-eqb}
 use lib.Dec.{ltb, eqb}
 use lib.IntN.{pos, negℤ}
 use Rattle.answers.specs.Numbers.{numbered, refusalAs, windowsAs, countsOf}
+use Rattle.answers.specs.declared.Numbered.{Numbered}
 use Rattle.answers.specs.declared.file.Refusal.{Refusal}
 use Rattle.answers.specs.declared.file.Refusal.the-variants.{Size, Contents, Body, Route}
 use Rattle.answers.specs.declared.windows.Answer.{Answer}
 use Rattle.answers.specs.declared.windows.Answer.the-variants as answer
 use Rattle.cutting.specs.Cutting.{Listing, listed, refused, zonesOf}
-use Rattle.cutting.specs.Shape.{zones-shaped}
+use Rattle.cutting.specs.ShapeProof.{zones-shaped}
 use Rattle.reading.specs.File.{readOf}
 use Rattle.sheet.specs.declared.Sheet.{Sheet}
 use Rattle.windows_reply.specs.Reply.{WindowsReply, answeredAs, refusedReply, listingReply, sheetReply, readReply, replyOf}
@@ -37,6 +38,10 @@ reply-few file n = by (ltb n 32) (eqb (readOf file .answer .number) 0)
     by true c = omega arith
     by false true = listing-few s (zonesOf s) refl
     by false false = omega arith
+
+-- the number alone
+abbrev pub numberOf : Numbered → ℕ
+numberOf a = a .number
 
 refusal-small : (r : Refusal) → refusalAs r .number ≤ 9
 refusal-small Size = omega arith

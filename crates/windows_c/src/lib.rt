@@ -43,11 +43,11 @@ fn count(answer: Answer) -> i64
     requires { ⌜ countsOf answer .pieces ≤ 32 ⌝ }
     ensures { λ r. ⌜ r ≡ countOf (answeredAs answer) ⌝ }
 {
-    let number = answers::windows::number(answer);
-    if number == 0 {
+    let numbered = answers::windows::numbered(answer);
+    if numbered.number == 0 {
         return signed(pieces(answer));
     }
-    minus(number)
+    minus(numbered.number)
 }
 
 // The number of pieces that Windows lists of a sheet file in a table of 32 places, or minus the number of the refusal.

@@ -88,9 +88,9 @@ module _ (b : Ranges) (zs : Zones) where
       → record {
         answer = numbered 0 0;
         counts = record { pieces = zs .count; kept = kept; cut = cut };
+        ranges = b;
         pieces = zs .count;
-        zones =
-            zs .list;
+        zones = zs .list;
       }
       ≡ listedC b zs
   unfolding listedC

@@ -11,7 +11,7 @@ use lib.IntN.{ℤ, pos, negsuc, _+ℤ_, _-ℤ_}
 use lib.ListN.{length}
 use lib.Signed.{_≤ℤ_}
 use Rattle.cutting.specs.Cutting.{Listing, listed, refused, zonesOf, SevenToNine}
-use Rattle.cutting.specs.Numbered.{zones-numbered}
+use Rattle.cutting.specs.NumberedProof.{zones-numbered}
 use Rattle.search.specs.Valuations.{widths, width, valuations, satisfies, countIn, count}
 use Rattle.search.specs.SearchLaws.{valuations-length}
 use Rattle.expr.specs.Affine.{Affine}

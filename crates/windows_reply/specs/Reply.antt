@@ -1,24 +1,26 @@
 -- What Windows replies, for every file and every count of places (paper 01, "When no piece is given"), in the paper's numbers: refusal
--- 1, then
--- 2 to 5, the whole file for each, then 7, 8 or 9, the first met in the order of cutting; else the zones in order, kept and cut.
+-- 1, then 2 to 5, the whole file for each, then 7, 8 or 9, the first met in the order of cutting; else the zones in order, kept and cut.
 use mathlib.Core.List.{List, []}
 use mathlib.Core.Bool.{cond}
 use Prim.Native.Nat.{ℕ}
 use lib.Dec.{ltb, eqb}
 use lib.ListN.{length}
-use Rattle.answers.specs.Numbers.{Numbered, numbered, windowsAs, countsOf, noCounts}
+use Rattle.answers.specs.Numbers.{numbered, windowsAs, countsOf, noCounts}
+use Rattle.answers.specs.declared.Numbered.{Numbered}
 use Rattle.answers.specs.declared.windows.Answer.{Answer}
 use Rattle.answers.specs.declared.windows.Counts.{Counts}
 use Rattle.cutting.specs.Cutting.{Zone, Listing, listed, refused, zonesOf}
 use Rattle.cutting.specs.Kept.{keptOf, cutOf}
-use Rattle.expr.specs.Three.{rangeList}
+use Rattle.expr.specs.Three.{rangeList, zeroRanges}
+use Rattle.expr.specs.declared.range.Ranges.{Ranges}
 use Rattle.reading.specs.File.{Read, readOf}
 use Rattle.sheet.specs.declared.Sheet.{Sheet}
 
--- a reply: the answer's number and place; how many pieces, kept and cut; the zones (paper: pieces) in order
+-- a reply: the answer's number and place; how many pieces, kept and cut; the ranges that were cut, and the zones (paper: pieces) in order
 pub record WindowsReply : Type 0 where
   pub answer : Numbered
   pub counts : Counts
+  pub ranges : Ranges
   pub zones : List Zone
 
 -- what the call itself returns of it: the answer's number and place, and the counts
@@ -35,7 +37,7 @@ answeredAs a = record { answer = windowsAs a; counts = countsOf a }
 
 -- with a refusal there are no zones, and nothing is counted
 abbrev pub refusedReply : Numbered → WindowsReply
-refusedReply a = record { answer = a; counts = noCounts; zones = [] }
+refusedReply a = record { answer = a; counts = noCounts; ranges = zeroRanges; zones = [] }
 
 -- the zones that the cutting lists, kept and cut; or its refusal
 unfoldable pub listingReply : Sheet → Listing → WindowsReply
@@ -43,6 +45,7 @@ listingReply s (listed zs) =
     record {
       answer = numbered 0 0;
       counts = record { pieces = length zs; kept = keptOf (rangeList (s .ranges)) zs; cut = cutOf (rangeList (s .ranges)) zs };
+      ranges = s .ranges;
       zones = zs;
     }
 listingReply s (refused n visit) = refusedReply (numbered n visit)

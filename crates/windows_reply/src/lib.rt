@@ -16,9 +16,10 @@ ghost use Rattle.windows_reply.specs.Reply.{sheetReply, replyOf};
 ghost use Rattle.windows_reply.specs.Work.{shown, shownOf, blankShown, refusedBy, listedC};
 ghost use Rattle.coded.specs.CodedRead.{keptC};
 
-// What is worked out: the answer, how many pieces, and their zones in order, blank past them.
+// What is worked out: the answer, the ranges that were cut, how many pieces, and their zones in order, blank past them.
 pub struct Worked {
     pub answer: Answer,
+    pub ranges: Ranges,
     pub pieces: usize,
     pub zones: [Zone; 32],
 }
@@ -29,6 +30,7 @@ fn blank(answer: Answer) -> Worked
 {
     Worked {
         answer,
+        ranges: Ranges::ZERO,
         pieces: 0,
         zones: [Zone::BLANK; 32],
     }
@@ -80,6 +82,7 @@ fn listed(b: Ranges, zones: Zones) -> Worked
             kept,
             cut: numbers::less(all, kept),
         }),
+        ranges: b,
         pieces: zones.count,
         zones: list,
     }

@@ -15,11 +15,12 @@ use lib.ListN.{length, getD, set, take, replicate}
 use lib.Seq.{take-all, take-suc, take-suc-set}
 use Rattle.integer.specs.Apart.{apart}
 use Rattle.expr.specs.Affine.{Affine, value, dot, opposite, judge, OPPOSITE}
-use Rattle.expr.specs.Three.{affine, inequality, rangeList, zeroExpr}
+use Rattle.expr.specs.Three.{affine, inequality, rangeList, valuationOf, zeroExpr, zeroValuation}
 use Rattle.search.specs.System.{firstOf, exprs}
-use Rattle.search.specs.Valuations.{first, satisfies, countIn, count, valuations}
+use Rattle.search.specs.Valuations.{first, firstIn, numbersIn, satisfies, countIn, count, valuations}
 use Rattle.expr.specs.declared.number.Expr.{Expr}
 use Rattle.expr.specs.declared.number.Inequality.{Inequality}
+use Rattle.expr.specs.declared.number.Valuation.{Valuation}
 use Rattle.expr.specs.declared.range.Ranges.{Ranges}
 use Rattle.search.specs.declared.search.Solution.{Solution}
 use Rattle.search.specs.declared.search.Solution.the-variants.{Found, Nothing}
@@ -135,3 +136,26 @@ pub held-is : (b : Ranges) (xs : List Expr) (n : ℕ) (es : List Affine) → es 
     → n ≡ count (rangeList b) es → n ≡ count (rangeList b) (map affine xs)
 unfolding count
 held-is b xs n es e h = h ∙ ap (count (rangeList b)) e ∙ count-zero xs (valuations (rangeList b))
+
+first-zero : (xs : List Expr) (vs : List (List ℤ))
+    → firstIn (satisfies (map affine (xs ++ (zeroExpr ∷ [])))) vs ≡ firstIn (satisfies (map affine xs)) vs
+unfolding firstIn
+first-zero xs [] = refl
+first-zero xs (v ∷ vs) = rw (zero-satisfied xs v, first-zero xs vs) refl
+
+-- what the search answers, as a valuation of the code
+abbrev pub valuationAs : Solution → Valuation
+valuationAs (Found v) = v
+valuationAs Nothing = zeroValuation
+
+solution-as : (o : Option (List ℤ)) → valuationAs (firstOf o) ≡ valuationOf (numbersIn o)
+solution-as option.none = refl
+solution-as (option.some v) = refl
+
+pub first-held-is : (b : Ranges) (xs : List Expr) (o : Solution) (es : List Affine) → es ≡ map affine (xs ++ (zeroExpr ∷ []))
+    → o ≡ firstOf (first (rangeList b) es) → valuationAs o ≡ valuationOf (numbersIn (first (rangeList b) (map affine xs)))
+unfolding first
+first-held-is b xs o es e h =
+    ap valuationAs (h ∙ ap (λ (l : List Affine). firstOf (first (rangeList b) l)) e)
+    ∙ solution-as (first (rangeList b) (map affine (xs ++ (zeroExpr ∷ []))))
+    ∙ ap (λ (f : Option (List ℤ)). valuationOf (numbersIn f)) (first-zero xs (valuations (rangeList b)))

@@ -3,6 +3,7 @@ mod settle;
 mod zone;
 
 pub use settle::Verdict;
+pub use settle::first_held;
 pub use settle::held;
 pub use settle::settled;
 pub use settle::with_opposite;

@@ -5,14 +5,15 @@ use expr::Expr;
 use expr::Inequality;
 use expr::Ranges;
 use expr::Test;
+use expr::Valuation;
 use search::Solution;
 use search::System;
 ghost use mathlib.Core.Path.{_≡_};
 ghost use mathlib.Core.List.{[], _∷_, _++_, map};
 ghost use lib.ListN.{take};
 ghost use Rattle.search.specs.System.{exprs};
-ghost use Rattle.expr.specs.Three.{affine, rangeList};
-ghost use Rattle.search.specs.Valuations.{count};
+ghost use Rattle.expr.specs.Three.{affine, rangeList, valuationOf};
+ghost use Rattle.search.specs.Valuations.{first, numbersIn, count};
 ghost use Rattle.zones.specs.Zone.{moreC};
 ghost use Rattle.zones.specs.Settled.{oppositeC, neverC, onC, settledC};
 
@@ -54,6 +55,17 @@ pub fn held(b: Ranges, zone: Zone) -> usize
     ensures { λ n. ⌜ n ≡ count (rangeList b) (map affine (take (zone .count) (zone .ineqs))) ⌝ }
 {
     search::count(b, system(zone, Expr::ZERO))
+}
+
+// The first valuation of the ranges that a zone holds, comparing parameter 1, then 2, then 3, smaller first; zeros if it holds none.
+pub fn first_held(b: Ranges, zone: Zone) -> Valuation
+    ensures { λ v. ⌜ v ≡ valuationOf (numbersIn (first (rangeList b) (map affine (take (zone .count) (zone .ineqs))))) ⌝ }
+{
+    let found = search::first(b, system(zone, Expr::ZERO));
+    match found {
+        Solution::Found(v) => v,
+        Solution::Nothing => Valuation::ZERO,
+    }
 }
 
 // Whether no valuation of the zone satisfies e.

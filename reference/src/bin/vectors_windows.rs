@@ -5,7 +5,7 @@
 //! belong to which family.
 
 use reference::cuttings::{
-    answer, edges, families, line, paper, stored, Case, Reply, EDGES, PAPER,
+    answer, edges, families, firsts, line, paper, stored, Case, Reply, EDGES, FIRSTS, PAPER,
 };
 use reference::family;
 use reference::tool::{run, Stored};
@@ -62,6 +62,7 @@ fn list() {
         match family.name {
             PAPER => family::list_cases(first, paper::cases().into_iter().map(words)),
             EDGES => family::list_cases(first, edges::cases().into_iter().map(words)),
+            FIRSTS => family::list_cases(first, firsts::cases().into_iter().map(words)),
             _ => {}
         }
     });
@@ -72,8 +73,8 @@ fn list() {
 /// A case in words: what it tries, and what it must give.
 fn words(case: Case) -> (String, String) {
     let result = match case.result {
-        Reply::Zones(lists, kept, cut) => {
-            format!("{} zones, {kept} kept, {cut} cut", lists.len())
+        Reply::Zones(list, kept, cut) => {
+            format!("{} zones, {kept} kept, {cut} cut", list.len())
         }
         Reply::Counts(zones, kept, cut) => format!("{zones} zones, {kept} kept, {cut} cut"),
         Reply::Refused(number, place) => format!("refused {number} place {place}"),

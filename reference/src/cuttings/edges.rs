@@ -12,7 +12,7 @@ use super::{case, Case, Reply};
 use crate::bound::Expr;
 use crate::samples::{along, at_most, range};
 use crate::sheet::{Guard, Parameter, Sheet, MOST_GUARDS};
-use Reply::{Counts, Refused, Zones};
+use Reply::{Counts, Refused};
 
 /// All cases.
 pub fn cases() -> Vec<Case> {
@@ -122,7 +122,7 @@ fn inequalities() -> Vec<Case> {
     let cut = |last: i16| at_moves(&wide, &up, &rising(1..=last), 6);
     let again = at_moves(&wide, &up, &rising((1..=24).chain([24, 3, 24])), 6);
     let one_each = at_moves(&wide, &up, &rising(1..=25), 1);
-    let shaved = || Zones(vec![at_least(1..=24)], 40, 24);
+    let shaved = || super::zones(&[([24, 0, 0], &at_least(1..=24))], 40, 24);
     let p = [range(0, 30)];
     vec![
         case("24 inequalities, one zone", &cut(24), shaved()),

@@ -14,9 +14,15 @@ const TRIED: usize = 1_000;
 
 /// Nothing if the zones agree with Sweep at all valuations, or at some where there are many: at most one
 /// zone holds a valuation, one does exactly if there is a run, and its matrix is then Sweep's. The counts
-/// agree too. Otherwise what does not agree.
+/// agree too, and each zone's first valuation is the least that it holds. Otherwise what does not agree.
 pub fn held(random: &mut Random, sheet: &Sheet, found: &Windows) -> Result<(), String> {
     let valuations = all(&sheet.parameters);
+    for zone in &found.zones {
+        let least = valuations.iter().filter(|&&v| holds(zone, v)).min();
+        if least != Some(&zone.first) {
+            return Err(format!("{least:?} is the least, {:?} first", zone.first));
+        }
+    }
     if found.kept + found.cut != valuations.len() {
         return Err(format!("{} valuations, {found:?}", valuations.len()));
     }
@@ -61,6 +67,6 @@ fn agrees(sheet: &Sheet, found: &Windows, v: Valuation) -> Result<bool, String> 
 }
 
 /// Whether a zone holds a valuation of the ranges.
-fn holds(zone: &Zone, v: Valuation) -> bool {
+pub fn holds(zone: &Zone, v: Valuation) -> bool {
     zone.inequalities.iter().all(|&e| value(e, v) >= 0)
 }

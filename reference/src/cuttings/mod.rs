@@ -9,6 +9,7 @@
 mod built;
 pub mod drawn;
 pub mod edges;
+pub mod firsts;
 #[cfg(test)]
 mod held;
 pub mod paper;
@@ -20,14 +21,16 @@ use crate::bound::Expr;
 use crate::family::Family;
 use crate::random::Random;
 use crate::sheet::{Refusal, Sheet};
+use crate::valuations::Valuation;
 use crate::vectors;
 use crate::windows::{windows, Outcome, Windows, PLACES};
 use crate::writer;
 use table::digest_of;
 
-/// The names of the families whose records are the cases of `paper` and of `edges`.
+/// The names of the families whose records are the cases of `paper`, of `edges` and of `firsts`.
 pub const PAPER: &str = "results written by hand";
 pub const EDGES: &str = "built to end at a limit or past it";
+pub const FIRSTS: &str = "built for a first valuation";
 
 /// A sheet file, and how many places the table has that is lent with it.
 #[derive(Clone, Debug, PartialEq, Eq)]
@@ -44,6 +47,11 @@ pub fn families() -> Vec<Family<Record>> {
     add(PAPER, paper::cases().iter().map(|c| c.record()).collect());
     add(EDGES, edges::cases().iter().map(|c| c.record()).collect());
     list.extend(drawn::families(random));
+    let cases = firsts::cases();
+    list.push(Family {
+        name: FIRSTS,
+        records: cases.iter().map(Case::record).collect(),
+    });
     list
 }
 
@@ -58,13 +66,19 @@ pub fn record_of(file: Vec<u8>, places: usize) -> Record {
     Record { file, places }
 }
 
-/// What a record must give, written by hand: for each zone its inequalities, and the counts of valuations
-/// kept and cut; the count of zones and those two alone; or a refusal's number and place.
+/// What a record must give, written by hand: for each zone its first valuation and its inequalities, and the
+/// counts of valuations kept and cut; the count of zones and those two alone; or a refusal's number and place.
 #[derive(Clone, Debug)]
 pub enum Reply {
-    Zones(Vec<Vec<Expr>>, usize, usize),
+    Zones(Vec<(Valuation, Vec<Expr>)>, usize, usize),
     Counts(usize, usize, usize),
     Refused(u8, usize),
+}
+
+/// Zones with those first valuations and inequalities, and the counts of valuations kept and cut.
+fn zones(list: &[(Valuation, &[Expr])], kept: usize, cut: usize) -> Reply {
+    let list = list.iter().map(|&(first, list)| (first, list.to_vec()));
+    Reply::Zones(list.collect(), kept, cut)
 }
 
 /// What is tried, the file, the places of the table, and the result.
@@ -104,9 +118,10 @@ impl Case {
             (Reply::Counts(zones, kept, cut), Ok(found)) => {
                 (found.zones.len(), found.kept, found.cut) == (*zones, *kept, *cut)
             }
-            (Reply::Zones(lists, kept, cut), Ok(found)) => {
-                let inequalities = found.zones.iter().map(|zone| &zone.inequalities);
-                inequalities.eq(lists) && (found.kept, found.cut) == (*kept, *cut)
+            (Reply::Zones(list, kept, cut), Ok(found)) => {
+                let zones = found.zones.into_iter();
+                let shown = zones.map(|zone| (zone.first, zone.inequalities));
+                shown.eq(list.iter().cloned()) && (found.kept, found.cut) == (*kept, *cut)
             }
         }
     }
@@ -156,8 +171,9 @@ mod stored_tests {
     fn digests() {
         let case = &paper::cases()[0];
         let found = windows(&case.file, 32).unwrap();
-        let mut numbers = vec![1, 1, 1, 2, 0, 1];
-        numbers.resize(2 + 24 * 8, 0);
+        // used; 3, 0 and 0 with their signs; one inequality, -3 + p
+        let mut numbers = vec![1, 0, 3, 0, 0, 0, 0, 1, 1, 2, 0, 1];
+        numbers.resize(8 + 24 * 8, 0);
         for (i, j) in (0..25).map(|k| (k / 5, k % 5)) {
             let mut bound = [0; 10];
             if (i, j) == (0, 1) {
@@ -168,7 +184,7 @@ mod stored_tests {
             numbers.extend(bound);
         }
         let places = 33;
-        numbers.resize(places * (2 + 24 * 8 + 25 * 10), 0);
+        numbers.resize(places * (8 + 24 * 8 + 25 * 10), 0);
         let h = numbers
             .iter()
             .fold(0, |h, x| (h * 1_000_003 + x) % 1_000_000_007);

@@ -1,12 +1,13 @@
 //! The cutting held to Sweep on random sheets, and to its refusals by limits that are lower than the paper's.
 
-use super::held::held;
+use super::held::{held, holds, MOST_TRIED};
 use super::{answer, families};
 use crate::family::records;
 use crate::planned::{crossed, planned, random_shape};
 use crate::random::Random;
 use crate::samples::{along, at_most, range};
 use crate::sheet::{read, Guard, Refusal, Sheet};
+use crate::valuations::{all, Valuation};
 use crate::windows::{cut, Limits};
 
 /// Nothing of the zones of random sheets disagrees with Sweep, at any valuation.
@@ -48,6 +49,34 @@ fn stored_zones_agree_with_sweep() {
         }
     }
     assert!(swept > 2000, "{swept}");
+}
+
+/// Stored zones have first valuations that are easily missed: above the least number of a parameter by itself,
+/// with a first parameter above its range's lowest, below zero, and the only one.
+#[test]
+fn stored_first_valuations() {
+    let mut counts = [0; 4];
+    for record in records(&families()) {
+        let Ok(found) = answer(record) else { continue };
+        let valuations = all(&read(&record.file).unwrap().parameters);
+        if valuations.len() > MOST_TRIED {
+            continue;
+        }
+        for zone in &found.zones {
+            let its: Vec<&Valuation> = valuations.iter().filter(|&&v| holds(zone, v)).collect();
+            let least = [0, 1, 2].map(|k| its.iter().map(|v| v[k]).min());
+            let kinds = [
+                least != zone.first.map(Some),
+                zone.first[0] > valuations[0][0],
+                zone.first.iter().any(|&x| x < 0),
+                its.len() == 1,
+            ];
+            for (count, kind) in counts.iter_mut().zip(kinds) {
+                *count += usize::from(kind);
+            }
+        }
+    }
+    assert!(counts.iter().all(|&count| count > 1000), "{counts:?}");
 }
 
 /// A sheet of one location without invariants, and moves with those guards.

@@ -9,15 +9,17 @@ mod part;
 use crate::bound::{Bound, Expr};
 use crate::sheet::{read, Guard, Refusal, Sheet};
 use crate::sweep::SIDE;
-use crate::valuations::all;
+use crate::valuations::{all, Valuation};
 use part::{Limit, Part, Stop};
 
 /// A matrix of bounds; entry (i, j) bounds clock i - clock j.
 pub type Bounds = [[Bound; SIDE]; SIDE];
 
-/// A zone (the paper's piece): the inequalities, each an expression that is at least 0, and the matrix.
+/// A zone (the paper's piece): the first of its valuations, comparing parameter 1, then 2, then 3, smaller
+/// first; the inequalities, each an expression that is at least 0; and the matrix.
 #[derive(Clone, Debug, PartialEq, Eq)]
 pub struct Zone {
+    pub first: Valuation,
     pub inequalities: Vec<Expr>,
     pub bounds: Bounds,
 }
@@ -172,6 +174,7 @@ impl Cutting {
     fn done(self) -> Windows {
         let kept = self.parts.iter().map(|part| part.valuations.len()).sum();
         let zone = |part: Part| Zone {
+            first: part.first(),
             inequalities: part.inequalities,
             bounds: part.bounds,
         };

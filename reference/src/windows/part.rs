@@ -5,7 +5,7 @@ use crate::bound::{opposite, value, Bound, Expr, Test, Wide};
 use crate::sheet::Guard;
 use crate::valuations::Valuation;
 
-/// A zone at work, with all the valuations that meet its inequalities.
+/// A zone at work, with all the valuations that meet its inequalities, in order: there is one at least.
 pub(super) struct Part {
     pub inequalities: Vec<Expr>,
     pub valuations: Vec<Valuation>,
@@ -48,22 +48,27 @@ impl From<Wide> for Stop {
 }
 
 impl Part {
+    /// The first of the valuations.
+    pub fn first(&self) -> Valuation {
+        self.valuations[0]
+    }
+
     /// The answer to a test, if all the valuations give the same one.
     fn settled(&self, test: Test) -> Result<bool, Stop> {
         let e = match test {
             Test::Known(answer) => return Ok(answer),
             Test::Asked(e) => e,
         };
-        let mut answers = self.valuations.iter().map(|&v| value(e, v) >= 0);
-        let first = answers.next().expect("a part has a valuation");
-        if answers.all(|answer| answer == first) {
+        let answer = |v: Valuation| value(e, v) >= 0;
+        let first = answer(self.first());
+        if self.valuations.iter().all(|&v| answer(v) == first) {
             Ok(first)
         } else {
             Err(Stop::Open(e))
         }
     }
 
-    /// The yes part and the no part of an inequality.
+    /// The yes part and the no part of an inequality. The valuations stay in order.
     pub fn parted(self, e: Expr) -> (Part, Part) {
         let (satisfied, others) = self.valuations.iter().partition(|&&v| value(e, v) >= 0);
         let with = |e: Expr, valuations: Vec<Valuation>| Part {

@@ -6,10 +6,10 @@ use Rattle.listing.proofs.print_zones.Statement.{statement}
 use Rattle.listing.proofs.print_zones.Tie as tie
 
 abbrev Inv-loop : tie.InvT-loop
-Inv-loop pieces clocks table n k₀ k = (n ≤ 32) × (k ≤ n)
+Inv-loop ok pieces clocks table n written₀ k₀ written k = (n ≤ 32) × (k ≤ n)
 
 abbrev μ-loop : tie.MeasureT-loop
-μ-loop pieces clocks table n k₀ k = n - k
+μ-loop ok pieces clocks table n written₀ k₀ written k = n - k
 
 at-most-requires : tie.Need-at-most-requires Inv-loop μ-loop
 at-most-requires c κs = search needs
@@ -26,9 +26,6 @@ array-copy-out-z c = search needs
 print-zone-requires : tie.Need-print-zone-requires Inv-loop μ-loop
 print-zone-requires c κs = search needs
 
-returns : tie.Need-returns Inv-loop μ-loop
-returns c = search needs
-
 add-k : tie.Need-add-k Inv-loop μ-loop
 add-k c = search needs
 
@@ -38,8 +35,8 @@ loop-less c = search needs
 loop-again : tie.Need-loop-again Inv-loop μ-loop
 loop-again c = search needs
 
-returns-2 : tie.Need-returns-2 Inv-loop μ-loop
-returns-2 c = search needs
+returns : tie.Need-returns Inv-loop μ-loop
+returns c = search needs
 
 pub print-zones-spec : {M : Type 1} → statement M
 print-zones-spec =
@@ -52,8 +49,7 @@ print-zones-spec =
     mul-z
     array-copy-out-z
     print-zone-requires
-    returns
     add-k
     loop-less
     loop-again
-    returns-2)
+    returns)

@@ -1,4 +1,5 @@
 -- Sweep's answer, by its number.
+use Rattle.answers.specs.declared.Numbered.{Numbered}
 use Rattle.sweep.specs.Reply.{SweepReply}
 use borrow.Author.Needs.{needs}
 use lib.IntN.{pos}
@@ -12,11 +13,11 @@ use Rattle.sweep_c.proofs.sweep_sheet.Tie as tie
 sweep-requires : tie.Need-sweep-requires
 sweep-requires c κs = search needs
 
-number-requires : tie.Need-number-requires
-number-requires c κs = search needs
+numbered-requires : tie.Need-numbered-requires
+numbered-requires c κs = search needs
 
 signed-requires : tie.Need-signed-requires
-signed-requires c κs = fits _ (c .before .sweep .result .answer) (c .number .ensures)
+signed-requires c κs = fits _ (c .before .sweep .result .answer) (c .numbered .ensures)
 
 returns : tie.Need-returns
 returns c =
@@ -24,10 +25,10 @@ returns c =
     toZ-ofZ w64 (c .signed .result) (search needs)
     ∙ c .signed .ensures
     ∙ ap pos
-    (c .before .number .ensures
+    (ap (λ (n : Numbered). n .number) (c .before .numbered .ensures)
     ∙ ap (λ (x : SweepReply). x .answer .number)
     (c .before .before .sweep .ensures
     ∙ same-reply (s .args .sheet .now) (toZ-ofZ w64 _ (s .fits .p)) (toZ-ofZ w64 _ (s .fits .q)) (toZ-ofZ w64 _ (s .fits .r))))
 
 pub sweep-sheet-spec : {M : Type 1} → statement M
-sweep-sheet-spec = tie.close (tie.spec sweep-requires number-requires signed-requires returns)
+sweep-sheet-spec = tie.close (tie.spec sweep-requires numbered-requires signed-requires returns)

@@ -6,10 +6,10 @@ use Rattle.listing.proofs.zone.print_bounds.Statement.{statement}
 use Rattle.listing.proofs.zone.print_bounds.Tie as tie
 
 abbrev Inv-loop : tie.InvT-loop
-Inv-loop last z k₀ k = k ≤ 25
+Inv-loop ok last z written₀ k₀ written k = k ≤ 25
 
 abbrev μ-loop : tie.MeasureT-loop
-μ-loop last z k₀ k = 25 - k
+μ-loop ok last z written₀ k₀ written k = 25 - k
 
 loop-holds : tie.Need-loop-holds Inv-loop μ-loop
 loop-holds c = search needs
@@ -23,9 +23,6 @@ element-copy-out-b c = search needs
 print-bound-requires : tie.Need-print-bound-requires Inv-loop μ-loop
 print-bound-requires c κs = search needs
 
-returns : tie.Need-returns Inv-loop μ-loop
-returns c = search needs
-
 add-k : tie.Need-add-k Inv-loop μ-loop
 add-k c = search needs
 
@@ -35,8 +32,8 @@ loop-less c = search needs
 loop-again : tie.Need-loop-again Inv-loop μ-loop
 loop-again c = search needs
 
-returns-2 : tie.Need-returns-2 Inv-loop μ-loop
-returns-2 c = search needs
+returns : tie.Need-returns Inv-loop μ-loop
+returns c = search needs
 
 pub print-bounds-spec : {M : Type 1} → statement M
 print-bounds-spec =
@@ -48,8 +45,7 @@ print-bounds-spec =
     mul-b
     element-copy-out-b
     print-bound-requires
-    returns
     add-k
     loop-less
     loop-again
-    returns-2)
+    returns)

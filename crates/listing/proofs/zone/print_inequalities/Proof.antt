@@ -6,10 +6,10 @@ use Rattle.listing.proofs.zone.print_inequalities.Statement.{statement}
 use Rattle.listing.proofs.zone.print_inequalities.Tie as tie
 
 abbrev Inv-loop : tie.InvT-loop
-Inv-loop z n i₀ i = (n ≤ 24) × (i ≤ n)
+Inv-loop ok z n written₀ i₀ written i = (n ≤ 24) × (i ≤ n)
 
 abbrev μ-loop : tie.MeasureT-loop
-μ-loop z n i₀ i = n - i
+μ-loop ok z n written₀ i₀ written i = n - i
 
 at-most-requires : tie.Need-at-most-requires Inv-loop μ-loop
 at-most-requires c κs = search needs
@@ -26,9 +26,6 @@ element-copy-out-e c = search needs
 print-inequality-requires : tie.Need-print-inequality-requires Inv-loop μ-loop
 print-inequality-requires c κs = search needs
 
-returns : tie.Need-returns Inv-loop μ-loop
-returns c = search needs
-
 add-i : tie.Need-add-i Inv-loop μ-loop
 add-i c = search needs
 
@@ -38,8 +35,8 @@ loop-less c = search needs
 loop-again : tie.Need-loop-again Inv-loop μ-loop
 loop-again c = search needs
 
-returns-2 : tie.Need-returns-2 Inv-loop μ-loop
-returns-2 c = search needs
+returns : tie.Need-returns Inv-loop μ-loop
+returns c = search needs
 
 pub print-inequalities-spec : {M : Type 1} → statement M
 print-inequalities-spec =
@@ -52,8 +49,7 @@ print-inequalities-spec =
     mul-e
     element-copy-out-e
     print-inequality-requires
-    returns
     add-i
     loop-less
     loop-again
-    returns-2)
+    returns)

@@ -21,9 +21,11 @@ piece-of-requires c κs = search needs
 
 returns : tie.Need-returns
 returns c =
-    let a = c .before .before .before .before .args in
-    let l : length (a .t1 .zones) ≡ 32 = simp length-map at (c .before .before .before .before .good .0 .1 .1 .1 .1 .0 .1 .0 .1) in
-    item-in (a .t1) _ (a .i) _ _ (c .before .before .before .at-most .ensures) l (c .before .before .if1 .taken) (c .piece-of .ensures)
+    let at-zone = c .before .before in
+    let tested-1 = at-zone .before in
+    let start = tested-1 .before .before in
+    let l : length (start .args .t1 .zones) ≡ 32 = simp length-map at (start .good .0 .1 .1 .1 .1 .1 .0 .1 .0 .1) in
+    item-in (start .args .t1) _ (start .args .i) _ _ (tested-1 .before .at-most .ensures) l (tested-1 .if1 .taken) (c .piece-of .ensures)
 
 returns-2 : tie.Need-returns-2
 returns-2 c = item-past (c .before .before .args .t1) _ (c .before .before .args .i) (c .before .at-most .ensures) (c .if1 .left)

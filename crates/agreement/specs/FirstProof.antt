@@ -1,0 +1,120 @@
+-- The proof of First: a piece is a zone of the cutting (Behind), whose first valuation it carries; an accepted sheet has a valuation in
+-- its ranges, and so every zone holds one.
+use mathlib.Core.Path.{_≡_, refl, sym, ap, subst, _∙_}
+use mathlib.Core.List.{List, [], _∷_}
+use mathlib.Core.Bool.{true, false}
+use Prim.Native.Nat.{ℕ, zero, suc, _≤_, _<_}
+use native.Mathlib.Omega.{arith}
+use lib.IntN.{ℤ, pos}
+use lib.ListN.{length, getD}
+use lib.Signed.{_≤ℤ_, ≤ℤ-refl}
+use Rattle.integer.specs.Apart.{apart}
+use Rattle.integer.specs.Order.{≤ℤ-antisym}
+use Rattle.coded.specs.CodedRead.{holds-coded}
+use Rattle.cutting.specs.Cutting as cutting
+use Rattle.cutting.specs.FirstHeld.{firstHeld, StartsFirst}
+use Rattle.cutting.specs.FirstHeldProof.{zones-first}
+use Rattle.cutting.specs.Held.{InRanges, holds}
+use Rattle.expr.specs.Ranges.{In, Inside}
+use Rattle.expr.specs.Three.{point, rangeList, valuationOf}
+use Rattle.parameters.specs.Parameters.{blankRange}
+use Rattle.parameters.specs.Right.{RangeRight}
+use Rattle.expr.specs.declared.range.Range.{Range}
+use Rattle.reading.specs.Accepted.{read-well-formed}
+use Rattle.reading.specs.File.{Fine, readOf}
+use Rattle.search.specs.First.{Earlier, IsFirst}
+use Rattle.sheet.specs.WellFormed.{WellFormed}
+use Rattle.sheet.specs.declared.Sheet.{Sheet}
+use Rattle.sweep.specs.Proofs.{sweep-right}
+use Rattle.sweep.specs.Theorems.{sheetOf}
+use Rattle.windows.specs.declared.table.Piece.{Piece}
+use Rattle.agreement.specs.Behind.{Behind, lists-behind, six-outside, noZone, member, pieces-are, piece-is}
+use Rattle.agreement.specs.KeptProof.{answered-inside}
+use Rattle.agreement.specs.Words.{pieces, pieceAt, InRange, PieceHolds}
+use Rattle.agreement.specs.First.{firstAt, StartsAt, PiecesStart}
+
+-- ---- an accepted sheet's ranges
+-- the lowest of each
+abbrev lowest : Sheet → List ℤ
+lowest s = s .ranges .p .low ∷ s .ranges .q .low ∷ s .ranges .r .low ∷ []
+
+lowest-in : (n k : ℕ) (r : Range) → RangeRight n k r → In (r .low) r
+lowest-in n k r h = record { least = ≤ℤ-refl (r .low); most = h .order }
+
+lowest-inside : (s : Sheet) → WellFormed s → InRanges s (lowest s)
+lowest-inside s f = (lowest-in _ _ _ (f .p), (lowest-in _ _ _ (f .q), (lowest-in _ _ _ (f .r), tt)))
+
+-- a parameter that the sheet lacks is 0
+lacking-zero : (n k : ℕ) (r : Range) (x : ℤ) → RangeRight n k r → n ≤ k → In x r → x ≡ pos 0
+lacking-zero n k r x h l i =
+    let j = subst (In x) (h .lacking l) i in
+    ≤ℤ-antisym (j .most) (j .least)
+
+lacking-all : (s : Sheet) (v : List ℤ) → WellFormed s → InRanges s v → (k : ℕ) → s .parameters ≤ k → getD v k (pos 0) ≡ pos 0
+lacking-all s [] f i k l = refl
+lacking-all s (x ∷ []) f i k l = absurd (i .1)
+lacking-all s (x ∷ y ∷ []) f i k l = absurd (i .1 .1)
+lacking-all s (x ∷ y ∷ z ∷ []) f i zero l = lacking-zero _ 0 (s .ranges .p) x (f .p) l (i .0)
+lacking-all s (x ∷ y ∷ z ∷ []) f i (suc zero) l = lacking-zero _ 1 (s .ranges .q) y (f .q) l (i .1 .0)
+lacking-all s (x ∷ y ∷ z ∷ []) f i (suc (suc zero)) l = lacking-zero _ 2 (s .ranges .r) z (f .r) l (i .1 .1 .0)
+lacking-all s (x ∷ y ∷ z ∷ []) f i (suc (suc (suc k))) l = refl
+lacking-all s (x ∷ y ∷ z ∷ u ∷ v) f i k l = absurd (i .1 .1 .1)
+
+-- a valuation of three ranges as the code's record, and back
+point-of : (s : Sheet) (v : List ℤ) → InRanges s v → point (valuationOf v) ≡ v
+point-of s [] i = absurd i
+point-of s (x ∷ []) i = absurd (i .1)
+point-of s (x ∷ y ∷ []) i = absurd (i .1 .1)
+point-of s (x ∷ y ∷ z ∷ []) i = refl
+point-of s (x ∷ y ∷ z ∷ u ∷ v) i = absurd (i .1 .1 .1)
+
+inside-in-range : (file : List ℕ) (v : List ℤ) → Fine (readOf file) → InRanges (sheetOf file) v → InRange file v
+inside-in-range file v f i = answered-inside file v (sweep-right .right file v f i .answered)
+
+-- ---- a piece
+module _ {file : List ℕ} {n : ℕ} {zs : List cutting.Zone} (b : Behind file n zs) (i : ℕ) (h : i < pieces file n) where
+  abbrev zone : cutting.Zone
+  zone = getD zs i noZone
+
+  abbrev held-first : List ℤ
+  held-first = firstHeld (rangeList (sheetOf file .ranges)) zone
+
+  well : WellFormed (sheetOf file)
+  well = read-well-formed file (b .fine)
+
+  starts : StartsFirst (sheetOf file) zone
+  starts =
+      let e = pieces-are b in
+      let l : i < length zs = omega arith in
+      zones-first (sheetOf file) (lowest (sheetOf file)) (lowest-inside (sheetOf file) well) zs (b .listing) zone (member zs i l)
+
+  -- the valuation that it carries
+  first-is : firstAt file n i ≡ held-first
+  first-is =
+      ap (λ (z : Piece). point (z .first)) (piece-is b i h) ∙ point-of (sheetOf file) held-first (starts .inside)
+
+  -- it holds what its zone holds
+  holds-is : (v : List ℤ) → InRanges (sheetOf file) v → (PieceHolds (pieceAt file n i) v → holds v zone ≡ true)
+      × (holds v zone ≡ true → PieceHolds (pieceAt file n i) v)
+  holds-is v g =
+      let e = holds-coded (sheetOf file .ranges) zone v g in (
+        λ k. sym e ∙ subst (λ (z : Piece). PieceHolds z v) (piece-is b i h) k,
+        λ k. subst (λ (z : Piece). PieceHolds z v) (sym (piece-is b i h)) (e ∙ k),
+      )
+
+  starts-at : StartsAt file n i
+  starts-at =
+      record {
+        in-range = subst (InRange file) (sym first-is) (inside-in-range file held-first (b .fine) (starts .inside));
+        held = subst (PieceHolds (pieceAt file n i)) (sym first-is) (holds-is held-first (starts .inside) .1 (starts .meets));
+        none-earlier = λ v g e k.
+            let inside = six-outside file v (b .fine) g in
+            let t = holds-is v inside .0 k in
+            let f = starts .none-earlier v inside (subst (Earlier v) first-is e) in
+            apart cc;
+        lacking = λ k l. subst (λ (v : List ℤ). getD v k (pos 0) ≡ pos 0) (sym first-is)
+            (lacking-all (sheetOf file) held-first well (starts .inside) k l);
+      }
+
+pub pieces-start : PiecesStart
+pieces-start file n lists i h = let behind = lists-behind file n lists in starts-at (behind .1) i h

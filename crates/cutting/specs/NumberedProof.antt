@@ -1,0 +1,27 @@
+-- The proof of Numbered: nothing is asked of zones, and refusals are as in Every.
+use mathlib.Core.Path.{subst}
+use mathlib.Core.List.{List, [], _∷_}
+use native.Mathlib.Omega.{arith}
+use Rattle.expr.specs.Affine.{Affine}
+use Rattle.expr.specs.Three.{rangeList}
+use Rattle.timed.specs.Automaton.{routeOf}
+use Rattle.timed.specs.Steps.{stepsOf}
+use Rattle.cutting.specs.Cutting.{Bounds, startZone, zonesAlong, zonesOf}
+use Rattle.cutting.specs.Every.{Right, any-lasting, steps-right}
+use Rattle.cutting.specs.Numbered.{AlongNumbered, ZonesNumbered}
+
+abbrev Any : List Affine → Type 0
+Any is = Unit {0}
+
+abbrev AnyMatrix : Bounds → Type 0
+AnyMatrix m = Unit {0}
+
+pub along-numbered : AlongNumbered
+unfolding zonesAlong
+along-numbered s route m visit q = subst (Right Any AnyMatrix) q
+    (steps-right (rangeList (s .ranges)) Any AnyMatrix (λ is e i l p q. (tt, tt)) (s .clocks) (any-lasting (s .clocks)) (stepsOf s route)
+    (startZone ∷ []) (omega arith, ((tt, tt), tt)))
+
+pub zones-numbered : ZonesNumbered
+unfolding zonesOf
+zones-numbered s m visit q = along-numbered s (routeOf s) m visit q
