@@ -6,7 +6,7 @@ use Prim.Native.Nat.{ℕ, _≤_, _<_}
 use native.Mathlib.Omega.{arith}
 use lib.IntN.{ℤ}
 use lib.ListN.{length, getD}
-use Rattle.coded.specs.CodedRead.{holds-coded, entry-coded}
+use Rattle.coded.specs.CodedRead.{entry-coded}
 use Rattle.cutting.specs.Cutting as cutting
 use Rattle.cutting.specs.DisjointProof.{zones-apart}
 use Rattle.cutting.specs.Held.{holds, at, HeldBy}
@@ -18,7 +18,8 @@ use Rattle.sweep.specs.Proofs.{reply-entry, sweep-right}
 use Rattle.sweep.specs.Theorems.{sheetOf}
 use Rattle.timed.specs.Runs.{Tightest}
 use Rattle.windows.specs.declared.table.Piece.{Piece}
-use Rattle.agreement.specs.Behind.{Behind, lists-behind, six-outside, noZone, member, place-of, pieces-are, piece-is}
+use Rattle.agreement.specs.Behind.{Behind, lists-behind, six-outside, noZone, member, place-of, pieces-are, piece-is, zone-holds}
+use Rattle.agreement.specs.Behind.{piece-holds}
 use Rattle.agreement.specs.Words.{pieces, pieceAt, PieceHolds, entryWith}
 use Rattle.agreement.specs.Agreement.{Agreement}
 
@@ -34,20 +35,14 @@ module _ {file : List ℕ} {n : ℕ} {zs : List cutting.Zone} (b : Behind file n
   piece-there : (i : ℕ) → i < length zs → i < pieces file n
   piece-there i h = let e = pieces-are b in omega arith
 
-  zone-holds : (i : ℕ) → i < pieces file n → PieceHolds (pieceAt file n i) v → holds v (zoneAt i) ≡ true
-  zone-holds i h k = sym (holds-coded (sheetOf file .ranges) (zoneAt i) v g) ∙ subst (λ (z : Piece). PieceHolds z v) (piece-is b i h) k
-
-  piece-holds : (i : ℕ) → i < pieces file n → holds v (zoneAt i) ≡ true → PieceHolds (pieceAt file n i) v
-  piece-holds i h k = subst (λ (z : Piece). PieceHolds z v) (sym (piece-is b i h)) (holds-coded (sheetOf file .ranges) (zoneAt i) v g ∙ k)
-
   held-by : (i : ℕ) → i < pieces file n → PieceHolds (pieceAt file n i) v → HeldBy v zs
-  held-by i h k = record { zone = zoneAt i; one-of = member zs i (zone-there i h); held = zone-holds i h k }
+  held-by i h k = record { zone = zoneAt i; one-of = member zs i (zone-there i h); held = zone-holds b i h v g k }
 
   by-held : HeldBy v zs → (i : ℕ) × (i < pieces file n) × PieceHolds (pieceAt file n i) v
   by-held h =
       let (i, l, e) = place-of zs (h .zone) (h .one-of) in
       let there = piece-there i l in
-      (i, there, piece-holds i there (subst (λ (z : cutting.Zone). holds v z ≡ true) (sym e) (h .held)))
+      (i, there, piece-holds b i there v g (subst (λ (z : cutting.Zone). holds v z ≡ true) (sym e) (h .held)))
 
   entry-is : (i : ℕ) → i < pieces file n → (k l : ℕ) → k ≤ 4 → l ≤ 4 → entryWith (pieceAt file n i) v k l ≡ at v (zoneAt i .bounds) k l
   entry-is i h k l hk hl =
@@ -68,8 +63,8 @@ agreement file n lists v inside =
     record {
       answered = t .answered;
       one-piece = λ i j hi hj x y.
-          zones-apart s zs (b .listing) v g noZone i j (zone-there b v g i hi) (zone-there b v g j hj) (zone-holds b v g i hi x)
-          (zone-holds b v g j hj y);
+          zones-apart s zs (b .listing) v g noZone i j (zone-there b v g i hi) (zone-there b v g j hj) (zone-holds b i hi v g x)
+          (zone-holds b j hj v g y);
       void-iff-none = (
         λ e i h k. t .void-iff-no-run .0 e (runs .0 (held-by b v g i h k)),
         λ none-holds. t .void-iff-no-run .1 (λ run. let (i, h, k) = by-held b v g (runs .1 run) in none-holds i h k),

@@ -1,5 +1,5 @@
 -- What stands behind a reply that lists pieces: the zones of the cutting in order, each in its place of the table.
-use mathlib.Core.Path.{_≡_, refl, sym, ap, _∙_}
+use mathlib.Core.Path.{_≡_, refl, sym, ap, subst, _∙_}
 use mathlib.Core.Logic.{_⊎_, inl, inr}
 use mathlib.Core.List.{List, [], _∷_, _++_, map, List·Memᴰ, List·Memᴰ·head, List·Memᴰ·tail, List·Memᴰ·not-nil, List·Memᴰ·cases-cons}
 use mathlib.Core.Bool.{Bool, true, false, cond}
@@ -13,6 +13,8 @@ use lib.ListN.{length, getD, replicate}
 use Rattle.answers.specs.Numbers.{numbered}
 use Rattle.cutting.specs.Cutting.{Listing, listed, refused, startB, zonesOf, SevenToNine}
 use Rattle.cutting.specs.Cutting as cutting
+use Rattle.coded.specs.CodedRead.{holds-coded}
+use Rattle.cutting.specs.Held.{InRanges, holds}
 use Rattle.cutting.specs.NumberedProof.{zones-numbered}
 use Rattle.cutting.specs.ShapeProof.{zones-shaped}
 use Rattle.expr.specs.Ranges.{Inside}
@@ -27,7 +29,7 @@ use Rattle.windows_reply.specs.Reply.{WindowsReply, refusedReply, listingReply}
 use Rattle.windows.specs.Pieces.{pieceOf, blankPiece, tableOf}
 use Rattle.windows.specs.Table.{in-list, past-list}
 use Rattle.windows.specs.declared.table.Piece.{Piece}
-use Rattle.agreement.specs.Words.{windowsOf, Lists, listedReply, pieces, table, pieceAt, InRange}
+use Rattle.agreement.specs.Words.{windowsOf, Lists, listedReply, pieces, table, pieceAt, InRange, PieceHolds}
 
 pub record Behind (file : List ℕ) (n : ℕ) (zs : List cutting.Zone) : Type 0 where
   pub room : 32 ≤ n
@@ -123,6 +125,17 @@ module _ {file : List ℕ} {n : ℕ} {zs : List cutting.Zone} (b : Behind file n
       let l : i < length zs = omega arith in
       ap (λ (t : List Piece). getD t i blankPiece) table-is
       ∙ in-list (pieceOf (sheetOf file .ranges)) blankPiece zs (replicate (n - length zs) blankPiece) noZone i l
+
+  -- it holds what the zone holds
+  pub zone-holds : (i : ℕ) → i < pieces file n → (v : List ℤ) → InRanges (sheetOf file) v → PieceHolds (pieceAt file n i) v
+      → holds v (getD zs i noZone) ≡ true
+  zone-holds i h v g k =
+      sym (holds-coded (sheetOf file .ranges) (getD zs i noZone) v g) ∙ subst (λ (z : Piece). PieceHolds z v) (piece-is i h) k
+
+  pub piece-holds : (i : ℕ) → i < pieces file n → (v : List ℤ) → InRanges (sheetOf file) v → holds v (getD zs i noZone) ≡ true
+      → PieceHolds (pieceAt file n i) v
+  piece-holds i h v g k =
+      subst (λ (z : Piece). PieceHolds z v) (sym (piece-is i h)) (holds-coded (sheetOf file .ranges) (getD zs i noZone) v g ∙ k)
 
   -- the places past the pieces are blank
   pub past-pieces : (i : ℕ) → pieces file n ≤ i → pieceAt file n i ≡ blankPiece

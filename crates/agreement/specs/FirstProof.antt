@@ -10,11 +10,10 @@ use lib.ListN.{length, getD}
 use lib.Signed.{_≤ℤ_, ≤ℤ-refl}
 use Rattle.integer.specs.Apart.{apart}
 use Rattle.integer.specs.Order.{≤ℤ-antisym}
-use Rattle.coded.specs.CodedRead.{holds-coded}
 use Rattle.cutting.specs.Cutting as cutting
 use Rattle.cutting.specs.FirstHeld.{firstHeld, StartsFirst}
 use Rattle.cutting.specs.FirstHeldProof.{zones-first}
-use Rattle.cutting.specs.Held.{InRanges, holds}
+use Rattle.cutting.specs.Held.{InRanges}
 use Rattle.expr.specs.Ranges.{In, Inside}
 use Rattle.expr.specs.Three.{point, rangeList, valuationOf}
 use Rattle.parameters.specs.Parameters.{blankRange}
@@ -28,7 +27,7 @@ use Rattle.sheet.specs.declared.Sheet.{Sheet}
 use Rattle.sweep.specs.Proofs.{sweep-right}
 use Rattle.sweep.specs.Theorems.{sheetOf}
 use Rattle.windows.specs.declared.table.Piece.{Piece}
-use Rattle.agreement.specs.Behind.{Behind, lists-behind, six-outside, noZone, member, pieces-are, piece-is}
+use Rattle.agreement.specs.Behind.{Behind, lists-behind, six-outside, noZone, member, pieces-are, piece-is, zone-holds, piece-holds}
 use Rattle.agreement.specs.KeptProof.{answered-inside}
 use Rattle.agreement.specs.Words.{pieces, pieceAt, InRange, PieceHolds}
 use Rattle.agreement.specs.First.{firstAt, StartsAt, PiecesStart}
@@ -93,23 +92,14 @@ module _ {file : List ℕ} {n : ℕ} {zs : List cutting.Zone} (b : Behind file n
   first-is =
       ap (λ (z : Piece). point (z .first)) (piece-is b i h) ∙ point-of (sheetOf file) held-first (starts .inside)
 
-  -- it holds what its zone holds
-  holds-is : (v : List ℤ) → InRanges (sheetOf file) v → (PieceHolds (pieceAt file n i) v → holds v zone ≡ true)
-      × (holds v zone ≡ true → PieceHolds (pieceAt file n i) v)
-  holds-is v g =
-      let e = holds-coded (sheetOf file .ranges) zone v g in (
-        λ k. sym e ∙ subst (λ (z : Piece). PieceHolds z v) (piece-is b i h) k,
-        λ k. subst (λ (z : Piece). PieceHolds z v) (sym (piece-is b i h)) (e ∙ k),
-      )
-
   starts-at : StartsAt file n i
   starts-at =
       record {
         in-range = subst (InRange file) (sym first-is) (inside-in-range file held-first (b .fine) (starts .inside));
-        held = subst (PieceHolds (pieceAt file n i)) (sym first-is) (holds-is held-first (starts .inside) .1 (starts .meets));
+        held = subst (PieceHolds (pieceAt file n i)) (sym first-is) (piece-holds b i h held-first (starts .inside) (starts .meets));
         none-earlier = λ v g e k.
             let inside = six-outside file v (b .fine) g in
-            let t = holds-is v inside .0 k in
+            let t = zone-holds b i h v inside k in
             let f = starts .none-earlier v inside (subst (Earlier v) first-is e) in
             apart cc;
         lacking = λ k l. subst (λ (v : List ℤ). getD v k (pos 0) ≡ pos 0) (sym first-is)

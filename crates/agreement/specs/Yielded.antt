@@ -105,8 +105,8 @@ bytes-of-A = refl
 pub listed-cases : ListedCases
 unfolding startB summed tested putEntry rowFrom rowsFrom places pushed guardTree never listZone worked guardZones onBounds stepZones
     cutSteps zonesAlong zonesOf keptOf firstHeld widths start delayed resetM resetsM limitedM guarded dot value plusL minusL plus minus
-    lessOne opposite judge atV sumW marked sumB tighterW asked tighterB span width before valuations satisfies firstIn countIn first count p n
-    sized entryField headOf oneOf firstOf twoOf secondOf threeOf thirdOf fourOf contentsOf shifted judged byteTaken wordTaken
+    lessOne opposite judge atV sumW marked sumB tighterW asked tighterB span width before valuations satisfies firstIn countIn first count p
+    n sized entryField headOf oneOf firstOf twoOf secondOf threeOf thirdOf fourOf contentsOf shifted judged byteTaken wordTaken
     signedTaken byteField wordField signedField finished iterate rangeOf highestRight highestField rangeAt parametersAt blankLocation
     blankLocations locationStep locationsRead locationsAt belowField resetsRight resetsField transitionAt blankTransition
     blankTransitions transitionStep transitionsRead transitionsAt routeStep routeRead routeAt blankSheet refusedBy bodiesOf judgedRoute

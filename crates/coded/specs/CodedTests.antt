@@ -17,7 +17,7 @@ use Rattle.expr.specs.Affine.{judge, WIDEST, OPPOSITE}
 use Rattle.weight.specs.Upper.{Upper, none, upper}
 use Rattle.expr.specs.Ranges.{Inside}
 use Rattle.integer.specs.Bools.{and-left, and-right, and-both}
-use Rattle.search.specs.SearchLaws.{valuations-inside}
+use Rattle.search.specs.SearchLaws.{valuations-inside, first-same, count-same}
 use Rattle.expr.specs.Three.{affine, exprOf, boundAs, boundOf, boundSum, test, rangeList}
 use Rattle.search.specs.Valuations.{valuations, satisfies, firstIn, countIn, first, count}
 use Rattle.expr.specs.declared.bound.Bound.{Bound}
@@ -92,16 +92,6 @@ inside-length (x ∷ v) [] i = absurd i
 inside-length (x ∷ v) (r ∷ rs) i = ap suc (inside-length v rs (i .1))
 
 -- ---- the valuations of ranges
-first-same : (t u : List ℤ → Bool) (vs : List (List ℤ)) → ((v : List ℤ) → List·Memᴰ v vs → t v ≡ u v) → firstIn t vs ≡ firstIn u vs
-unfolding firstIn
-first-same t u [] h = refl
-first-same t u (v ∷ vs) h = rw (h v (List·Memᴰ·head refl), first-same t u vs (λ x i. h x (List·Memᴰ·tail i))) refl
-
-count-same : (t u : List ℤ → Bool) (vs : List (List ℤ)) → ((v : List ℤ) → List·Memᴰ v vs → t v ≡ u v) → countIn t vs ≡ countIn u vs
-unfolding countIn
-count-same t u [] h = refl
-count-same t u (v ∷ vs) h = rw (h v (List·Memᴰ·head refl), count-same t u vs (λ x i. h x (List·Memᴰ·tail i))) refl
-
 module _ (b : Ranges) (es : List Affine) where
   at-valuations : (v : List ℤ) → List·Memᴰ v (valuations (rangeList b)) → satisfies (map affine (map exprOf es)) v ≡ satisfies es v
   at-valuations v i = pad-satisfies es v (inside-length v (rangeList b) (valuations-inside (rangeList b) v i))

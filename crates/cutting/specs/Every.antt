@@ -144,13 +144,16 @@ module _ (rs : List Range) (I : List Affine → Type 0) (M : Bounds → Type 0) 
     steps-right [] zs r = r
     steps-right (s ∷ steps) zs r = then-right (stepZones rs w s zs) (cutSteps rs w steps) (step-right s zs r) (steps-right steps)
 
--- every tree keeps matrices, of which nothing is asked
-pub any-leaves : (t : Tree) → Leaves (λ m. Unit {0}) t
+-- nothing is asked of a matrix, and every tree keeps that
+abbrev pub AnyMatrix : Bounds → Type 0
+AnyMatrix m = Unit {0}
+
+any-leaves : (t : Tree) → Leaves AnyMatrix t
 any-leaves cut = tt
 any-leaves (keep m) = tt
 any-leaves wideTree = tt
 any-leaves (asks e f) = λ b. any-leaves (f b)
 
-pub any-lasting : (w : ℕ) → Lasting w (λ m. Unit {0})
+pub any-lasting : (w : ℕ) → Lasting w AnyMatrix
 any-lasting w =
     record { guards = λ i j e m h. any-leaves (guardTree w i j e m); delays = λ m h. tt; resets = λ bits m h. tt }

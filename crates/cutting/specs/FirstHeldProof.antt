@@ -18,8 +18,8 @@ use Rattle.search.specs.Valuations.{satisfies, first, numbersIn}
 use Rattle.expr.specs.declared.range.Range.{Range}
 use Rattle.timed.specs.Automaton.{routeOf}
 use Rattle.timed.specs.Steps.{stepsOf}
-use Rattle.cutting.specs.Cutting.{Bounds, Zone, startZone, listed, never, zonesAlong, zonesOf}
-use Rattle.cutting.specs.Every.{Splits, Has, Right, one-of, any-lasting, steps-right}
+use Rattle.cutting.specs.Cutting.{Zone, startZone, listed, never, zonesAlong, zonesOf}
+use Rattle.cutting.specs.Every.{Splits, Has, Right, one-of, AnyMatrix, any-lasting, steps-right}
 use Rattle.cutting.specs.FirstHeld.{firstHeld, AlongFirst, ZonesFirst}
 
 -- the search finds a valuation that meets the inequalities
@@ -50,9 +50,6 @@ unfolding firstHeld
 met-first rs z m =
     let is-first = search-right rs (z .ineqs) .found (m .0) .0 (m .1) in
     subst (λ (o : Option (List ℤ)). IsFirst rs (z .ineqs) (numbersIn o)) (sym (m .1)) is-first
-
-abbrev AnyMatrix : Bounds → Type 0
-AnyMatrix m = Unit {0}
 
 pub along-first : AlongFirst
 unfolding zonesAlong

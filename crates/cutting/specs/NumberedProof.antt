@@ -6,15 +6,12 @@ use Rattle.expr.specs.Affine.{Affine}
 use Rattle.expr.specs.Three.{rangeList}
 use Rattle.timed.specs.Automaton.{routeOf}
 use Rattle.timed.specs.Steps.{stepsOf}
-use Rattle.cutting.specs.Cutting.{Bounds, startZone, zonesAlong, zonesOf}
-use Rattle.cutting.specs.Every.{Right, any-lasting, steps-right}
+use Rattle.cutting.specs.Cutting.{startZone, zonesAlong, zonesOf}
+use Rattle.cutting.specs.Every.{Right, AnyMatrix, any-lasting, steps-right}
 use Rattle.cutting.specs.Numbered.{AlongNumbered, ZonesNumbered}
 
 abbrev Any : List Affine → Type 0
 Any is = Unit {0}
-
-abbrev AnyMatrix : Bounds → Type 0
-AnyMatrix m = Unit {0}
 
 pub along-numbered : AlongNumbered
 unfolding zonesAlong

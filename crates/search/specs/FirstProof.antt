@@ -6,33 +6,26 @@ use mathlib.Core.List.{List, [], _∷_, map}
 use mathlib.Core.Bool.{Bool, true, false}
 use mathlib.Core.Option.{Option, none, some}
 use Prim.Native.Nat.{ℕ, zero, suc}
-use native.Mathlib.Omega.{arith}
 use lib.IntN.{ℤ, pos, _+ℤ_}
 use lib.Signed.{ltZ, _≤ℤ_, _<ℤ_, ≤ℤ-refl, clashℤ}
 use Rattle.integer.specs.Apart.{apart}
 use Rattle.integer.specs.Order.{ltZ-true, ltZ-false, ≤ℤ-antisym}
-use Rattle.integer.specs.Split.{split, split-all}
 use Rattle.expr.specs.Affine.{Affine}
 use Rattle.expr.specs.Ranges.{Inside}
 use Rattle.search.specs.First.{Earlier, IsFirst, FirstRight, SearchRight}
 use Rattle.search.specs.Interval.{fix}
-use Rattle.search.specs.SearchLaws.{orElse, firstOver, lead, satisfies-fix, first-whole, first-sound, first-inside, first-none}
+use Rattle.search.specs.SearchLaws.{up-step, orElse, firstOver, lead, satisfies-fix, first-whole, first-sound, first-inside}
+use Rattle.search.specs.SearchLaws.{first-none}
 use Rattle.search.specs.Valuations.{width, satisfies, first}
 use Rattle.expr.specs.declared.range.Range.{Range}
 
 -- ---- numbers in order
-step-down : (x y : ℤ) → (x +ℤ pos 1) ≤ℤ y → x ≤ℤ y
-step-down x y = rw (split x, split y) (simp split-all (omega arith))
-
-above : (x y : ℤ) → x <ℤ y → (x +ℤ pos 1) ≤ℤ y
-above x y = rw (split x, split y) (simp split-all (omega arith))
-
 -- y is x, or lies above it
 same-or-above : (x y : ℤ) → x ≤ℤ y → (x ≡ y) ⊎ ((x +ℤ pos 1) ≤ℤ y)
 same-or-above x y h = by (ltZ x y) refl
   where
     by : (b : Bool) → ltZ x y ≡ b → (x ≡ y) ⊎ ((x +ℤ pos 1) ≤ℤ y)
-    by true e = inr (above x y (ltZ-true e))
+    by true e = inr (up-step x y (ltZ-true e))
     by false e = inl (≤ℤ-antisym h (ltZ-false e))
 
 -- ---- the first number at which something is found

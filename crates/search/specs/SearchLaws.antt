@@ -68,7 +68,7 @@ below-end x y = rw (split x, split y) (simp split-all (omega arith))
 step-up : (x y : ℤ) → (x +ℤ pos 1) ≤ℤ y → x ≤ℤ y
 step-up x y = rw (split x, split y) (simp split-all (omega arith))
 
-up-step : (x y : ℤ) → x <ℤ y → (x +ℤ pos 1) ≤ℤ y
+pub up-step : (x y : ℤ) → x <ℤ y → (x +ℤ pos 1) ≤ℤ y
 up-step x y = rw (split x, split y) (simp split-all (omega arith))
 
 -- a range's width, by the number of its members
@@ -447,6 +447,17 @@ first-last es r =
     ap (λ (b : Bool). lead (narrowed es r [] .low) (cond b (some []) none))
     (satisfies-fix (narrowed es r [] .low) es []
     ∙ narrowed-last es r (narrowed es r [] .low) (record { least = ≤ℤ-refl (narrowed es r [] .low); most = k })))
+
+-- ---- tests that say the same of every valuation of a list
+pub first-same : (t u : List ℤ → Bool) (vs : List (List ℤ)) → ((v : List ℤ) → List·Memᴰ v vs → t v ≡ u v) → firstIn t vs ≡ firstIn u vs
+unfolding firstIn
+first-same t u [] h = refl
+first-same t u (v ∷ vs) h = rw (h v (List·Memᴰ·head refl), first-same t u vs (λ x i. h x (List·Memᴰ·tail i))) refl
+
+pub count-same : (t u : List ℤ → Bool) (vs : List (List ℤ)) → ((v : List ℤ) → List·Memᴰ v vs → t v ≡ u v) → countIn t vs ≡ countIn u vs
+unfolding countIn
+count-same t u [] h = refl
+count-same t u (v ∷ vs) h = rw (h v (List·Memᴰ·head refl), count-same t u vs (λ x i. h x (List·Memᴰ·tail i))) refl
 
 -- ---- what the first found and the count say
 found-passes : (t : List ℤ → Bool) (vs : List (List ℤ)) (v : List ℤ) → firstIn t vs ≡ some v → t v ≡ true

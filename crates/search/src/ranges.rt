@@ -84,11 +84,11 @@ fn interval(r: Range, constant: i64, slope: i64) -> Range
     Range { low: 1, high: 0 }
 }
 
-// The low end of r.
-pub(crate) fn lowest(r: Range) -> i16
-    ensures { λ x. ⌜ x ≡ r .low ⌝ }
+// The low end of a range.
+pub(crate) fn lowest(whole: Range) -> i16
+    ensures { λ x. ⌜ x ≡ whole .low ⌝ }
 {
-    r.low
+    whole.low
 }
 
 // The end of r at which coefficient × parameter is the most.

@@ -134,7 +134,7 @@ fn first_r(b: Ranges, s: System) -> Solution
     Solution::Found(Valuation {
         p: ranges::lowest(b.p),
         q: ranges::lowest(b.q),
-        r: range.low,
+        r: ranges::lowest(range),
     })
 }
 

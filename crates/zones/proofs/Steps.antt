@@ -16,8 +16,9 @@ use lib.Seq.{take-all, take-suc, take-suc-set}
 use Rattle.integer.specs.Apart.{apart}
 use Rattle.expr.specs.Affine.{Affine, value, dot, opposite, judge, OPPOSITE}
 use Rattle.expr.specs.Three.{affine, inequality, rangeList, valuationOf, zeroExpr, zeroValuation}
+use Rattle.search.specs.SearchLaws.{first-same, count-same}
 use Rattle.search.specs.System.{firstOf, exprs}
-use Rattle.search.specs.Valuations.{first, firstIn, numbersIn, satisfies, countIn, count, valuations}
+use Rattle.search.specs.Valuations.{first, numbersIn, satisfies, count, valuations}
 use Rattle.expr.specs.declared.number.Expr.{Expr}
 use Rattle.expr.specs.declared.number.Inequality.{Inequality}
 use Rattle.expr.specs.declared.number.Valuation.{Valuation}
@@ -126,22 +127,11 @@ unfolding satisfies
 zero-satisfied [] v = rw (zero-value v) refl
 zero-satisfied (x ∷ xs) v = ap (λ (b : Bool). leZ (pos 0) (value (affine x) v) && b) (zero-satisfied xs v)
 
-count-zero : (xs : List Expr) (vs : List (List ℤ))
-    → countIn (satisfies (map affine (xs ++ (zeroExpr ∷ [])))) vs ≡ countIn (satisfies (map affine xs)) vs
-unfolding countIn
-count-zero xs [] = refl
-count-zero xs (v ∷ vs) = rw (zero-satisfied xs v, count-zero xs vs) refl
-
 pub held-is : (b : Ranges) (xs : List Expr) (n : ℕ) (es : List Affine) → es ≡ map affine (xs ++ (zeroExpr ∷ []))
     → n ≡ count (rangeList b) es → n ≡ count (rangeList b) (map affine xs)
 unfolding count
-held-is b xs n es e h = h ∙ ap (count (rangeList b)) e ∙ count-zero xs (valuations (rangeList b))
-
-first-zero : (xs : List Expr) (vs : List (List ℤ))
-    → firstIn (satisfies (map affine (xs ++ (zeroExpr ∷ [])))) vs ≡ firstIn (satisfies (map affine xs)) vs
-unfolding firstIn
-first-zero xs [] = refl
-first-zero xs (v ∷ vs) = rw (zero-satisfied xs v, first-zero xs vs) refl
+held-is b xs n es e h = h ∙ ap (count (rangeList b)) e
+    ∙ count-same _ _ (valuations (rangeList b)) (λ v i. zero-satisfied xs v)
 
 -- what the search answers, as a valuation of the code
 abbrev pub valuationAs : Solution → Valuation
@@ -158,4 +148,4 @@ unfolding first
 first-held-is b xs o es e h =
     ap valuationAs (h ∙ ap (λ (l : List Affine). firstOf (first (rangeList b) l)) e)
     ∙ solution-as (first (rangeList b) (map affine (xs ++ (zeroExpr ∷ []))))
-    ∙ ap (λ (f : Option (List ℤ)). valuationOf (numbersIn f)) (first-zero xs (valuations (rangeList b)))
+    ∙ ap (λ (f : Option (List ℤ)). valuationOf (numbersIn f)) (first-same _ _ (valuations (rangeList b)) (λ v i. zero-satisfied xs v))

@@ -29,15 +29,19 @@ lowest-requires c κs = search needs
 lowest-requires-2 : tie.Need-lowest-requires-2
 lowest-requires-2 c κs = search needs
 
+lowest-requires-3 : tie.Need-lowest-requires-3
+lowest-requires-3 c κs = search needs
+
 returns-2 : tie.Need-returns-2
 returns-2 c =
-    let after-lowest = c .before .before in
+    let after-lowest-2 = c .before in
+    let after-lowest = after-lowest-2 .before in
     let after-width = after-lowest .before .before in
     let a = after-width .before .before .args in
     valuation-path
     (toZ-ofZ w16 (after-lowest .lowest .result) (search needs) ∙ after-lowest .lowest .ensures)
-    (toZ-ofZ w16 (c .before .lowest2 .result) (search needs) ∙ c .before .lowest2 .ensures)
-    (toZ-ofZ w16 (after-width .before .narrowed-r .result .low) (record { sfits = c .struct-told .given .0 .1 }))
+    (toZ-ofZ w16 (after-lowest-2 .lowest2 .result) (search needs) ∙ after-lowest-2 .lowest2 .ensures)
+    (toZ-ofZ w16 (c .lowest3 .result) (search needs) ∙ c .lowest3 .ensures)
     ∙ last-some (a .b .p .low) (a .b .q .low) (map (fix (a .b .q .low)) (map (fix (a .b .p .low)) (exprs (a .s)))) (a .b .r)
     (after-width .before .narrowed-r .result) (after-width .before .narrowed-r .ensures)
     (λ z. after-lowest .before .if1 .left (after-width .width .ensures .0 ∙ z))
@@ -51,4 +55,5 @@ first-r-spec =
     returns
     lowest-requires
     lowest-requires-2
+    lowest-requires-3
     returns-2)
