@@ -1,7 +1,7 @@
 // Measures the proved search against a plain scan on the same systems, and compares every answer.
 use crate::families::{self, Family, Question};
 use crate::searches;
-use crate::system::System;
+use crate::system::{Input, System};
 use crate::timing::{mean, round, time, worst};
 use std::hint::black_box;
 
@@ -11,7 +11,7 @@ struct Times {
     scan: Vec<f64>,
 }
 
-fn proved(question: &Question, input: &[u8]) -> i64 {
+fn proved(question: &Question, input: &Input) -> i64 {
     match question {
         Question::First => searches::first(black_box(input)),
         Question::Count => searches::count(black_box(input)),
@@ -27,7 +27,7 @@ fn scan(question: &Question, s: &System) -> i64 {
 
 // Ends the run if the two searches disagree.
 fn compare(f: &Family, s: &System) {
-    let (a, b) = (proved(&f.question, &s.bytes()), scan(&f.question, s));
+    let (a, b) = (proved(&f.question, &s.input()), scan(&f.question, s));
     if a != b {
         println!("the searches disagree in '{}': proved {a}, scan {b}, on {:?} {:?}", f.name, s.ranges, s.list);
         std::process::exit(1);
@@ -46,7 +46,7 @@ fn compare(f: &Family, s: &System) {
 // so that a busy moment of the machine does not meet all of them.
 fn measure(f: &Family, passes: usize, span: f64) -> Times {
     f.systems.iter().for_each(|s| compare(f, s));
-    let inputs: Vec<Vec<u8>> = f.systems.iter().map(System::bytes).collect();
+    let inputs: Vec<Input> = f.systems.iter().map(System::input).collect();
     let mut times = Times {
         proved: inputs.iter().map(|input| time(1, || proved(&f.question, input))).collect(),
         scan: f.systems.iter().map(|s| time(1, || scan(&f.question, s))).collect(),

@@ -1,23 +1,25 @@
 // The two searches: the proved one, and a plain scan over all valuations in lexicographic order.
-use crate::system::{value, Expr, System};
+use crate::system::{value, Expr, Input, System};
 
 mod proved {
     extern "C" {
-        pub fn search_first(input: *const u8, length: usize) -> i64;
-        pub fn search_count(input: *const u8, length: usize) -> i64;
+        pub fn search_first(ranges: *const i16, ends: usize, inequalities: *const i32, numbers: usize) -> i64;
+        pub fn search_count(ranges: *const i16, ends: usize, inequalities: *const i32, numbers: usize) -> i64;
     }
 }
 
 // The first valuation, packed, or -1.
-pub fn first(input: &[u8]) -> i64 {
-    // The function reads the slice, and asks nothing of its contents.
-    unsafe { proved::search_first(input.as_ptr(), input.len()) }
+pub fn first(input: &Input) -> i64 {
+    let (a, b) = (&input.ranges, &input.inequalities);
+    // The function reads the two slices, and asks nothing of their contents.
+    unsafe { proved::search_first(a.as_ptr(), a.len(), b.as_ptr(), b.len()) }
 }
 
 // How many valuations there are.
-pub fn count(input: &[u8]) -> i64 {
+pub fn count(input: &Input) -> i64 {
+    let (a, b) = (&input.ranges, &input.inequalities);
     // As above.
-    unsafe { proved::search_count(input.as_ptr(), input.len()) }
+    unsafe { proved::search_count(a.as_ptr(), a.len(), b.as_ptr(), b.len()) }
 }
 
 fn holds(list: &[Expr], v: [i16; 3]) -> bool {

@@ -1,4 +1,4 @@
-// Systems of inequalities over three ranges, and the bytes that stand for them.
+// Systems of inequalities over three ranges, and the numbers that stand for them.
 
 pub const MOST: usize = 25;
 
@@ -17,19 +17,19 @@ pub struct System {
     pub list: Vec<Expr>,
 }
 
+// The numbers that the proved search reads: low and high of each range, and four for each inequality.
+pub struct Input {
+    pub ranges: [i16; 6],
+    pub inequalities: Vec<i32>,
+}
+
 impl System {
-    // The bytes that the proved search reads.
-    pub fn bytes(&self) -> Vec<u8> {
-        let mut out = Vec::new();
-        for (low, high) in self.ranges {
-            out.extend(low.to_le_bytes());
-            out.extend(high.to_le_bytes());
+    pub fn input(&self) -> Input {
+        let [p, q, r] = self.ranges;
+        Input {
+            ranges: [p.0, p.1, q.0, q.1, r.0, r.1],
+            inequalities: self.list.concat(),
         }
-        out.push(self.list.len() as u8);
-        for number in self.list.iter().flatten() {
-            out.extend(number.to_le_bytes());
-        }
-        out
     }
 
     // How many valuations the ranges have.

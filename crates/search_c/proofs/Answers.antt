@@ -1,4 +1,4 @@
--- What is asked of decoded input, and how an answer goes back as one number.
+-- What is asked of what is read, and how an answer goes back as one number.
 use mathlib.Core.Path.{_≡_, refl, ap, _∙_}
 use mathlib.Core.Bool.{Bool, true, false, cond}
 use mathlib.Core.List.{List, [], _∷_}

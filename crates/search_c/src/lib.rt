@@ -1,6 +1,6 @@
-// The satisfiability search for programs in other languages: one slice of bytes in, one number out.
-// The bytes: low and high of p, of q and of r (i16), a count n (one byte), then n expressions of four i32 (constant, p, q, r).
-// All numbers are little-endian; past the end every byte is 0, and expressions past the 25th do not count.
+// The satisfiability search for programs in other languages: two slices of numbers in, one number out.
+// The ranges: low and high of p, of q and of r. The inequalities: four numbers each (constant, p, q, r).
+// Past the end of a slice every number is 0; numbers left over, and inequalities past the 25th, do not count.
 use expr::Expr;
 use expr::Range;
 use expr::Ranges;
@@ -8,131 +8,76 @@ use expr::Valuation;
 use search::Solution;
 use search::System;
 ghost use mathlib.Core.Path.{_≡_};
-ghost use Prim.Native.Nat.{_<_, _≤_, min};
+ghost use Prim.Native.Nat.{_<_, _≤_};
 ghost use lib.IntN.{pos};
 ghost use Rattle.search.specs.System.{exprs, firstOf};
 ghost use Rattle.expr.specs.Three.{rangeList};
 ghost use Rattle.search.specs.Valuations.{first, count, width};
-ghost use Rattle.search_c.specs.Input.{byteAt, word16, word32, signed, int16, int32, rangeAt, rangesOf, exprAt, systemOf};
+ghost use Rattle.search_c.specs.Input.{numberAt, rangeAt, rangesOf, exprAt, sizeOf, systemOf};
 ghost use Rattle.search_c.specs.Answer.{shifted, packed, firstAnswer};
 
-// x as a wider number.
-fn wide(x: u8) -> u64
-    ensures { λ r. ⌜ r ≡ x ⌝ }
-    ensures small { λ r. ⌜ r < 256 ⌝ }
-{
-    x as u64
-}
-
-// The byte at i, or 0 past the end.
-fn byte(s: &[u8], i: usize) -> u64
-    ensures { λ r. ⌜ r ≡ byteAt (now (s .entry)) i ⌝ }
-    ensures small { λ r. ⌜ r < 256 ⌝ }
+// The i16 at i, or 0 past the end.
+fn int16(s: &[i16], i: usize) -> i16
+    ensures { λ r. ⌜ r ≡ numberAt (now (s .entry)) i ⌝ }
 {
     if i < s.len() {
-        return wide(s[i]);
+        return s[i];
     }
     0
 }
 
-// The two bytes at i as a number.
-fn two_bytes(s: &[u8], i: usize) -> u64
-    requires { ⌜ i < 1000 ⌝ }
-    ensures { λ r. ⌜ r ≡ word16 (now (s .entry)) i ⌝ }
-    ensures small { λ r. ⌜ r < 65536 ⌝ }
+// The i32 at i, or 0 past the end.
+fn int32(s: &[i32], i: usize) -> i32
+    ensures { λ r. ⌜ r ≡ numberAt (now (s .entry)) i ⌝ }
 {
-    byte(s, i) + 256 * byte(s, i + 1)
-}
-
-// The four bytes at i as a number.
-fn four_bytes(s: &[u8], i: usize) -> u64
-    requires { ⌜ i < 900 ⌝ }
-    ensures { λ r. ⌜ r ≡ word32 (now (s .entry)) i ⌝ }
-    ensures small { λ r. ⌜ r < 4294967296 ⌝ }
-{
-    two_bytes(s, i) + 65536 * two_bytes(s, i + 2)
-}
-
-// n, read as a number with a sign.
-fn signed16(n: u64) -> i16
-    requires { ⌜ n < 65536 ⌝ }
-    ensures { λ r. ⌜ r ≡ signed 32768 n ⌝ }
-{
-    if n < 32768 {
-        return n as i16;
+    if i < s.len() {
+        return s[i];
     }
-    (n as i64 - 65536) as i16
-}
-
-// n, read as a number with a sign.
-fn signed32(n: u64) -> i32
-    requires { ⌜ n < 4294967296 ⌝ }
-    ensures { λ r. ⌜ r ≡ signed 2147483648 n ⌝ }
-{
-    if n < 2147483648 {
-        return n as i32;
-    }
-    (n as i64 - 4294967296) as i32
-}
-
-// The i16 at i.
-fn int16(s: &[u8], i: usize) -> i16
-    requires { ⌜ i < 900 ⌝ }
-    ensures { λ r. ⌜ r ≡ int16 (now (s .entry)) i ⌝ }
-{
-    signed16(two_bytes(s, i))
-}
-
-// The i32 at i.
-fn int32(s: &[u8], i: usize) -> i32
-    requires { ⌜ i < 900 ⌝ }
-    ensures { λ r. ⌜ r ≡ int32 (now (s .entry)) i ⌝ }
-{
-    signed32(four_bytes(s, i))
+    0
 }
 
 // The range at i.
-fn range(s: &[u8], i: usize) -> Range
-    requires { ⌜ i < 800 ⌝ }
+fn range(s: &[i16], i: usize) -> Range
+    requires { ⌜ i < 6 ⌝ }
     ensures { λ r. ⌜ r ≡ rangeAt (now (s .entry)) i ⌝ }
     ensures small { λ r. ⌜ width r ≤ 65536 ⌝ }
 {
     Range {
         low: int16(s, i),
-        high: int16(s, i + 2),
+        high: int16(s, i + 1),
     }
 }
 
-// The ranges of the input.
-fn ranges(s: &[u8]) -> Ranges
+// The ranges of p, q and r.
+fn ranges_of(s: &[i16]) -> Ranges
     ensures { λ r. ⌜ r ≡ rangesOf (now (s .entry)) ⌝ }
     ensures small { λ r. ⌜ (width (r .p) ≤ 65536) × (width (r .q) ≤ 65536) × (width (r .r) ≤ 65536) ⌝ }
 {
     Ranges {
         p: range(s, 0),
-        q: range(s, 4),
-        r: range(s, 8),
+        q: range(s, 2),
+        r: range(s, 4),
     }
 }
 
 // The expression at i.
-fn expression(s: &[u8], i: usize) -> Expr
-    requires { ⌜ i < 800 ⌝ }
+fn expression(s: &[i32], i: usize) -> Expr
+    requires { ⌜ i < 100 ⌝ }
     ensures { λ r. ⌜ r ≡ exprAt (now (s .entry)) i ⌝ }
 {
     Expr {
         constant: int32(s, i),
-        p: int32(s, i + 4),
-        q: int32(s, i + 8),
-        r: int32(s, i + 12),
+        p: int32(s, i + 1),
+        q: int32(s, i + 2),
+        r: int32(s, i + 3),
     }
 }
 
 // How many expressions the input has.
-fn size(s: &[u8]) -> usize
-    ensures { λ n. ⌜ n ≡ min (byteAt (now (s .entry)) 12) 25 ⌝ }
+fn size(s: &[i32]) -> usize
+    ensures { λ n. ⌜ n ≡ sizeOf (now (s .entry)) ⌝ }
 {
-    let n = byte(s, 12) as usize;
+    let n = s.len() / 4;
     if n < 25 {
         return n;
     }
@@ -140,14 +85,14 @@ fn size(s: &[u8]) -> usize
 }
 
 // The inequalities of the input.
-fn system(s: &[u8]) -> System
+fn system_of(s: &[i32]) -> System
     ensures { λ r. ⌜ r ≡ systemOf (now (s .entry)) ⌝ }
 {
     let n = size(s);
     let mut list = [Expr::ZERO; 25];
     let mut i = 0;
     while i < n {
-        list[i] = expression(s, 13 + 16 * i);
+        list[i] = expression(s, 4 * i);
         i += 1;
     }
     System { count: n, list }
@@ -181,17 +126,18 @@ fn answer(found: Solution) -> i64
 
 // The first valuation in lexicographic order that meets the inequalities, packed; or -1.
 #[no_mangle]
-pub extern "C" fn search_first(input: &[u8]) -> i64
+pub extern "C" fn search_first(ranges: &[i16], inequalities: &[i32]) -> i64
     ensures { λ r.
-        ⌜ r ≡ firstAnswer (firstOf (first (rangeList (rangesOf (now (input .entry)))) (exprs (systemOf (now (input .entry)))))) ⌝ }
+        ⌜ r ≡ firstAnswer (firstOf (first (rangeList (rangesOf (now (ranges .entry)))) (exprs (systemOf (now (inequalities .entry)))))) ⌝ }
 {
-    answer(search::first(ranges(input), system(input)))
+    answer(search::first(ranges_of(ranges), system_of(inequalities)))
 }
 
 // How many valuations meet the inequalities.
 #[no_mangle]
-pub extern "C" fn search_count(input: &[u8]) -> i64
-    ensures { λ r. ⌜ r ≡ pos (count (rangeList (rangesOf (now (input .entry)))) (exprs (systemOf (now (input .entry))))) ⌝ }
+pub extern "C" fn search_count(ranges: &[i16], inequalities: &[i32]) -> i64
+    ensures { λ r.
+        ⌜ r ≡ pos (count (rangeList (rangesOf (now (ranges .entry)))) (exprs (systemOf (now (inequalities .entry))))) ⌝ }
 {
-    search::count(ranges(input), system(input)) as i64
+    search::count(ranges_of(ranges), system_of(inequalities)) as i64
 }

@@ -1,8 +1,9 @@
 -- The four numbers of an expression, one after another.
-use Rattle.search_c.specs.Input.{exprAt}
+use mathlib.Core.Path.{_∙_}
 use mir.Syntax.{w32}
 use mir.ValLaws.{toZ-ofZ}
 use borrow.Author.Needs.{needs}
+use Rattle.search_c.proofs.Read.{expr-is}
 use Rattle.search_c.proofs.expression.Statement.{statement}
 use Rattle.search_c.proofs.expression.Tie as tie
 
@@ -28,13 +29,13 @@ int32-requires-4 : tie.Need-int32-requires-4
 int32-requires-4 c κs = search needs
 
 returns : tie.Need-returns
-unfolding exprAt
 returns c =
-    let e = toZ-ofZ w32 (c .before .before .before .int32 .result) (search needs) in
-    let f = toZ-ofZ w32 (c .before .before .int322 .result) (search needs) in
-    let g = toZ-ofZ w32 (c .before .int323 .result) (search needs) in
-    let h = toZ-ofZ w32 (c .int324 .result) (search needs) in
-    cc
+    let start = c .before .before .before .before in
+    let e = toZ-ofZ w32 (c .before .before .before .int32 .result) (search needs) ∙ c .before .before .before .int32 .ensures in
+    let f = toZ-ofZ w32 (c .before .before .int322 .result) (search needs) ∙ c .before .before .int322 .ensures in
+    let g = toZ-ofZ w32 (c .before .int323 .result) (search needs) ∙ c .before .int323 .ensures in
+    let h = toZ-ofZ w32 (c .int324 .result) (search needs) ∙ c .int324 .ensures in
+    expr-is (start .args .s .now) (start .args .i) _ _ _ _ e f g h
 
 pub expression-spec : {M : Type 1} → statement M
 expression-spec =

@@ -1,21 +1,22 @@
--- The two bytes at i, read with a sign.
-use Rattle.search_c.specs.Input.{int16}
-use mathlib.Core.Path.{_∙_}
-use mir.Syntax.{w16}
-use mir.ValLaws.{toZ-ofZ}
+-- Past the end a list gives the number 0.
+use mathlib.Core.Path.{sym}
+use lib.IntN.{pos}
+use lib.ListN.{List·getD-eq-default}
 use borrow.Author.Needs.{needs}
 use Rattle.search_c.proofs.int16.Statement.{statement}
 use Rattle.search_c.proofs.int16.Tie as tie
 
-two-bytes-requires : tie.Need-two-bytes-requires
-two-bytes-requires c κs = search needs
+mul-result : tie.Need-mul-result
+mul-result c = search needs
 
-signed16-requires : tie.Need-signed16-requires
-signed16-requires c κs = search needs
+shared-slice-copy-out-result : tie.Need-shared-slice-copy-out-result
+shared-slice-copy-out-result c = search needs
 
 returns : tie.Need-returns
-unfolding int16
-returns c = toZ-ofZ w16 (c .signed16 .result) (search needs) ∙ (cc)
+returns c = search needs
+
+returns-2 : tie.Need-returns-2
+returns-2 c = sym (List·getD-eq-default (c .before .args .s .now) (pos 0) (c .if1 .left))
 
 pub int16-spec : {M : Type 1} → statement M
-int16-spec = tie.close (tie.spec two-bytes-requires signed16-requires returns)
+int16-spec = tie.close (tie.spec mul-result shared-slice-copy-out-result returns returns-2)

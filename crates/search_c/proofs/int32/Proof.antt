@@ -1,21 +1,22 @@
--- The four bytes at i, read with a sign.
-use Rattle.search_c.specs.Input.{int32}
-use mathlib.Core.Path.{_∙_}
-use mir.Syntax.{w32}
-use mir.ValLaws.{toZ-ofZ}
+-- Past the end a list gives the number 0.
+use mathlib.Core.Path.{sym}
+use lib.IntN.{pos}
+use lib.ListN.{List·getD-eq-default}
 use borrow.Author.Needs.{needs}
 use Rattle.search_c.proofs.int32.Statement.{statement}
 use Rattle.search_c.proofs.int32.Tie as tie
 
-four-bytes-requires : tie.Need-four-bytes-requires
-four-bytes-requires c κs = search needs
+mul-result : tie.Need-mul-result
+mul-result c = search needs
 
-signed32-requires : tie.Need-signed32-requires
-signed32-requires c κs = search needs
+shared-slice-copy-out-result : tie.Need-shared-slice-copy-out-result
+shared-slice-copy-out-result c = search needs
 
 returns : tie.Need-returns
-unfolding int32
-returns c = toZ-ofZ w32 (c .signed32 .result) (search needs) ∙ (cc)
+returns c = search needs
+
+returns-2 : tie.Need-returns-2
+returns-2 c = sym (List·getD-eq-default (c .before .args .s .now) (pos 0) (c .if1 .left))
 
 pub int32-spec : {M : Type 1} → statement M
-int32-spec = tie.close (tie.spec four-bytes-requires signed32-requires returns)
+int32-spec = tie.close (tie.spec mul-result shared-slice-copy-out-result returns returns-2)

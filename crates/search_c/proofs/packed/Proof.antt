@@ -3,8 +3,9 @@ use mathlib.Core.Path.{_≡_, ap, _∙_}
 use native.Mathlib.Omega.{arith}
 use mir.Syntax.{w16}
 use mir.ValLaws.{toZ-ofZ}
-use Rattle.search_c.specs.Answer.{packed, shifted}
+use Rattle.search_c.specs.Answer.{shifted}
 use borrow.Author.Needs.{needs}
+use Rattle.search_c.proofs.Signs.{packed-is}
 use Rattle.search_c.proofs.packed.Statement.{statement}
 use Rattle.search_c.proofs.packed.Tie as tie
 
@@ -30,7 +31,6 @@ add-result-2 : tie.Need-add-result-2
 add-result-2 c = search needs
 
 returns : tie.Need-returns
-unfolding packed
 returns c =
     let after-shifted-2 = c .before .before in
     let after-shifted = after-shifted-2 .before .before in
@@ -43,7 +43,7 @@ returns c =
     ∙ ap shifted (toZ-ofZ w16 (v .q) (record { sfits = t .1 .0 .1 })) in
     let g : c .shifted3 .result ≡ shifted (v .r) = c .shifted3 .ensures .0
     ∙ ap shifted (toZ-ofZ w16 (v .r) (record { sfits = t .1 .1 .0 .1 })) in
-    (cc, omega arith)
+    (packed-is v _ _ _ e f g, omega arith)
 
 pub packed-spec : {M : Type 1} → statement M
 packed-spec =

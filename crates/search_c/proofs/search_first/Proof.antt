@@ -1,4 +1,4 @@
--- The first valuation of the decoded input is what goes back.
+-- The first valuation for what is read is what goes back.
 use mathlib.Core.Path.{ap, _∙_}
 use mir.Syntax.{w64}
 use mir.ValLaws.{toZ-ofZ}
@@ -8,11 +8,11 @@ use borrow.Author.Needs.{needs}
 use Rattle.search_c.proofs.search_first.Statement.{statement}
 use Rattle.search_c.proofs.search_first.Tie as tie
 
-ranges-requires : tie.Need-ranges-requires
-ranges-requires c κs = search needs
+ranges-of-requires : tie.Need-ranges-of-requires
+ranges-of-requires c κs = search needs
 
-system-requires : tie.Need-system-requires
-system-requires c κs = search needs
+system-of-requires : tie.Need-system-of-requires
+system-of-requires c κs = search needs
 
 first-requires : tie.Need-first-requires
 first-requires c κs = search needs
@@ -24,8 +24,8 @@ returns : tie.Need-returns
 returns c =
     toZ-ofZ w64 (c .answer .result) (search needs) ∙ c .answer .ensures
     ∙ ap firstAnswer
-    (c .before .first .ensures ∙ firsts _ _ _ _ (c .before .before .before .ranges .ensures .0) (c .before .before .system .ensures))
+    (c .before .first .ensures ∙ firsts _ _ _ _ (c .before .before .before .ranges-of .ensures .0) (c .before .before .system-of .ensures))
 
 pub search-first-spec : {M : Type 1} → statement M
 search-first-spec =
-    tie.close (tie.spec ranges-requires system-requires first-requires answer-requires returns)
+    tie.close (tie.spec ranges-of-requires system-of-requires first-requires answer-requires returns)

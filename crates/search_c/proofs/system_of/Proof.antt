@@ -1,12 +1,12 @@
 -- The loop's invariant: the first i expressions of the list are those of the input.
 use mathlib.Core.Path.{_≡_, refl}
-use native.Mathlib.Numerals.{add-one}
 use native.Mathlib.Omega.{arith}
 use Prim.Native.Nat.{_≤_, _-_}
-use Rattle.search_c.specs.Input.{listOf, systemOf}
+use Rattle.search_c.specs.Input.{listOf}
 use borrow.Author.Needs.{needs}
-use Rattle.search_c.proofs.system.Statement.{statement}
-use Rattle.search_c.proofs.system.Tie as tie
+use Rattle.search_c.proofs.Read.{list-turn, system-is}
+use Rattle.search_c.proofs.system_of.Statement.{statement}
+use Rattle.search_c.proofs.system_of.Tie as tie
 
 abbrev Inv-loop : tie.InvT-loop
 Inv-loop s n list₀ i₀ list i = (n ≤ 25) × (i ≤ n) × (list ≡ listOf s i)
@@ -24,9 +24,6 @@ loop-holds c = (omega arith, omega arith, refl)
 mul-expression : tie.Need-mul-expression Inv-loop μ-loop
 mul-expression c = search needs
 
-add-expression : tie.Need-add-expression Inv-loop μ-loop
-add-expression c = search needs
-
 expression-requires : tie.Need-expression-requires Inv-loop μ-loop
 expression-requires c κs = search needs
 
@@ -43,17 +40,18 @@ loop-less : tie.Need-loop-less Inv-loop μ-loop
 loop-less c = search needs
 
 loop-again : tie.Need-loop-again Inv-loop μ-loop
-unfolding listOf
-loop-again c = (omega arith, omega arith, rw add-one (cc))
+loop-again c =
+    let s = c .before .before .before .before .args .s .now in
+    (omega arith, omega arith, list-turn s (c .before .before .loop .i) _ _ (c .before .before .loop .inv .2) (c .expression .ensures))
 
 returns : tie.Need-returns Inv-loop μ-loop
-unfolding systemOf
 returns c =
+    let s = c .before .before .before .args .s .now in
     let e : c .before .loop .i ≡ c .before .before .size .result = omega arith in
-    cc
+    system-is s _ (c .before .loop .i) _ (c .before .before .size .ensures) e (c .before .loop .inv .2)
 
-pub system-spec : {M : Type 1} → statement M
-system-spec =
+pub system-of-spec : {M : Type 1} → statement M
+system-of-spec =
     tie.close
     (tie.spec
     Inv-loop
@@ -61,7 +59,6 @@ system-spec =
     size-requires
     loop-holds
     mul-expression
-    add-expression
     expression-requires
     mul-list
     array-set-from-list
