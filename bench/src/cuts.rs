@@ -77,15 +77,16 @@ fn full(parted: bool, moves: usize) -> Sheet {
     along(&cube(), 4, &stays, &path, &steps)
 }
 
-// Each lower limit and each stay cuts a little off: one piece with 21 inequalities.
+// Each lower limit, six at a move and one on its arrival, cuts a little off: one piece with 21 inequalities.
 fn shaved() -> Sheet {
-    let stays = [vec![upper(1, 0, [1, 1, 1])], vec![upper(1, 0, [1, 2, 0])], vec![upper(1, 0, [2, 0, 1])]];
+    let mut stays = vec![vec![upper(1, 0, [1; 3])]];
     let mut steps = Vec::new();
     for number in 0..3 {
-        let guards: Vec<Guard> = (1..=6).map(|k| lower(1, 6 * number + k)).collect();
+        let guards: Vec<Guard> = (1..=6).map(|k| lower(1, 7 * number + k)).collect();
         steps.push((0, guards));
+        stays.push(vec![upper(1, 0, [1; 3]), lower(1, 7 * number + 7)]);
     }
-    along(&cube(), 1, &stays, &[0, 1, 2, 0], &steps)
+    along(&cube(), 1, &stays, &[0, 1, 2, 3], &steps)
 }
 
 // The sheet without limits.

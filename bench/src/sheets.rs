@@ -84,18 +84,20 @@ fn loose(random: &mut Random) -> Planned {
     full(random, wide, |random, _, v| wide(random, v), |random| random.within(0, 15) as u8)
 }
 
-// Every limit tightens, every transition resets all clocks. They run together then, so that whichever clock a limit
-// is about, the upper limits fall from 900 in steps of 10, and the lower ones rise from 2 in steps of 2.
+// Every limit tightens, but for arrivals, where all clocks are 0: every transition resets them all. They run together
+// then, so that whichever clock a limit is about, the upper limits fall from 900 in steps of 10, and the lower ones, which
+// only transitions have, rise from 2 in steps of 2.
 fn tight_together(random: &mut Random) -> Planned {
-    let limits = |random: &mut Random, v: [i64; 3], step: i64| {
+    let stay = |random: &mut Random, v: [i64; 3]| (0..6).map(|k| upper(random, 900 - 10 * k, v)).collect();
+    let leave = |random: &mut Random, _: usize, v: [i64; 3]| {
         let mut list = Vec::new();
         for k in 0..3 {
-            list.push(upper(random, 900 - 10 * (step + k), v));
-            list.push(lower(random, 2 * (step + k + 1), v));
+            list.push(upper(random, 840 - 10 * k, v));
+            list.push(lower(random, 2 * (k + 1), v));
         }
         list
     };
-    full(random, |random, v| limits(random, v, 0), |random, _, v| limits(random, v, 3), |_| 15)
+    full(random, stay, leave, |_| 15)
 }
 
 // Every limit tightens, nothing is reset. A wait takes the upper limits away, so that those of a location tighten
@@ -120,7 +122,7 @@ fn cut(plan: &Planned, moves: usize) -> Planned {
     plan
 }
 
-// The first location cannot be left in time: no run.
+// The first location forbids the start: no run.
 fn void_early(plan: &Planned) -> Planned {
     let mut plan = plan.clone();
     plan.sheet.locations[0].invariants[0] = at_most(1, 0, -1, [0; 3]);

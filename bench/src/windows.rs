@@ -92,7 +92,7 @@ fn measure(f: &Family, quick: bool) -> Times {
 }
 
 // The least and the most pieces.
-fn range(pieces: &[i64]) -> String {
+pub fn range(pieces: &[i64]) -> String {
     let (low, high) = (pieces.iter().min().unwrap_or(&0), pieces.iter().max().unwrap_or(&0));
     if low == high { format!("{low}") } else { format!("{low}-{high}") }
 }

@@ -1,10 +1,11 @@
 //! A second way to Sweep's matrix, which takes no step of `sweep` and no matrix of clocks: paper 01,
 //! "Runs", as inequalities between the instants of a run.
 //!
-//! Instant 0 is the start, and instant k + 1 the end of the wait of visit k. A clock's value is the
-//! present instant less the instant of its last reset, so each guard bounds a difference of two
-//! instants; so does a wait, which is not negative. The tightest bounds of all differences are
-//! shortest paths, and there is no run if a way around is below zero.
+//! Instant 0 is the start, and instant k + 1 the end of the wait of visit k. A move takes no time,
+//! so that it is also the instant of the arrival. A clock's value is the present instant less the
+//! instant of its last reset, so each guard bounds a difference of two instants; so does a wait,
+//! which is not negative. The tightest bounds of all differences are shortest paths, and there is
+//! no run if a way around is below zero.
 
 use crate::sheet::{Guard, Sheet};
 use crate::weight::Weight;
@@ -76,6 +77,7 @@ pub fn bounds(sheet: &Sheet, v: [i64; 3]) -> Option<Vec<Vec<Weight>>> {
     let mut instants = Instants::in_order(count);
     let mut zero_at = vec![0; usize::from(sheet.clocks) + 1];
     let mut location = 0;
+    hold(&mut instants, &zero_at, &sheet.locations[0].invariants, v);
     for (k, &number) in sheet.route.iter().enumerate() {
         let transition = &sheet.transitions[usize::from(number)];
         zero_at[0] = k + 1;
@@ -92,6 +94,12 @@ pub fn bounds(sheet: &Sheet, v: [i64; 3]) -> Option<Vec<Vec<Weight>>> {
             }
         }
         location = usize::from(transition.to);
+        hold(
+            &mut instants,
+            &zero_at,
+            &sheet.locations[location].invariants,
+            v,
+        );
     }
     zero_at[0] = count - 1;
     hold(

@@ -5,6 +5,7 @@
 
 #[cfg(test)]
 mod agree;
+pub mod arrivals;
 pub mod bound;
 pub mod cuttings;
 pub mod digest;

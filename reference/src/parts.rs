@@ -1,5 +1,5 @@
-//! Runs tried out one by one, for tests with small sheets: paper 01, "Runs", with the waits counted
-//! in parts of a minute.
+//! Runs tried out one by one, for tests with small sheets: paper 01, "Runs", and paper 02, request
+//! (b), with the waits counted in parts of a minute.
 
 use crate::sheet::{Guard, Sheet};
 
@@ -26,11 +26,16 @@ struct Search<'a> {
 }
 
 impl Search<'_> {
-    /// Adds the end states of all the runs that go on from that location after `made` moves.
+    /// Adds the end states of all the runs that come to that location after `made` moves: its
+    /// invariants hold at the start or on arrival, and at the end of the stay.
     fn visit(&self, made: usize, location: usize, clocks: [i64; 5], list: &mut Vec<[i64; 5]>) {
+        let invariants = &self.sheet.locations[location].invariants;
+        if !self.hold(invariants, clocks) {
+            return;
+        }
         for wait in 0..=self.longest {
             let now = [0, 1, 2, 3, 4].map(|i| if i == 0 { 0 } else { clocks[i] + wait });
-            if self.hold(&self.sheet.locations[location].invariants, now) {
+            if self.hold(invariants, now) {
                 self.go_on(made, now, list);
             }
         }

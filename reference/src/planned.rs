@@ -3,7 +3,7 @@
 
 use crate::random::Random;
 use crate::samples::{at_most, location, random_clocks, range, transition};
-use crate::sheet::{Guard, Parameter, Sheet};
+use crate::sheet::{Guard, Parameter, Sheet, MOST_GUARDS};
 
 /// What a planned sheet has: that many of each, up to that many guards at each place, and ranges up
 /// to that width.
@@ -75,18 +75,44 @@ fn around(
     draw: Draw,
 ) -> Planned {
     let seen = visits(random, &sheet);
-    for k in 0..sheet.locations.len() {
-        let values = at(&seen, |visit| visit.location == k);
-        sheet.locations[k].invariants = guards(random, shape, &values, valuation, draw);
+    let mut late = Vec::new();
+    for (k, location) in sheet.locations.iter_mut().enumerate() {
+        let stays = seen.iter().filter(|visit| visit.location == k);
+        let values: (Vec<Clocks>, Vec<Clocks>) = stays.map(|v| (v.first, v.last)).unzip();
+        let (standing, leaving) = stay_guards(random, shape, &values, valuation, draw);
+        location.invariants = standing;
+        late.push(leaving);
     }
-    for k in 0..sheet.transitions.len() {
-        let values = at(&seen, |visit| visit.transition == Some(k));
-        sheet.transitions[k].guards = guards(random, shape, &values, valuation, draw);
+    for (k, transition) in sheet.transitions.iter_mut().enumerate() {
+        let made = seen.iter().filter(|visit| visit.transition == Some(k));
+        let values: Vec<Clocks> = made.map(|visit| visit.last).collect();
+        let list = guards(random, shape, &values, valuation, draw);
+        transition.guards = [&list[..], &late[usize::from(transition.from)]].concat();
+        transition.guards.truncate(MOST_GUARDS);
     }
     if random.once_in(3) {
         tighten(random, &mut sheet);
     }
     Planned { sheet, valuation }
+}
+
+/// Guards around stays in one location, of which the first and the last clocks are given: its
+/// invariants, and guards for the transitions that leave it. A lower guard on a clock that is 0 on
+/// arrival could only cut there, so that most of these leave.
+fn stay_guards(
+    random: &mut Random,
+    shape: Shape,
+    (firsts, lasts): &(Vec<Clocks>, Vec<Clocks>),
+    v: [i64; 3],
+    draw: Draw,
+) -> (Vec<Guard>, Vec<Guard>) {
+    let only_cuts = |g: &Guard| g.a == 0 && firsts.iter().any(|x| x[usize::from(g.b)] == 0);
+    let both = [&firsts[..], lasts].concat();
+    let mut standing = guards(random, shape, &both, v, draw);
+    standing.retain(|g| !only_cuts(g) || random.once_in(8));
+    let mut leaving = guards(random, shape, lasts, v, draw);
+    leaving.retain(only_cuts);
+    (standing, leaving)
 }
 
 /// A sheet of that shape without guards. Every location has a transition that leaves it, so that a
@@ -146,11 +172,15 @@ pub fn valuation(random: &mut Random, parameters: &[Parameter]) -> [i64; 3] {
     v
 }
 
-/// The end of a wait: where, which transition follows, and the clocks there in half minutes.
+/// The clocks in half minutes, clock 0 first.
+type Clocks = [i64; 5];
+
+/// A stay: where, which transition follows, and the clocks at its start and at its end.
 struct Visit {
     location: usize,
     transition: Option<usize>,
-    clocks: [i64; 5],
+    first: Clocks,
+    last: Clocks,
 }
 
 /// The visits of a run along the sheet's route, its waits being random.
@@ -164,6 +194,7 @@ fn visits(random: &mut Random, sheet: &Sheet) -> Vec<Visit> {
         .map(|&t| Some(usize::from(t)))
         .chain([None])
     {
+        let first = clocks;
         let wait = some_wait(random);
         for clock in &mut clocks[1..] {
             *clock += wait;
@@ -171,7 +202,8 @@ fn visits(random: &mut Random, sheet: &Sheet) -> Vec<Visit> {
         list.push(Visit {
             location: here,
             transition: next,
-            clocks,
+            first,
+            last: clocks,
         });
         if let Some(t) = next {
             let resets = sheet.transitions[t].resets;
@@ -194,17 +226,11 @@ fn some_wait(random: &mut Random) -> i64 {
     }
 }
 
-/// The clocks at the visits of which that is true.
-fn at(seen: &[Visit], which: impl Fn(&Visit) -> bool) -> Vec<[i64; 5]> {
-    let visits = seen.iter().filter(|visit| which(visit));
-    visits.map(|visit| visit.clocks).collect()
-}
-
 /// Up to the shape's count of guards that those clocks meet at that valuation.
 fn guards(
     random: &mut Random,
     shape: Shape,
-    values: &[[i64; 5]],
+    values: &[Clocks],
     v: [i64; 3],
     draw: Draw,
 ) -> Vec<Guard> {
@@ -218,12 +244,12 @@ fn guards(
 fn guard(
     random: &mut Random,
     shape: Shape,
-    values: &[[i64; 5]],
+    values: &[Clocks],
     v: [i64; 3],
     draw: Draw,
 ) -> Option<Guard> {
     let (a, b) = random_clocks(random, shape.clocks);
-    let difference = |x: &[i64; 5]| x[usize::from(a)] - x[usize::from(b)];
+    let difference = |x: &Clocks| x[usize::from(a)] - x[usize::from(b)];
     let halves = values.iter().map(difference).max();
     let halves = halves.unwrap_or(random.below(9) as i64);
     let spare = if random.once_in(2) {

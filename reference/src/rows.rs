@@ -112,15 +112,18 @@ pub fn two_clocks(first: Guard) -> Sheet {
 /// Two clocks, at least 4 and at most 6 minutes in the first stay, a reset of clock 2, and a last
 /// stay without an end.
 pub fn wait_keeps() -> Sheet {
-    let first = vec![at_most(1, 0, 6, [0; 3]), at_most(0, 1, -4, [0; 3])];
-    along(&[], 2, &[first, vec![]], &[0, 1], &[(0b10, vec![])])
+    let first = vec![at_most(1, 0, 6, [0; 3])];
+    let go = (0b10, vec![at_most(0, 1, -4, [0; 3])]);
+    along(&[], 2, &[first, vec![]], &[0, 1], &[go])
 }
 
-/// Three clocks: a first stay of at most 4 minutes, a reset of clock 1, a stay, a reset of clock 3, and a
-/// last stay that ends with clock 3 at least 1 and clock 1 at most 5.
+/// Three clocks: a first stay of at most 4 minutes, a reset of clock 1, a stay, a reset of clock 3,
+/// a stay of at least 1 minute, and a last one with clock 1 at most 5.
 pub fn three_clocks() -> Sheet {
     let first = vec![at_most(2, 0, 4, [0; 3])];
-    let last = vec![at_most(0, 3, -1, [0; 3]), at_most(1, 0, 5, [0; 3])];
-    let moves = [(0b001, vec![]), (0b100, vec![])];
-    along(&[], 3, &[first, vec![], last], &[0, 1, 2], &moves)
+    let last = vec![at_most(1, 0, 5, [0; 3])];
+    let stays = [first, vec![], vec![], last];
+    let go = (0, vec![at_most(0, 3, -1, [0; 3])]);
+    let moves = [(0b001, vec![]), (0b100, vec![]), go];
+    along(&[], 3, &stays, &[0, 1, 2, 3], &moves)
 }

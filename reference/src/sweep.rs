@@ -37,17 +37,19 @@ fn inside(sheet: &Sheet, v: [i64; 3]) -> Result<(), Refusal> {
 }
 
 /// The matrix of a sheet after the whole route at one of its valuations, or nothing if a guard left
-/// none.
+/// none. The invariants of a location hold at the start or on arrival, after the resets, and again
+/// at the end of the stay (paper 02, request (b)).
 pub fn walk(sheet: &Sheet, v: [i64; 3]) -> Option<Matrix> {
     let clocks = usize::from(sheet.clocks);
-    let mut m = ZEROS;
     let mut at = 0;
+    let mut m = invariants(ZEROS, sheet, at, v)?;
     for &number in &sheet.route {
         let transition = &sheet.transitions[usize::from(number)];
         m = stay(m, sheet, at, v)?;
         m = guards(m, clocks, &transition.guards, v)?;
         m = resets(m, clocks, transition.resets);
         at = usize::from(transition.to);
+        m = invariants(m, sheet, at, v)?;
     }
     stay(m, sheet, at, v)
 }
@@ -55,8 +57,13 @@ pub fn walk(sheet: &Sheet, v: [i64; 3]) -> Option<Matrix> {
 /// The matrix after a wait in that location, ended by its invariants.
 fn stay(m: Matrix, sheet: &Sheet, location: usize, v: [i64; 3]) -> Option<Matrix> {
     let clocks = usize::from(sheet.clocks);
-    let invariants = &sheet.locations[location].invariants;
-    guards(wait(m, clocks), clocks, invariants, v)
+    invariants(wait(m, clocks), sheet, location, v)
+}
+
+/// The matrix after the invariants of that location.
+fn invariants(m: Matrix, sheet: &Sheet, location: usize, v: [i64; 3]) -> Option<Matrix> {
+    let clocks = usize::from(sheet.clocks);
+    guards(m, clocks, &sheet.locations[location].invariants, v)
 }
 
 /// The matrix after a wait: entries (i, 0), i >= 1, become none.

@@ -96,8 +96,8 @@ def pieces(given, found, runner, head, options):
     lines = report.pieces_lines(all_windows, found, names)
     data = {**head, **jsonform.listing_data(found, all_windows, names)}
     if not found.kept:
-        where, data["lost"] = lost(sheet, names, runner)
-        lines.append(f"no setting has a run: the last is lost at {where}")
+        more, data["lost"] = lost("no setting has a run: the last is lost", sheet, names, runner)
+        lines += more
     drawing = None
     if options.svg is not None or options.png is not None:
         regions = picture.piece_regions(all_windows, sheet.ranges, names)
@@ -106,18 +106,15 @@ def pieces(given, found, runner, head, options):
     return Answer(ANSWER if found.kept else NO_RUN, lines, data, drawing)
 
 
-def lost(sheet, names, runner):
-    """The limit at which the last setting of a sheet without a run is lost, in words and as data."""
+def lost(what, sheet, names, runner):
+    """Where the last setting of a sheet without a run is lost, as lines and as data."""
     part = beginnings.first_without_run(runner, sheet)
-    if part is None:
-        return "the last limits of the route", None
-    return report.limit_line(part, sheet, names), jsonform.limit_data(part, sheet, names)
+    return report.lost_lines(what, part, sheet, names), part and jsonform.limit_data(part, sheet, names)
 
 
 def lost_setting(setting, sheet, names, runner):
-    """The same of a single setting, as a line and as data."""
-    where, data = lost(narrowed(sheet, setting), names, runner)
-    return f"it is lost at {where}", data
+    """The same of a single setting."""
+    return lost("it is lost", narrowed(sheet, setting), names, runner)
 
 
 def at_settings(given, asked, found, runner, head):
@@ -136,8 +133,8 @@ def at_setting(given, setting, found, runner):
     data = jsonform.at_data(found, setting, sheet, names)
     if data["piece"] is not None:
         return Answer(ANSWER, lines, data)
-    line, data["lost"] = lost_setting(setting, sheet, names, runner)
-    return Answer(NO_RUN, [*lines[:2], line, *lines[2:]], data)
+    more, data["lost"] = lost_setting(setting, sheet, names, runner)
+    return Answer(NO_RUN, [*lines[:2], *more, *lines[2:]], data)
 
 
 def refused(given, refusal, runner, head, short):
@@ -167,8 +164,8 @@ def scheduled(given, setting, runner, head):
     agree(schedule.end_matrix(sheet, setting), put_in(found, setting), "the schedule and Windows", setting, names)
     head["setting"] = jsonform.setting_data(setting, names)
     if steps is None:
-        line, head["lost"] = lost_setting(setting, sheet, names, runner)
-        return Answer(NO_RUN, [f"at {setting_words(setting, names)}", "no run", line], head)
+        more, head["lost"] = lost_setting(setting, sheet, names, runner)
+        return Answer(NO_RUN, [f"at {setting_words(setting, names)}", "no run", *more], head)
     head["schedule"] = jsonform.schedule_data(steps, sheet, names)
     drawing = bars.draw(steps, report.moves(sheet, names), f"{given.title} at {setting_words(setting, names)}")
     return Answer(ANSWER, report.schedule_lines(steps, setting, sheet, names), head, drawing)
@@ -212,8 +209,8 @@ def sweep(given, at):
     data = {**head, "setting": jsonform.setting_data(setting, names), "run": run, "agree": True,
             "piece": None if refusal else number, "bounds": piece and jsonform.matrix_data(piece, setting)}
     if not run:
-        line, data["lost"] = lost_setting(setting, sheet, names, runner)
-        lines.append(line)
+        more, data["lost"] = lost_setting(setting, sheet, names, runner)
+        lines += more
     return Answer(ANSWER if run else NO_RUN, lines, data)
 
 

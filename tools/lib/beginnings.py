@@ -1,32 +1,31 @@
-"""The beginnings of a route: the sheets that end at each limit in turn, for finding the limit at which something happens."""
+"""The beginnings of a route, each up to a limit and with it, for finding the limit at which something happens.
+
+The standing limits of a stage come on arrival, or at the start, and again at the end of the stay; then those of the move.
+"""
 
 from typing import NamedTuple
 
 import listing
 import settings
-from sheet_file import MOST_LIMITS, MOST_STAGES, Move, Sheet
+from sheet_file import MOST_LIMITS, MOST_MOVES, MOST_STAGES, Limit, Move, Sheet
+
+START, ARRIVAL, STAY, MOVE = "start", "arrival", "stay", "move"  # when a limit comes
 
 
 class Beginning(NamedTuple):
     """A route up to a limit and with it."""
 
     visit: int  # moves made
-    move: bool  # it is a limit of the next move, not of the stage
-    limit: int  # its place among the limits of the move or the stage
-    sheet: Sheet
+    when: str  # at the start, on arrival, at the end of the stay, or of the move that leaves
+    limit: int  # its place among the limits of the stage or the move
 
 
-def beginnings(sheet):
-    """One for each limit of the route, in order. A beginning that would need a 17th stage is left out; it does where the
-    route goes through 16 stages that all have different limits."""
-    found = []
-    for visit in range(len(sheet.route) + 1):
-        for move, limits in ((False, stage_limits(sheet, visit)), (True, move_limits(sheet, visit))):
-            for place in range(len(limits)):
-                cut = cut_after(sheet, visit, move, place)
-                if len(cut.stages) <= MOST_STAGES:
-                    found.append(Beginning(visit, move, place, cut))
-    return found
+def beginnings(sheet, visit):
+    """One for each limit of a visit, in order."""
+    standing, leaving = stage_limits(sheet, visit), move_limits(sheet, visit)
+    return [Beginning(visit, when, place)
+            for when, limits in ((ARRIVAL if visit else START, standing), (STAY, standing), (MOVE, leaving))
+            for place in range(len(limits))]
 
 
 def stage_of(sheet, visit):
@@ -43,53 +42,104 @@ def move_limits(sheet, visit):
     return sheet.moves[sheet.route[visit]].limits if visit < len(sheet.route) else ()
 
 
+def zero_watches(sheet, visit):
+    """The watches that are 0 on arrival: those that the move resets, and at the start all."""
+    return sheet.moves[sheet.route[visit - 1]].resets if visit else tuple(range(1, sheet.watches + 1))
+
+
 def limit_of(sheet, beginning):
-    limits = move_limits if beginning.move else stage_limits
+    limits = move_limits if beginning.when == MOVE else stage_limits
     return limits(sheet, beginning.visit)[beginning.limit]
 
 
-def cut_after(sheet, visit, move, place):
-    """The sheet whose route ends at a limit. What follows the stay's standing limits without a wait, the limits of the
-    move, is put to them if there is room; otherwise a move with these limits leads to a stage that has none."""
-    stays = [stage_limits(sheet, k) for k in range(visit)]
-    moves = [sheet.moves[number] for number in sheet.route[:visit]]
-    last = stage_limits(sheet, visit) if move else stage_limits(sheet, visit)[:place + 1]
-    more = move_limits(sheet, visit)[:place + 1] if move else ()
-    if len(last) + len(more) <= MOST_LIMITS:
-        stays.append(last + more)
+# As sheets
+
+
+def same_runs(sheet, beginning):
+    """The sheet that has a run at the same settings: a move with its limits so far leads to a stage that has none, and the
+    last stage has its limits so far, which a wait of 0 meets again after the arrival. At the end of a stay it is right for
+    the last limit alone, since all of them come before, on arrival."""
+    stays, moves = way(sheet, beginning.visit)
+    if beginning.when == MOVE:
+        stays.append(())
+        moves.append(Move(0, 0, (), move_limits(sheet, beginning.visit)[:beginning.limit + 1]))
     else:
-        stays += [last, ()]
-        moves.append(Move(0, 0, (), more))
+        stays[-1] = stays[-1][:beginning.limit + 1]
     return unrolled(sheet, stays, moves)
 
 
+def same_steps(sheet, beginning):
+    """The sheet at which Windows makes the steps of a beginning, each with the same splits, and no others that split.
+
+    No wait comes between the move and the limits on arrival, so that the move has them, or, after a reset, a next one:
+    between the two, a stage where the watch that is 0 stays 0 changes nothing. For the end of the stay the last stage has
+    the limits so far; on arrival they change nothing, since all have just been put in."""
+    stays, moves = way(sheet, beginning.visit)
+    so_far = stays[-1][:beginning.limit + 1]
+    if beginning.when == MOVE or beginning.when == STAY and so_far == stays[-1]:
+        return same_runs(sheet, beginning)
+    arrival, last = (stays[-1], so_far) if beginning.when == STAY else (so_far, ())
+    zero = zero_watches(sheet, beginning.visit)
+    if zero:
+        stays[-1:] = [(Limit(zero[0], 0, False, (0, 0, 0, 0)),), last]
+        moves.append(Move(0, 0, (), arrival))
+    else:
+        stays[-1] = last
+        moves[-1] = moves[-1]._replace(limits=moves[-1].limits + arrival)
+    return unrolled(sheet, stays, moves)
+
+
+def way(sheet, visit):
+    """The standing limits of each stay up to a visit, and the moves between."""
+    return [stage_limits(sheet, k) for k in range(visit + 1)], [sheet.moves[number] for number in sheet.route[:visit]]
+
+
 def unrolled(sheet, stays, moves):
-    """A sheet with a move for each step. Stays with the same limits are one stage."""
+    """A sheet with a move for each step; nothing if it would have too much of something. Stays with the same limits are one
+    stage."""
     stages = list(dict.fromkeys(stays))
     steps = tuple(move._replace(start=stages.index(before), end=stages.index(after))
                   for move, before, after in zip(moves, stays, stays[1:]))
+    if len(stages) > MOST_STAGES or len(steps) > MOST_MOVES or any(len(move.limits) > MOST_LIMITS for move in steps):
+        return None
     return Sheet(sheet.ranges, sheet.watches, tuple(stages), steps, tuple(range(len(steps))))
 
 
+# What is found by them
+
+
 def first_refused(windows, sheet, refusal):
-    """The beginning that is the first to be refused as the sheet is, or None."""
-    return next((part for part in beginnings(sheet)
-                 if part.visit == refusal.place and isinstance(windows.of_sheet(part.sheet), listing.Refusal)), None)
+    """The beginning at which Windows refuses the sheet, or None where it cannot be told."""
+    return first(lambda cut: isinstance(windows.of_sheet(cut), listing.Refusal),
+                 [(part, same_steps(sheet, part)) for part in beginnings(sheet, refusal.place)])
 
 
 def first_without_run(windows, sheet):
-    """The first beginning that no setting has a run of, for a sheet without any; or None. There are fewer settings with a
-    run at each limit, so that it can be searched by halves."""
-    parts = beginnings(sheet)
-    low, high = 0, len(parts)
+    """The first beginning that no setting has a run of, for a sheet without any; or None where it cannot be told. No setting
+    is lost at the end of a stay, since a wait of 0 meets the standing limits again. So where Windows refuses, at the end of
+    the last stay, there are runs."""
+    def lost(cut):
+        found = windows.of_sheet(cut)
+        return not isinstance(found, listing.Refusal) and not found.kept
+
+    return first(lost, [(part, same_runs(sheet, part)) for visit in range(len(sheet.route) + 1)
+                        for part in beginnings(sheet, visit) if part.when != STAY])
+
+
+def first(happens, parts):
+    """The first of some beginnings, each with its sheet, at which something happens. It happens at one of them and at all
+    after it, so that it can be searched by halves. None where it cannot be told, for lack of a sheet."""
+    written = [k for k, (_, cut) in enumerate(parts) if cut]
+    low, high = 0, len(written)
     while low < high:
         middle = (low + high) // 2
-        found = windows.of_sheet(parts[middle].sheet)
-        if isinstance(found, listing.Refusal) or found.kept:
-            low = middle + 1
-        else:
+        if happens(parts[written[middle]][1]):
             high = middle
-    return parts[low] if low < len(parts) else None
+        else:
+            low = middle + 1
+    ends = [-1, *written, len(parts) - 1]
+    left = parts[ends[low] + 1:ends[low + 1] + 1]  # after the last at which it does not happen
+    return left[0][0] if len(left) == 1 else None
 
 
 def accepted_ranges(windows, sheet):

@@ -5,7 +5,7 @@ import json
 import refusals
 import report
 import settings
-from beginnings import limit_of, stage_of
+from beginnings import MOVE, limit_of, stage_of
 from expressions import value
 from sheet_text import limit_words
 from windows import grouped
@@ -61,8 +61,8 @@ def refusal_data(refusal):
 
 def limit_data(beginning, sheet, names):
     """A limit of the route."""
-    return {"visit": beginning.visit, "stage": names.stage[stage_of(sheet, beginning.visit)],
-            "move": names.move[sheet.route[beginning.visit]] if beginning.move else None,
+    return {"visit": beginning.visit, "when": beginning.when, "stage": names.stage[stage_of(sheet, beginning.visit)],
+            "move": names.move[sheet.route[beginning.visit]] if beginning.when == MOVE else None,
             "limit": limit_words(limit_of(sheet, beginning), names)}
 
 

@@ -3,7 +3,7 @@
 import refusals
 import settings
 import wording
-from beginnings import limit_of, stage_of
+from beginnings import ARRIVAL, MOVE, START, STAY, limit_of, stage_of, zero_watches
 from sheet_text import limit_words
 from windows import grouped
 from wording import listed, plural, setting_words
@@ -124,13 +124,40 @@ def visit_line(place, sheet, names):
 
 
 def limit_line(beginning, sheet, names):
-    """A limit of the route, and whose it is."""
+    """A limit of the route, whose it is, and when it is met."""
     limit = limit_words(limit_of(sheet, beginning), names)
     stage = names.stage[stage_of(sheet, beginning.visit)]
     after = f"after {plural(beginning.visit, 'move')}"
-    if beginning.move:
+    if beginning.when == MOVE:
         return f"the limit {limit} of move '{names.move[sheet.route[beginning.visit]]}', which leaves stage '{stage}' {after}"
-    return f"the standing limit {limit} of stage '{stage}', {after}"
+    when = {START: "at the start", ARRIVAL: f"on arrival {after}", STAY: f"at the end of the stay {after}"}
+    return f"the standing limit {limit} of stage '{stage}', {when[beginning.when]}"
+
+
+def lost_lines(what, beginning, sheet, names):
+    """At which limit something is lost, and what helps."""
+    if beginning is None:
+        return [f"{what} at one of the limits of the route; which one could not be found"]
+    return [f"{what} at {limit_line(beginning, sheet, names)}", *early_lines(beginning, sheet, names)]
+
+
+def early_lines(beginning, sheet, names):
+    """Where a watch is too low on arrival: that no wait in the stage makes up for it, and what would."""
+    visit, limit, ways = beginning.visit, limit_of(sheet, beginning), []
+    if beginning.when not in (START, ARRIVAL) or limit.b == 0:
+        return []
+    stage = names.stage[stage_of(sheet, visit)]
+    if beginning.when == START:
+        why = "at the start too, where every watch is 0"
+    elif limit.b in zero_watches(sheet, visit):
+        why = f"on arrival too, where {names.watch[limit.b - 1]} is 0: move '{names.move[sheet.route[visit - 1]]}' resets it"
+    else:
+        why = f"on arrival too, before any wait in stage '{stage}'"
+        ways.append(f"    a longer stay in stage '{names.stage[stage_of(sheet, visit - 1)]}' would let it arrive later")
+    if visit < len(sheet.route):
+        leaving = names.move[sheet.route[visit]]
+        ways.append(f"    a limit of move '{leaving}', which leaves stage '{stage}', would hold after the wait only")
+    return [f"standing limits hold {why}", *ways]
 
 
 def help_lines(refusal, ranges, sheet, names):

@@ -1,8 +1,10 @@
 """When each move of the route can be made, for one setting: the earliest and the latest minute since the start.
 
-The instants of a run are unknowns: the start, each move, and the end. Each limit bounds the difference of two of them,
-that of a stay's end and of the watch's last reset, and shortest paths between all of them give the tightest bounds, over
-runs of the whole route. A bound is (minutes, -1) if strict, else (minutes, 0); None is no bound.
+The instants of a run are unknowns: the start, each move, and the end. A stay goes from one to the next, and a watch's
+value at an instant is the time since its last reset, which may be that instant itself. So each limit bounds the difference
+of two instants: a stage's standing limits hold at both ends of its stay, the resets of the arrival done, and a move's at
+the stay's end, its own resets not done. Shortest paths between all of them give the tightest bounds, over runs of the
+whole route. A bound is (minutes, -1) if strict, else (minutes, 0); None is no bound.
 """
 
 from typing import NamedTuple
@@ -57,20 +59,22 @@ def tightest_bounds(sheet, setting):
     def bound(i, j, weight):
         bounds[i][j] = tighter(bounds[i][j], weight)
 
-    for visit, resets in enumerate(last_resets(sheet)):
-        bound(visit + 1, visit, ZERO)  # time does not run back
-        for limit in (*stage_limits(sheet, visit), *move_limits(sheet, visit)):
+    def hold(limits, instant, resets):
+        for limit in limits:
             weight = value(limit.numbers, setting), -limit.strict
             reset = resets[max(limit.a, limit.b) - 1]
-            if limit.b == 0:
-                bound(reset, visit + 1, weight)
-            else:
-                bound(visit + 1, reset, weight)
+            bound(*((reset, instant) if limit.b == 0 else (instant, reset)), weight)
+
+    for visit, resets in enumerate(last_resets(sheet)):
+        arrival, end = visit, visit + 1
+        bound(end, arrival, ZERO)  # time does not run back
+        hold(stage_limits(sheet, visit), arrival, resets)
+        hold((*stage_limits(sheet, visit), *move_limits(sheet, visit)), end, resets)
     return closed(bounds)
 
 
 def last_resets(sheet):
-    """For each stay, the instant at which each watch was last 0."""
+    """For each stay, the instant at which each watch was last 0; the move that arrives counts."""
     resets = [(0,) * sheet.watches]
     for step, number in enumerate(sheet.route, 1):
         again = sheet.moves[number].resets

@@ -11,11 +11,11 @@ import sys
 import time
 import xml.etree.ElementTree as ElementTree
 
-from records import records
-from stored import EXPECTED, ROOT, SHEETS, WINDOWS_RECORDS, Folder, environment, moyanthu, said, sweeper
+from refused import REFUSED
+from stored import EXPECTED, ROOT, SHEETS, Folder, environment, moyanthu, said, sweeper
 
 COMMAND = [sys.executable, str(ROOT / "tools" / "moyanthu")]
-REFUSED_7 = list(records(WINDOWS_RECORDS, 1))[49]
+REFUSED_7 = REFUSED["at a move"][0]
 SETTING = "green=100,hard=180,pot=30"
 LOST = """allowance p 0..5
 watch w
@@ -24,6 +24,16 @@ stage dry
 move cure: wet -> dry when w >= 9
 move never: dry -> wet
 route cure
+"""
+
+
+GREEN = """watch w
+stage mixed: w <= 1
+stage green: w >= 2
+stage dry
+move coat: mixed -> green
+move go: green -> dry
+route coat, go
 """
 
 
@@ -103,14 +113,47 @@ class Answers(Commands):
             "no setting has a run: the last is lost at the limit w >= 9 of move 'cure', which leaves stage 'wet' after 0 moves"]))
 
     def test_a_refusal_with_its_limit_and_what_helps(self):
-        done = moyanthu("windows", self.file("many.sheet", REFUSED_7))
+        done = moyanthu("windows", self.file("many.txt", REFUSED_7))
         lines = done.stdout.decode("utf-8").splitlines()
         self.assertEqual(done.returncode, 2)
-        self.assertTrue(lines[0].endswith("refused 7 place 2: one limit would list a 33rd piece (after 2 moves of the route)"))
-        self.assertEqual(lines[1:], ["met at the limit w1 >= -32p - 256 of move 'm2', which leaves stage 's2' after 2 moves",
+        self.assertTrue(lines[0].endswith("refused 7 place 3: one limit would list a 33rd piece (after 3 moves of the route)"))
+        self.assertEqual(lines[1:], ["met at the limit v >= -32p - 256 of move 'm3', which leaves stage 's3' after 3 moves",
                                      "what helps", "    narrow p to -20..15 (Windows takes that), and try 16..20 as another sheet",
                                      "    or --by-sweep: one Sweep for each of the 41 settings, without pieces",
                                      "    or a single setting, which is not refused by 7 or 8: sweep --at, or --schedule"])
+
+    def test_a_refusal_at_a_standing_limit(self):
+        for name, words in (("on arrival", "v >= -32p - 256 of stage 's4', on arrival after 4 moves"),
+                            ("at the end of a stay", "w <= 2q + 951 of stage 's3', at the end of the stay after 3 moves")):
+            done = moyanthu("windows", given=REFUSED[name][0].encode("utf-8"))
+            self.assertEqual((done.returncode, done.stdout.decode("utf-8").splitlines()[1]), (2, f"met at the standing limit {words}"))
+            met = json.loads(moyanthu("windows", "--json", given=REFUSED[name][0].encode("utf-8")).stdout)["refused"]["met"]
+            self.assertEqual((met["visit"], met["when"], met["move"]), (*REFUSED[name][2:4], None))
+
+    def test_lost_on_arrival(self):
+        """No wait in the stage makes up for it, and what would is said."""
+        after = "    a limit of move 'go', which leaves stage 'green', would hold after the wait only"
+        for text, when, lines in (
+                (GREEN, "arrival", ["on arrival after 1 move", "standing limits hold on arrival too, before any wait in stage 'green'",
+                                    "    a longer stay in stage 'mixed' would let it arrive later", after]),
+                (GREEN.replace("-> green", "-> green resets w"), "arrival", [
+                    "on arrival after 1 move", "standing limits hold on arrival too, where w is 0: move 'coat' resets it", after]),
+                (GREEN.replace("stage mixed: w <= 1\n", "").replace("move coat: mixed -> green\n", "").replace("coat, ", ""), "start", [
+                    "at the start", "standing limits hold at the start too, where every watch is 0", after]),
+                (GREEN.replace("w >= 2", "w <= -2"), "arrival", ["on arrival after 1 move"])):
+            done = moyanthu("windows", given=text.encode("utf-8"))
+            told = done.stdout.decode("utf-8").splitlines()[1:]
+            limit = "w <= -2" if "w <= -2" in text else "w >= 2"
+            self.assertEqual((done.returncode, told), (1, [
+                f"no setting has a run: the last is lost at the standing limit {limit} of stage 'green', {lines[0]}", *lines[1:]]))
+            lost = json.loads(moyanthu("windows", "--json", given=text.encode("utf-8")).stdout)["lost"]
+            self.assertEqual(lost, {"visit": int(when == "arrival"), "when": when, "stage": "green", "move": None, "limit": limit})
+            for more in (("--at", ""), ("--schedule", "")):
+                self.assertEqual(moyanthu("windows", *more, given=text.encode("utf-8")).stdout.decode("utf-8").splitlines()[2:], [
+                    f"it is lost at the standing limit {limit} of stage 'green', {lines[0]}", *lines[1:]])
+        done = moyanthu("windows", given=GREEN.replace(", go", "").encode("utf-8"))
+        self.assertTrue(done.stdout.decode("utf-8").endswith("would let it arrive later\n"))
+        self.assertEqual(moyanthu("windows", given=GREEN.replace("w <= 1", "w <= 2").encode("utf-8")).returncode, 0)
 
     def test_a_schedule_and_its_picture(self):
         path = self.folder / "s.svg"
@@ -152,6 +195,18 @@ class Answers(Commands):
                 "standard input: warning: move 'never' is not on the route",
                 "standard input: warning: stage 'far' is not reached by the route"])
         self.assertEqual(said(moyanthu("check", SHEETS / "week.txt")), "")
+
+    def test_a_standing_limit_that_fails_at_every_setting(self):
+        """Where its watch is 0: at the start, or since the move resets it; said once, though the route comes there twice."""
+        def warnings(limit, more=""):
+            text = f"allowance p 0..5\nwatch w\nstage a{more}\nstage b: {limit}\nmove m: a -> b resets w\nmove n: b -> a\nroute m, n, m\n"
+            return [line.partition(": warning: ")[2] for line in said(moyanthu("check", given=text.encode("utf-8"))).splitlines()]
+
+        for limit in ("w >= p + 1", "w > p", "w < p - 5", "w <= p - 6"):
+            self.assertEqual(warnings(limit), [f"standing limit {limit} of stage 'b' fails when move 'm' arrives: w is 0"])
+        for limit in ("w >= p", "w > p - 1", "w < p - 4", "w <= p - 5"):
+            self.assertEqual(warnings(limit), [])
+        self.assertEqual(warnings("w <= p", ": w >= 2"), ["standing limit w >= 2 of stage 'a' fails at the start: w is 0"])
 
     def test_help_and_version(self):
         self.assertRegex(moyanthu("--version").stdout, rb"^moyanthu [0-9.]+\n$")
@@ -312,7 +367,7 @@ class InputAndOutput(Commands):
 class Many(Commands):
     def test_a_line_for_each_in_order(self):
         bad, short = self.file("bad.txt", "watch w\n"), self.file("short.sheet", b"\x01")
-        paths = [SHEETS / "week.txt", self.folder / "none", bad, short, self.file("many.sheet", REFUSED_7), SHEETS / "never.txt",
+        paths = [SHEETS / "week.txt", self.folder / "none", bad, short, self.file("many.txt", REFUSED_7), SHEETS / "never.txt",
                  SHEETS / "a.sheet"]
         outputs = []
         for jobs in ("1", "3"):
@@ -326,7 +381,8 @@ class Many(Commands):
         self.assertEqual(*outputs)
         self.assertIn(":2:1: the text ends without a stage", lines[2]["error"])
         self.assertEqual(lines[3]["refused"], {"number": 2, "place": 0, "meaning": "the file has under 22 or over 4,096 bytes"})
-        self.assertEqual(lines[4]["refused"]["met"], {"visit": 2, "stage": "s2", "move": "m2", "limit": "w1 >= -32p - 256"})
+        self.assertEqual(lines[4]["refused"]["met"], {"visit": 3, "when": "move", "stage": "s3", "move": "m3",
+                                                      "limit": "v >= -32p - 256"})
         self.assertEqual(lines[5]["lost"]["limit"], "since-coat > 0")
 
 
@@ -348,9 +404,9 @@ class Sweeps(Commands):
         self.fails(3, "p=11 lies outside", "sweep", SHEETS / "a.txt", "--at", "p=11")
 
     def test_a_sheet_that_windows_refuses(self):
-        done = moyanthu("sweep", self.file("many.sheet", REFUSED_7), "--at", "p=3")
+        done = moyanthu("sweep", self.file("many.txt", REFUSED_7), "--at", "p=3")
         self.assertEqual(done.returncode, 0, said(done))
-        self.assertIn("Windows: refuses the whole sheet (refused 7 place 2)", done.stdout.decode("utf-8"))
+        self.assertIn("Windows: refuses the whole sheet (refused 7 place 3)", done.stdout.decode("utf-8"))
         self.assertEqual(moyanthu("sweep", self.file("short.sheet", b"\x01"), "--at", "p=3").returncode, 2)
 
     def test_by_sweep(self):
@@ -360,6 +416,6 @@ class Sweeps(Commands):
             both = [json.loads(text) for text in (done.stdout, moyanthu("windows", SHEETS / f"{name}.txt", "--json").stdout)]
             self.assertEqual(*([data[key] for key in ("kept", "cut", "status")] for data in both), name)
             self.assertTrue(path.read_bytes().startswith(b"\x89PNG"))
-        done = moyanthu("windows", self.file("many.sheet", REFUSED_7), "--by-sweep")
+        done = moyanthu("windows", self.file("many.txt", REFUSED_7), "--by-sweep")
         self.assertEqual(done.returncode, 0)
         self.assertRegex(done.stdout.decode("utf-8"), re.compile(r"by one Sweep for each setting: \d+ settings with a run, \d+ without"))

@@ -38,6 +38,21 @@ class Readme(unittest.TestCase):
         self.assertGreater(len(tried), 7)
 
 
+class Manual(unittest.TestCase):
+    def test_a_standing_limit_on_arrival(self):
+        """The sheet of docs/TEXT.md has the runs that are said there."""
+        if not lister():
+            self.skipTest("no program that prints listings")
+        text = (DOCS / "TEXT.md").read_text(encoding="utf-8").partition("## When limits hold")[2].split("```\n")[1]
+        found = moyanthu("windows", "--json", given=text.encode("utf-8"))
+        self.assertEqual([piece["where"] for piece in json.loads(found.stdout)["pieces"]], [["p ≥ 2"]])
+        steps = moyanthu("windows", "--json", "--schedule", "p=5", given=text.encode("utf-8"))
+        self.assertEqual(json.loads(steps.stdout)["schedule"][0]["earliest"], {"strict": False, "minutes": 2})
+        moved = text.replace("green: since-mixing >= 2", "green\nstage dry").replace("route coat", "route coat, go")
+        moved += "move go: green -> dry when since-mixing >= 2\n"
+        self.assertEqual(json.loads(moyanthu("windows", "--json", given=moved.encode("utf-8")).stdout)["kept"], 6)
+
+
 class Schema(unittest.TestCase):
     def keys(self, data):
         """All keys of an answer but those that are the sheet's own names."""

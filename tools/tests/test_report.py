@@ -182,6 +182,10 @@ class Refusals(unittest.TestCase):
         self.assertEqual(report.visit_line(0, whole, names), "met in stage 'wet' or at move 'cure', which leaves it")
         self.assertEqual(report.visit_line(1, whole, names), "met in stage 'faired'")
 
+    def test_a_limit_that_is_not_found(self):
+        self.assertEqual(report.lost_lines("it is lost", None, *sheet("a")),
+                         ["it is lost at one of the limits of the route; which one could not be found"])
+
 
 class WrongListings(unittest.TestCase):
     """The program prints none of these; if another one does, it is said where."""

@@ -9,10 +9,11 @@ import report
 import sheet_file
 import svg
 from ask import put_in
-from beginnings import stage_limits
+from beginnings import stage_of
 from records import records
 from schedule import end_matrix, last_resets, schedule
-from sheet_file import MOST_LIMITS, MOST_STAGES, MOST_WATCHES, Limit, Sheet
+from sheet_file import MOST_LIMITS, MOST_MOVES, MOST_STAGES, MOST_WATCHES, Limit, Move, Sheet
+from sheet_text import parse
 from stored import NAMES, WINDOWS_RECORDS, lister, runner, sheet, sweep_function, sweeper
 
 
@@ -52,16 +53,17 @@ class AgainstWindows(unittest.TestCase):
 
 
 def with_limit(whole, step, limit):
-    """The sheet with one watch more, never reset, that is limited at the end of a stay; nothing if there is no room. The
-    stays are unrolled, so that the limit is at that stay alone."""
-    stays = [stage_limits(whole, visit) for visit in range(len(whole.route) + 1)]
-    stays[step] += (limit,)
-    stages = list(dict.fromkeys(stays))
-    if len(stays[step]) > MOST_LIMITS or len(stages) > MOST_STAGES or whole.watches == MOST_WATCHES:
+    """The sheet with one watch more, never reset, that is limited at a step of the route; nothing if there is no room. The
+    step is a move with one limit more, or, for the end, one more move, to a stage without limits."""
+    moves, stages = [whole.moves[number] for number in whole.route], whole.stages
+    if step == len(moves):
+        moves.append(Move(stage_of(whole, step), len(stages), (), ()))
+        stages += ((),)
+    moves[step] = moves[step]._replace(limits=moves[step].limits + (limit,))
+    full = len(moves) > MOST_MOVES or len(stages) > MOST_STAGES or len(moves[step].limits) > MOST_LIMITS
+    if full or whole.watches == MOST_WATCHES:
         return None
-    moves = tuple(whole.moves[number]._replace(start=stages.index(stays[k]), end=stages.index(stays[k + 1]))
-                  for k, number in enumerate(whole.route))
-    return Sheet(whole.ranges, whole.watches + 1, tuple(stages), moves, tuple(range(len(moves))))
+    return Sheet(whole.ranges, whole.watches + 1, stages, tuple(moves), tuple(range(len(moves))))
 
 
 class AgainstSweep(unittest.TestCase):
@@ -102,6 +104,32 @@ class AgainstSweep(unittest.TestCase):
                 return False
             self.assertEqual(self.sweeps(other, setting), run, (whole, setting, k, step, limit))
         return True
+
+
+class OnArrival(unittest.TestCase):
+    """Standing limits hold at both ends of a stay, once the move's resets are done."""
+
+    def spans(self, *lines):
+        """The earliest and the latest minute of each step, without allowances."""
+        steps = schedule(parse("\n".join(("watch v", "watch w", *lines, "")))[0], ())
+        return steps and [tuple(end and end[0] for end in step.when) for step in steps]
+
+    def test_a_lower_limit_is_met_before_the_move(self):
+        green = "stage mixed", "stage green: v >= 2", "move go: mixed -> green", "route go"
+        self.assertEqual(self.spans(*green), [(2, None), (2, None)])
+        self.assertIsNone(self.spans("stage mixed: v <= 1", *green[1:]))
+        self.assertEqual(self.spans("stage mixed: v <= 1", "stage green: v < 4", *green[2:]), [(0, 1), (0, 4)])
+
+    def test_the_resets_of_the_move_come_first(self):
+        reset = "move go: mixed -> green resets v", "route go"
+        self.assertIsNone(self.spans("stage mixed", "stage green: v >= 2", *reset))
+        self.assertIsNone(self.spans("stage mixed", "stage green: v < 0", *reset))
+        self.assertEqual(self.spans("stage mixed", "stage green: w >= 2, v <= 0", *reset), [(2, None), (2, None)])
+
+    def test_the_start(self):
+        self.assertIsNone(self.spans("stage green: v >= 2", "route"))
+        self.assertIsNone(self.spans("stage green: v > 0", "route"))
+        self.assertEqual(self.spans("stage green: v >= 0, w <= 3", "route"), [(0, 3)])
 
 
 class Words(unittest.TestCase):

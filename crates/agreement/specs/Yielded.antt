@@ -47,7 +47,7 @@ use Rattle.sweep.specs.Proofs.{sweep-right}
 use Rattle.sweep.specs.Theorems.{sheetOf, IsRun, IsVoid, entryAt}
 use Rattle.timed.specs.Automaton.{invariants, guardsOf, routeOf}
 use Rattle.timed.specs.Runs.{Run, Tightest}
-use Rattle.timed.specs.Steps.{staySteps, moveSteps, stepsFrom, stepsOf}
+use Rattle.timed.specs.Steps.{arrivalSteps, staySteps, moveSteps, stepsFrom, stepsOf}
 use Rattle.windows_reply.specs.Reply.{Answered, answeredOf, listingReply}
 use Rattle.windows.specs.Pieces.{tableOf}
 use Rattle.windows_reply.specs.Reply as windows
@@ -112,8 +112,8 @@ unfolding startB summed tested putEntry rowFrom rowsFrom places pushed guardTree
     blankTransitions transitionStep transitionsRead transitionsAt routeStep routeRead routeAt blankSheet refusedBy bodiesOf judgedRoute
     judgedBodies readOf signedOf guardExpr guardBound oneZero rightField coefficientField guardAt blankGuard blankGuards guardStep
     guardsAt endsAt linkStep linksOf row blankReply swept outside sweep.sheetReply sweep.readReply sweep.replyOf step walk sweepAlong
-    sweepAt staySteps moveSteps stepsFrom stepsOf invariants guardsOf routeOf listingReply windows.sheetReply windows.readReply
-    windows.replyOf tableOf interval floorZ rowOf boundsOf zoneOf zonesIn
+    sweepAt arrivalSteps staySteps moveSteps stepsFrom stepsOf invariants guardsOf routeOf listingReply windows.sheetReply
+    windows.readReply windows.replyOf tableOf interval floorZ rowOf boundsOf zoneOf zonesIn
 listed-cases = (a, (strict, (pq, (qp, (free, (empty, (back, (down, (up, (touch, (gap, (early, tt))))))))))))
   where
     a : SheetYields rowA

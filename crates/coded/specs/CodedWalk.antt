@@ -26,8 +26,8 @@ use Rattle.sheet.specs.Lookup.{locationC, transitionC}
 use Rattle.timed.specs.Indexed.{location-in, transition-in}
 use Rattle.timed.specs.Lists.{AllOf}
 use Rattle.timed.specs.Right.{StepRight, filled-all, steps-right}
-use Rattle.timed.specs.Steps.{Step, delay, guard, resets, staySteps, moveSteps, stepsFrom, stepsOf, moves}
-use Rattle.timed.specs.Visits.{Visits, steps-visits, steps-moves}
+use Rattle.timed.specs.Steps.{Step, delay, guard, resets, arrivalSteps, staySteps, moveSteps, stepsFrom, stepsOf, moves}
+use Rattle.timed.specs.Visits.{Visits, resetsThen, move-joined, steps-visits, steps-moves}
 use Rattle.coded.specs.Records.{rowOf, boundsOf, zoneOf, zonesIn, coded}
 use Rattle.coded.specs.CodedGuard.{NarrowZone, Sound, guard-sound, guard-coded}
 use Rattle.coded.specs.CodedTests.{NarrowB, NarrowM, zero-narrow}
@@ -35,7 +35,7 @@ use Rattle.split.specs.Guarded.{guardedC}
 use Rattle.zones.specs.Zone.{blankZone}
 use Rattle.delay.specs.Delayed.{delayedB, resetPair, resetB, resetIfB, resetsB, onFirst, delayedZone, resetsZone, delayedAll}
 use Rattle.delay.specs.Delayed.{resetsAll}
-use Rattle.windows_route.specs.Walked.{atVisit, guardsAll, stayAll, moveAll, walkAll, startAll, zonesAll}
+use Rattle.windows_route.specs.Walked.{atVisit, guardsAll, invariantsAll, stayAll, moveAll, walkAll, startAll, startedAll, zonesAll}
 use Rattle.zones.specs.declared.zone.Zone.{Zone}
 use Rattle.zones.specs.declared.zone.Zones.{Zones}
 
@@ -259,18 +259,11 @@ module _ (parameters : ℕ) (b : Ranges) {w : ℕ} (four : w ≤ 4) where
       ∙ ap (λ (j : ℕ). coded j (cuts (s ∷ steps) o)) (made-moves k s steps)
 
 -- ---- the code's walk makes the steps along the route
-module _ (b : Ranges) (w k : ℕ) (rest : List Step) where
-  guards-then : (gs : List Guard) (zs : Zones) → stepsAll b w k rest (guardsAll b w gs zs) ≡ stepsAll b w k (map (guard k) gs ++ rest) zs
-  unfolding guardsAll stepsAll stepAll
-  guards-then [] zs = refl
-  guards-then (g ∷ gs) zs = guards-then gs (guardedC b w g zs)
-
-  ends-then : (bits : ℕ) (gs : List Guard) (zs : Zones)
-      → stepsAll b w (suc k) rest (atVisit (suc k) (resetsAll w bits (guardsAll b w gs zs)))
-      ≡ stepsAll b w k ((map (guard k) gs ++ (resets bits ∷ [])) ++ rest) zs
-  unfolding guardsAll stepsAll stepAll
-  ends-then bits [] zs = refl
-  ends-then bits (g ∷ gs) zs = ends-then bits gs (guardedC b w g zs)
+guards-then : (b : Ranges) (w k : ℕ) (rest : List Step) (gs : List Guard) (zs : Zones)
+    → stepsAll b w k rest (guardsAll b w gs zs) ≡ stepsAll b w k (map (guard k) gs ++ rest) zs
+unfolding guardsAll stepsAll stepAll
+guards-then b w k rest [] zs = refl
+guards-then b w k rest (g ∷ gs) zs = guards-then b w k rest gs (guardedC b w g zs)
 
 guards-last : (b : Ranges) (w k : ℕ) (gs : List Guard) (zs : Zones) → guardsAll b w gs zs ≡ stepsAll b w k (map (guard k) gs) zs
 unfolding guardsAll stepsAll stepAll
@@ -281,8 +274,21 @@ module _ {s : Sheet} (f : WellFormed s) where
   abbrev goes : ℕ → List Step → Zones → Zones
   goes k steps zs = stepsAll (s .ranges) (s .clocks) k steps zs
 
+  abbrev arrives : ℕ → Zones → Zones
+  arrives l zs = invariantsAll (s .ranges) (s .clocks) (locationC s l) zs
+
   abbrev stays : ℕ → Zones → Zones
   stays l zs = stayAll (s .ranges) (s .clocks) (locationC s l) zs
+
+  -- the code's transition, and where it goes
+  abbrev moves-on : ℕ → ℕ → Zones → Zones
+  moves-on k n zs = moveAll (s .ranges) (s .clocks) k (transitionC s n) (locationC s (transitionC s n .to)) zs
+
+  arrival-then : (k l : ℕ) (rest : List Step) → l < s .locations → (zs : Zones)
+      → goes k rest (arrives l zs) ≡ goes k (arrivalSteps s k l ++ rest) zs
+  unfolding arrivalSteps invariants
+  arrival-then k l rest hl zs =
+      rw (location-in s l (omega (arith, f .location .few))) (guards-then (s .ranges) (s .clocks) k rest (invariants s l) zs)
 
   last-is : (k l : ℕ) → l < s .locations → (zs : Zones) → stays l zs ≡ goes k (staySteps s k l) zs
   unfolding stayAll staySteps stepsAll stepAll invariants
@@ -292,17 +298,21 @@ module _ {s : Sheet} (f : WellFormed s) where
 
   stay-then : (k l : ℕ) (rest : List Step) → l < s .locations → (zs : Zones)
       → goes k rest (stays l zs) ≡ goes k (staySteps s k l ++ rest) zs
-  unfolding stayAll staySteps stepsAll stepAll invariants
-  stay-then k l rest hl zs =
-      rw (location-in s l (omega (arith, f .location .few)))
-      (guards-then (s .ranges) (s .clocks) k rest (invariants s l) (delayedAll (s .clocks) zs))
+  unfolding stayAll staySteps arrivalSteps stepsAll stepAll
+  stay-then k l rest hl zs = arrival-then k l rest hl (delayedAll (s .clocks) zs)
 
   move-then : (k n : ℕ) (rest : List Step) → n < s .transitions → (zs : Zones)
-      → goes (suc k) rest (moveAll (s .ranges) (s .clocks) k (transitionC s n) zs) ≡ goes k (moveSteps s k n ++ rest) zs
-  unfolding moveAll moveSteps guardsOf
+      → goes (suc k) rest (moves-on k n zs) ≡ goes k (moveSteps s k n ++ rest) zs
+  unfolding moveAll stepsAll stepAll guardsOf
   move-then k n rest hn zs =
+      let w = s .clocks in
+      let to = transitionAt s n .to in
+      let bits = transitionAt s n .resets in
+      let limited = guardsAll (s .ranges) w (guardsOf s n) zs in
       rw (transition-in s n (omega (arith, f .transition .few)))
-      (ends-then (s .ranges) (s .clocks) k rest (transitionAt s n .resets) (guardsOf s n) zs)
+      (arrival-then (suc k) to rest (f .transition .each n hn .to) (atVisit (suc k) (resetsAll w bits limited))
+      ∙ guards-then (s .ranges) w k (resetsThen s k n rest) (guardsOf s n) zs
+      ∙ ap (λ (steps : List Step). goes k steps zs) (sym (move-joined s k n rest)))
 
   walk-is : (ns : List ℕ) → AllOf (λ n. n < s .transitions) ns → (k l : ℕ) → l < s .locations → (zs : Zones)
       → walkAll s k l ns zs ≡ goes k (stepsFrom s k l ns) zs
@@ -311,11 +321,18 @@ module _ {s : Sheet} (f : WellFormed s) where
   walk-is (n ∷ ns) (hn, r) k l hl zs =
       let to = transitionAt s n .to in
       let rest = stepsFrom s (suc k) to ns in
-      let gone = moveAll (s .ranges) (s .clocks) k (transitionC s n) (stays l zs) in
+      let gone = moves-on k n (stays l zs) in
       ap (λ (j : ℕ). walkAll s (suc k) j ns gone) (ap (λ (t : Transition). t .to) (transition-in s n (omega (arith, f .transition .few))))
       ∙ walk-is ns r (suc k) to (f .transition .each n hn .to) gone
       ∙ move-then k n rest hn (stays l zs)
       ∙ stay-then k l (moveSteps s k n ++ rest) hl zs
+
+  route-is : zonesAll s ≡ goes 0 (stepsOf s (routeOf s)) startAll
+  unfolding zonesAll startedAll stepsOf routeOf
+  route-is =
+      let some = f .some-location in
+      walk-is (routeOf s) (filled-all (f .route)) 0 0 (omega arith) (startedAll s)
+      ∙ arrival-then 0 0 (stepsFrom s 0 0 (routeOf s)) (omega arith) startAll
 
 -- ---- the whole route
 start-coded : startAll ≡ coded 0 (listed (startZone ∷ []))
@@ -335,10 +352,10 @@ route-length {s} f =
 
 -- what the code lists is what the cutting lists, or both are refused alike
 pub zones-coded : (s : Sheet) → WellFormed s → zonesAll s ≡ coded (s .moves) (zonesOf s)
-unfolding zonesAll zonesOf zonesAlong stepsOf routeOf
+unfolding zonesOf zonesAlong
 zones-coded s f =
     let steps = stepsOf s (routeOf s) in
-    walk-is f (routeOf s) (filled-all (f .route)) 0 0 (omega (arith, f .some-location)) startAll
+    route-is f
     ∙ ap (stepsAll (s .ranges) (s .clocks) 0 steps) start-coded
     ∙ all-coded (s .parameters) (s .ranges) (f .clocks) steps 0 (steps-visits s (routeOf s)) (steps-right f (routeOf s))
     (listed (startZone ∷ []))

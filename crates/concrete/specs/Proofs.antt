@@ -15,12 +15,12 @@ use Rattle.sheet.specs.declared.Sheet.{Sheet}
 use Rattle.sheet.specs.WellFormed.{WellFormed}
 use Rattle.timed.specs.Automaton.{routeOf}
 use Rattle.timed.specs.Right.{steps-right}
-use Rattle.timed.specs.Runs.{Clocks, begin, Leads, RunAlong, difference, TightestAlong}
+use Rattle.timed.specs.Runs.{Clocks, begin, RunAlong, difference, TightestAlong}
 use Rattle.timed.specs.Steps.{stepsOf}
 use Rattle.concrete.specs.Walk.{sweepAlong, sweepAt}
 use Rattle.concrete.specs.Claims.{AlongRight, VoidIffNoRun, EntriesTightest}
 use Rattle.concrete.specs.Moves.{Relation, Same, Moves}
-use Rattle.concrete.specs.Route.{leads-along, along-leads}
+use Rattle.concrete.specs.Route.{starts-along, along-starts}
 use Rattle.concrete.specs.Steps.{Along, along-stable, walk-moves}
 
 -- ---- the start
@@ -69,12 +69,12 @@ module _ {s : Sheet} (f : WellFormed s) (route : List ℕ) (v : List ℤ) where
 
   -- a run makes these steps, and they lead where a run goes
   run-steps : (r : RunAlong s route v) → Steps (r .parts) begin (r .end)
-  unfolding stepsOf
-  run-steps r = leads-along s v route 0 0 (r .parts) begin (r .end) (r .leads)
+  run-steps r = starts-along s v route (r .parts) begin (r .end) (r .starts) (r .leads)
 
-  steps-lead : (D : ℕ) (y : Clocks) → Steps D begin y → Leads s v D 0 route begin y
-  unfolding stepsOf
-  steps-lead D y l = along-leads s v route 0 0 D begin y l
+  abbrev steps-run : (D : ℕ) (y : Clocks) → 1 ≤ D → Steps D begin y → RunAlong s route v
+  steps-run D y h l =
+      let (a, r) = along-starts s v route D begin y l in
+      record { parts = D; some-part = h; starts = a; end = y; leads = r }
 
   void-no-run : Runs void → RunAlong s route v → ⊥
   void-no-run a r = a (r .parts) begin (r .end) (begin-state (r .some-part)) (begin-met (s .clocks) (r .parts)) (run-steps r)
@@ -91,7 +91,7 @@ module _ {s : Sheet} (f : WellFormed s) (route : List ℕ) (v : List ℤ) where
         record {
           factor = c .factor;
           some = c .some;
-          run = record { parts = c .factor * D; some-part = c .state .parts; end = z; leads = steps-lead (c .factor * D) z l };
+          run = steps-run (c .factor * D) z (c .state .parts) l;
           parts = refl;
           ends = λ i hi. sym (e i hi) ∙ c .same i hi;
         }

@@ -16,7 +16,7 @@ use Rattle.guards.specs.Right.{GuardRight}
 use Rattle.sheet.specs.WellFormed.{WellFormed}
 use Rattle.timed.specs.Lists.{AllOf}
 use Rattle.timed.specs.Automaton.{invariants, guardsOf, transitionAt, routeOf}
-use Rattle.timed.specs.Steps.{Step, delay, guard, resets, staySteps, moveSteps, stepsFrom, stepsOf, delays}
+use Rattle.timed.specs.Steps.{Step, delay, guard, resets, arrivalSteps, staySteps, moveSteps, stepsFrom, stepsOf, delays}
 use Rattle.timed.specs.Visits.{steps-delays}
 
 -- the guards of the list are right for the sheet
@@ -79,6 +79,10 @@ module _ {s : Sheet} (f : WellFormed s) where
   guards-all visit [] r = tt
   guards-all visit (g ∷ gs) r = (r .0, guards-all visit gs (r .1))
 
+  pub arrival-right : (visit l : ℕ) → StepsAll s (arrivalSteps s visit l)
+  unfolding arrivalSteps
+  arrival-right visit l = guards-all visit (invariants s l) (invariants-right l)
+
   pub stay-right : (visit l : ℕ) → StepsAll s (staySteps s visit l)
   unfolding staySteps
   stay-right visit l = (tt, guards-all visit (invariants s l) (invariants-right l))
@@ -86,8 +90,10 @@ module _ {s : Sheet} (f : WellFormed s) where
   pub move-right : (visit n : ℕ) → StepsAll s (moveSteps s visit n)
   unfolding moveSteps
   move-right visit n =
-      all-append (StepRight (s .parameters) (s .clocks)) (map (guard visit) (guardsOf s n)) (resets (transitionAt s n .resets) ∷ [])
-      (guards-all visit (guardsOf s n) (guards-right n)) (tt, tt)
+      let to = transitionAt s n .to in
+      all-append (StepRight (s .parameters) (s .clocks)) (map (guard visit) (guardsOf s n))
+      (resets (transitionAt s n .resets) ∷ arrivalSteps s (suc visit) to)
+      (guards-all visit (guardsOf s n) (guards-right n)) (tt, arrival-right (suc visit) to)
 
   from-right : (ns : List ℕ) (visit l : ℕ) → StepsAll s (stepsFrom s visit l ns)
   unfolding stepsFrom
@@ -100,7 +106,9 @@ module _ {s : Sheet} (f : WellFormed s) where
 
   pub steps-right : (route : List ℕ) → StepsAll s (stepsOf s route)
   unfolding stepsOf
-  steps-right route = from-right route 0 0
+  steps-right route =
+      all-append (StepRight (s .parameters) (s .clocks)) (arrivalSteps s 0 0) (stepsFrom s 0 0 route) (arrival-right 0 0)
+      (from-right route 0 0)
 
   -- ---- the sheet's own route
   pub route-short : length (routeOf s) ≤ 32

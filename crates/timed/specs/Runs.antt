@@ -1,5 +1,5 @@
--- Runs (paper 01, "Runs"; document 000, definitions 2.1 and 2.2, over whole numbers), from the sheet as it was read, for any number of
--- clocks. It uses nothing of Sweep or Windows, nor of the steps that they make (Steps).
+-- Runs (paper 01, "Runs", with paper 02, request (b); document 000, definitions 2.1 and 2.2, over whole numbers), from the sheet as it was
+-- read, for any number of clocks. It uses nothing of Sweep or Windows, nor of the steps that they make (Steps).
 use mathlib.Core.Path.{_≡_}
 use mathlib.Core.List.{List, [], _∷_}
 use mathlib.Core.Bool.{Bool, true, false, cond}
@@ -48,18 +48,22 @@ AllHold D v x [] = Unit {0}
 AllHold D v x (g ∷ gs) = Holds D v x g × AllHold D v x gs
 
 -- Under the valuation v, with D parts to a minute, from location l with clocks x, along the rest of a route, to the end state y: a wait,
--- at whose end the invariants hold; then the next transition's guards hold, its reset clocks become 0, and so on from where it goes.
--- After the last transition there is one more wait, ended by invariants; that is the end state.
+-- at whose end the invariants hold; then the next transition's guards hold, its reset clocks become 0, on arrival the invariants of the
+-- location that it goes to hold, and so on from there. After the last transition there is one more wait, ended by invariants; that is the
+-- end state.
 unfoldable pub Leads : Sheet → List ℤ → ℕ → ℕ → List ℕ → Clocks → Clocks → Type 0
 Leads s v D l [] x y = (d : ℕ) × AllHold D v (waited d x) (invariants s l) × ((i : ℕ) → y i ≡ waited d x i)
 Leads s v D l (n ∷ ns) x y =
     (d : ℕ) × AllHold D v (waited d x) (invariants s l) × AllHold D v (waited d x) (guardsOf s n)
+    × AllHold D v (afterResets (transitionAt s n .resets) (waited d x)) (invariants s (transitionAt s n .to))
     × Leads s v D (transitionAt s n .to) ns (afterResets (transitionAt s n .resets) (waited d x)) y
 
--- a run along a route under the valuation v: it picks D ≥ 1, and follows the route from location 0 with all clocks 0 to its end state
+-- a run along a route under the valuation v: it picks D ≥ 1, starts in location 0 with all clocks 0, where the invariants hold, and follows
+-- the route to its end state
 pub record RunAlong (s : Sheet) (route : List ℕ) (v : List ℤ) : Type 0 where
   pub parts : ℕ
   pub some-part : 1 ≤ parts
+  pub starts : AllHold parts v begin (invariants s 0)
   pub end : Clocks
   pub leads : Leads s v parts 0 route begin end
 

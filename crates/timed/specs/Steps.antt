@@ -13,22 +13,28 @@ pub data Step : Type 0 where
   guard : ℕ → Guard → Step
   resets : ℕ → Step
 
--- a stay: a delay, then the location's invariants
+-- the invariants (paper: standing limits) of a location, at the start or on arrival
+unfoldable pub arrivalSteps : Sheet → ℕ → ℕ → List Step
+arrivalSteps s visit l = map (guard visit) (invariants s l)
+
+-- a stay: a delay, then the location's invariants again
 unfoldable pub staySteps : Sheet → ℕ → ℕ → List Step
 staySteps s visit l = delay ∷ map (guard visit) (invariants s l)
 
--- a transition: its guards, which belong to the visit before it, then its resets
+-- a transition: its guards, which belong to the visit before it; its resets, with which the move is made; and the arrival, which belongs
+-- to the visit after it
 unfoldable pub moveSteps : Sheet → ℕ → ℕ → List Step
-moveSteps s visit n = map (guard visit) (guardsOf s n) ++ (resets (transitionAt s n .resets) ∷ [])
+moveSteps s visit n =
+    map (guard visit) (guardsOf s n) ++ (resets (transitionAt s n .resets) ∷ arrivalSteps s (suc visit) (transitionAt s n .to))
 
 -- from location l along the rest of a route: a stay and a transition each time, and one more stay
 unfoldable pub stepsFrom : Sheet → ℕ → ℕ → List ℕ → List Step
 stepsFrom s visit l [] = staySteps s visit l
 stepsFrom s visit l (n ∷ ns) = staySteps s visit l ++ (moveSteps s visit n ++ stepsFrom s (suc visit) (transitionAt s n .to) ns)
 
--- a whole route, from location 0
+-- a whole route, from the start in location 0
 unfoldable pub stepsOf : Sheet → List ℕ → List Step
-stepsOf s route = stepsFrom s 0 0 route
+stepsOf s route = arrivalSteps s 0 0 ++ stepsFrom s 0 0 route
 
 -- how many delays there are among the steps
 unfoldable pub delays : List Step → ℕ
@@ -37,7 +43,7 @@ delays (delay ∷ steps) = suc (delays steps)
 delays (guard visit g ∷ steps) = delays steps
 delays (resets bits ∷ steps) = delays steps
 
--- how many transitions: each ends in one step of resets
+-- how many transitions: each has one step of resets
 unfoldable pub moves : List Step → ℕ
 moves [] = 0
 moves (delay ∷ steps) = moves steps

@@ -40,17 +40,17 @@ module _ (clocks : ℕ) (v : List ℤ) (xs : List Guard) (k : ℕ) where
 module _ (s : Sheet) (v : List ℤ) where
   walk-cons : (ns : List ℕ) (n : ℕ) (rest : List ℕ) (l : ℕ) (m : Table) → ns ≡ n ∷ rest
       → walkTable s v l ns m ≡ walkTable s v (transitionC s n .to) rest
-      (moveTable (stayTable m (s .clocks) v (locationC s l)) (s .clocks) v (transitionC s n))
+      (moveTable (stayTable m (s .clocks) v (locationC s l)) (s .clocks) v (transitionC s n) (locationC s (transitionC s n .to)))
   unfolding walkTable
   walk-cons ns n rest l m h = rw h refl
 
-  pub walk-turn : (k l : ℕ) (m stayed next w : Table) (here : Location) (t : Transition) → k < length (take (s .moves) (s .route))
+  pub walk-turn : (k l : ℕ) (m stayed next w : Table) (here there : Location) (t : Transition) → k < length (take (s .moves) (s .route))
       → walkTable s v l (drop k (take (s .moves) (s .route))) m ≡ w → t ≡ transitionC s (getD (s .route) k 0) → here ≡ locationC s l
-      → stayed ≡ stayTable m (s .clocks) v here → next ≡ moveTable stayed (s .clocks) v t
+      → there ≡ locationC s (t .to) → stayed ≡ stayTable m (s .clocks) v here → next ≡ moveTable stayed (s .clocks) v t there
       → walkTable s v (t .to) (drop (k + 1) (take (s .moves) (s .route))) next ≡ w
-  walk-turn k l m stayed next w here t h e et eh es en =
+  walk-turn k l m stayed next w here there t h e et eh eg es en =
       let b : k < s .moves = omega (arith, length-take (s .moves) (s .route)) in
-      rw (add-one k, en, es, eh, et, ← getD-take (s .moves) (s .route) k 0 b)
+      rw (add-one k, en, es, eg, eh, et, ← getD-take (s .moves) (s .route) k 0 b)
       (sym (walk-cons (drop k (take (s .moves) (s .route))) (getD (take (s .moves) (s .route)) k 0)
       (drop (suc k) (take (s .moves) (s .route))) l m
       (drop-cons (take (s .moves) (s .route)) k 0 h)) ∙ e)

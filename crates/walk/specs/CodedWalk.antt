@@ -19,9 +19,10 @@ use Rattle.sheet.specs.Lookup.{locationC, transitionC}
 use Rattle.timed.specs.Indexed.{location-in, transition-in}
 use Rattle.timed.specs.Lists.{AllOf}
 use Rattle.timed.specs.Right.{StepRight, filled-all, steps-right, route-delays}
-use Rattle.timed.specs.Steps.{Step, delay, guard, resets, staySteps, moveSteps, stepsFrom, stepsOf, delays}
+use Rattle.timed.specs.Steps.{Step, delay, guard, resets, arrivalSteps, staySteps, moveSteps, stepsFrom, stepsOf, delays}
 use Rattle.weight_matrix.specs.Tables.{Table, startTable, voidTable, delayedTable, resetsTable}
-use Rattle.walk.specs.Walked.{guardTable, guardsTable, stayTable, moveTable, walkTable, sweepTable}
+use Rattle.walk.specs.Walked.{guardTable, guardsTable, invariantsTable, stayTable, moveTable, walkTable, startedTable}
+use Rattle.walk.specs.Walked.{sweepTable}
 use Rattle.concrete.specs.Walk.{andThen, step, walk, sweepAlong, sweepAt}
 use Rattle.concrete.specs.Sizes.{Thousands, Visited, guard-size, start-visited, after, after-delays, step-visited, visited-within}
 use Rattle.weight_matrix.specs.Records.{row}
@@ -88,37 +89,58 @@ guards-are w v visit [] m = refl
 guards-are w v visit (g ∷ gs) m = guards-are w v visit gs (guardTable m w v g)
 
 module _ {s : Sheet} (f : WellFormed s) (v : List ℤ) where
-  stay-is : (visit l : ℕ) → l < s .locations → (m : Table)
-      → stayTable m (s .clocks) v (locationC s l) ≡ stepsTable (s .clocks) v (staySteps s visit l) m
-  unfolding stayTable staySteps stepsTable stepTable invariants
-  stay-is visit l hl m =
-      rw (location-in s l (omega (arith, f .location .few))) (guards-are (s .clocks) v visit (invariants s l) (delayedTable m (s .clocks)))
+  abbrev goes : List Step → Table → Table
+  goes steps m = stepsTable (s .clocks) v steps m
 
-  move-is : (visit n : ℕ) → n < s .transitions → (m : Table)
-      → moveTable m (s .clocks) v (transitionC s n) ≡ stepsTable (s .clocks) v (moveSteps s visit n) m
+  arrival-is : (visit l : ℕ) → l < s .locations → (m : Table)
+      → invariantsTable m (s .clocks) v (locationC s l) ≡ goes (arrivalSteps s visit l) m
+  unfolding arrivalSteps invariants
+  arrival-is visit l hl m = rw (location-in s l (omega (arith, f .location .few))) (guards-are (s .clocks) v visit (invariants s l) m)
+
+  stay-is : (visit l : ℕ) → l < s .locations → (m : Table) → stayTable m (s .clocks) v (locationC s l) ≡ goes (staySteps s visit l) m
+  unfolding stayTable staySteps arrivalSteps stepsTable stepTable
+  stay-is visit l hl m = arrival-is visit l hl (delayedTable m (s .clocks))
+
+  -- the code's transition, and where it goes
+  abbrev moves : ℕ → Table → Table
+  moves n m = moveTable m (s .clocks) v (transitionC s n) (locationC s (transitionC s n .to))
+
+  move-is : (visit n : ℕ) → n < s .transitions → (m : Table) → moves n m ≡ goes (moveSteps s visit n) m
   unfolding moveTable moveSteps stepsTable stepTable guardsOf
   move-is visit n hn m =
+      let w = s .clocks in
+      let to = transitionAt s n .to in
       let bits = transitionAt s n .resets in
       rw (transition-in s n (omega (arith, f .transition .few)))
-      (ap (λ (t : Table). resetsTable t (s .clocks) bits) (guards-are (s .clocks) v visit (guardsOf s n) m)
-      ∙ sym (steps-append (s .clocks) v (map (guard visit) (guardsOf s n)) (resets bits ∷ []) m))
+      (ap (λ (t : Table). invariantsTable (resetsTable t w bits) w v (locationC s to)) (guards-are w v visit (guardsOf s n) m)
+      ∙ arrival-is (suc visit) to (f .transition .each n hn .to) (resetsTable (goes (map (guard visit) (guardsOf s n)) m) w bits)
+      ∙ sym (steps-append w v (map (guard visit) (guardsOf s n)) (resets bits ∷ arrivalSteps s (suc visit) to) m))
 
   walk-is : (ns : List ℕ) → AllOf (λ n. n < s .transitions) ns → (visit l : ℕ) → l < s .locations → (m : Table)
-      → walkTable s v l ns m ≡ stepsTable (s .clocks) v (stepsFrom s visit l ns) m
+      → walkTable s v l ns m ≡ goes (stepsFrom s visit l ns) m
   unfolding walkTable stepsFrom
   walk-is [] r visit l hl m = stay-is visit l hl m
   walk-is (n ∷ ns) (hn, r) visit l hl m =
       let w = s .clocks in
       let to = transitionAt s n .to in
       let rest = stepsFrom s (suc visit) to ns in
-      ap (λ (k : ℕ). walkTable s v k ns (moveTable (stayTable m w v (locationC s l)) w v (transitionC s n)))
+      let stayed = goes (staySteps s visit l) m in
+      ap (λ (k : ℕ). walkTable s v k ns (moves n (stayTable m w v (locationC s l))))
       (ap (λ (t : Transition). t .to) (transition-in s n (omega (arith, f .transition .few))))
-      ∙ ap (λ (t : Table). walkTable s v to ns (moveTable t w v (transitionC s n))) (stay-is visit l hl m)
-      ∙ ap (walkTable s v to ns) (move-is visit n hn (stepsTable w v (staySteps s visit l) m))
-      ∙ walk-is ns r (suc visit) to (f .transition .each n hn .to)
-      (stepsTable w v (moveSteps s visit n) (stepsTable w v (staySteps s visit l) m))
-      ∙ sym (steps-append w v (moveSteps s visit n) rest (stepsTable w v (staySteps s visit l) m))
+      ∙ ap (λ (t : Table). walkTable s v to ns (moves n t)) (stay-is visit l hl m)
+      ∙ ap (walkTable s v to ns) (move-is visit n hn stayed)
+      ∙ walk-is ns r (suc visit) to (f .transition .each n hn .to) (goes (moveSteps s visit n) stayed)
+      ∙ sym (steps-append w v (moveSteps s visit n) rest stayed)
       ∙ sym (steps-append w v (staySteps s visit l) (moveSteps s visit n ++ rest) m)
+
+  -- the whole route
+  route-is : sweepTable s v ≡ goes (stepsOf s (routeOf s)) startTable
+  unfolding sweepTable startedTable stepsOf routeOf
+  route-is =
+      let some = f .some-location in
+      walk-is (routeOf s) (filled-all (f .route)) 0 0 (omega arith) (startedTable s v)
+      ∙ ap (goes (stepsFrom s 0 0 (routeOf s))) (arrival-is 0 0 (omega arith) startTable)
+      ∙ sym (steps-append (s .clocks) v (arrivalSteps s 0 0) (stepsFrom s 0 0 (routeOf s)) startTable)
 
 start-table : table start ≡ startTable
 unfolding table row start
@@ -126,9 +148,9 @@ start-table = refl
 
 -- the code's table of the whole route is that of Sweep's outcome
 pub sweep-coded : (s : Sheet) → WellFormed s → (v : List ℤ) → Thousands v → sweepTable s v ≡ coded (sweepAt s v)
-unfolding sweepTable sweepAt sweepAlong stepsOf routeOf
+unfolding sweepAt sweepAlong
 sweep-coded s f v h =
-    walk-is f v (routeOf s) (filled-all (f .route)) 0 0 (omega (arith, f .some-location)) startTable
+    route-is f v
     ∙ ap (stepsTable (s .clocks) v (stepsOf s (routeOf s))) (sym start-table)
     ∙ steps-coded (s .parameters) (f .clocks) v h (stepsOf s (routeOf s)) (steps-right f (routeOf s)) 0
     (omega (arith, route-delays f)) start (start-visited (s .clocks))

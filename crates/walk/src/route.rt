@@ -9,8 +9,7 @@ ghost use mathlib.Core.Path.{_≡_};
 ghost use Prim.Native.Nat.{min};
 ghost use lib.ListN.{take};
 ghost use Rattle.expr.specs.Three.{point};
-ghost use Rattle.weight_matrix.specs.Tables.{startTable};
-ghost use Rattle.walk.specs.Walked.{guardTable, guardsTable, stayTable, moveTable, sweepTable};
+ghost use Rattle.walk.specs.Walked.{guardTable, guardsTable, stayTable, moveTable, startedTable, sweepTable};
 
 // The matrix after a guard (paper: limit) with v put in.
 fn guard(m: [[Weight; 5]; 5], clocks: usize, v: Valuation, g: Guard) -> [[Weight; 5]; 5]
@@ -48,38 +47,49 @@ fn guards_of(
 fn stay(m: [[Weight; 5]; 5], clocks: usize, v: Valuation, here: Location) -> [[Weight; 5]; 5]
     ensures { λ r. ⌜ r ≡ stayTable m clocks (point v) here ⌝ }
 {
-    let guards = here.guards;
+    let invariants = here.guards;
     guards_of(
         weight_delay::delayed(m, clocks),
         clocks,
         v,
         here.count,
-        guards,
+        invariants,
     )
 }
 
-// The matrix after a transition (paper: move): its guards, then its resets.
-fn moved(m: [[Weight; 5]; 5], clocks: usize, v: Valuation, t: Transition) -> [[Weight; 5]; 5]
-    ensures { λ r. ⌜ r ≡ moveTable m clocks (point v) t ⌝ }
+// The matrix after a transition (paper: move): its guards, its resets, and on arrival the invariants of the location that it goes to.
+fn moved(
+    m: [[Weight; 5]; 5],
+    clocks: usize,
+    v: Valuation,
+    t: Transition,
+    there: Location,
+) -> [[Weight; 5]; 5]
+    ensures { λ r. ⌜ r ≡ moveTable m clocks (point v) t there ⌝ }
 {
     let guards = t.guards;
     let limited = guards_of(m, clocks, v, t.count, guards);
-    weight_delay::resets(limited, clocks, t.resets)
+    let reset = weight_delay::resets(limited, clocks, t.resets);
+    let invariants = there.guards;
+    guards_of(reset, clocks, v, there.count, invariants)
 }
 
-// All entries zero, not strict.
-fn start() -> [[Weight; 5]; 5]
-    ensures { λ r. ⌜ r ≡ startTable ⌝ }
+// The matrix at the start: all entries zero, not strict, after the invariants of location 0.
+fn start(s: Sheet, v: Valuation) -> [[Weight; 5]; 5]
+    ensures { λ r. ⌜ r ≡ startedTable s (point v) ⌝ }
 {
-    [[Weight::ZERO; 5]; 5]
+    let zeros = [[Weight::ZERO; 5]; 5];
+    let here = sheet::location_at(s, 0);
+    let invariants = here.guards;
+    guards_of(zeros, s.clocks, v, here.count, invariants)
 }
 
-// What is left of all zero after the whole route.
+// The matrix after the whole route.
 pub fn walk(s: Sheet, v: Valuation) -> [[Weight; 5]; 5]
     ensures { λ r. ⌜ r ≡ sweepTable s (point v) ⌝ }
 {
     let n = numbers::at_most(s.moves, 32);
-    let mut m = start();
+    let mut m = start(s, v);
     let mut l = 0;
     let mut k = 0;
     while k < n {
@@ -89,6 +99,7 @@ pub fn walk(s: Sheet, v: Valuation) -> [[Weight; 5]; 5]
             s.clocks,
             v,
             t,
+            sheet::location_at(s, t.to),
         );
         m = next;
         l = t.to;

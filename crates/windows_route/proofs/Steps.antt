@@ -53,17 +53,20 @@ module _ (s : Sheet) where
   walk-cons : (ns : List ℕ) (n : ℕ) (rest : List ℕ) (visit l : ℕ) (zs : Zones) → ns ≡ n ∷ rest
       → walkAll s visit l ns zs
       ≡ walkAll s (suc visit) (transitionC s n .to) rest
-      (moveAll (s .ranges) (s .clocks) visit (transitionC s n) (stayAll (s .ranges) (s .clocks) (locationC s l) zs))
+      (moveAll (s .ranges) (s .clocks) visit (transitionC s n) (locationC s (transitionC s n .to))
+      (stayAll (s .ranges) (s .clocks) (locationC s l) zs))
   unfolding walkAll
   walk-cons ns n rest visit l zs h = rw h refl
 
-  pub walk-turn : (k l : ℕ) (zs stayed next whole : Zones) (here : Location) (t : Transition) → k < length (take (s .moves) (s .route))
+  pub walk-turn : (k l : ℕ) (zs stayed next whole : Zones) (here there : Location) (t : Transition)
+      → k < length (take (s .moves) (s .route))
       → walkAll s k l (drop k (take (s .moves) (s .route))) zs ≡ whole → t ≡ transitionC s (getD (s .route) k 0) → here ≡ locationC s l
-      → stayed ≡ stayAll (s .ranges) (s .clocks) here zs → next ≡ moveAll (s .ranges) (s .clocks) k t stayed
+      → there ≡ locationC s (t .to) → stayed ≡ stayAll (s .ranges) (s .clocks) here zs
+      → next ≡ moveAll (s .ranges) (s .clocks) k t there stayed
       → walkAll s (k + 1) (t .to) (drop (k + 1) (take (s .moves) (s .route))) next ≡ whole
-  walk-turn k l zs stayed next whole here t h e et eh es en =
+  walk-turn k l zs stayed next whole here there t h e et eh eg es en =
       let few : k < s .moves = omega (arith, length-take (s .moves) (s .route)) in
-      rw (add-one k, en, es, eh, et, ← getD-take (s .moves) (s .route) k 0 few)
+      rw (add-one k, en, es, eg, eh, et, ← getD-take (s .moves) (s .route) k 0 few)
       (sym
       (walk-cons (drop k (take (s .moves) (s .route))) (getD (take (s .moves) (s .route)) k 0)
       (drop (suc k) (take (s .moves) (s .route))) k l zs

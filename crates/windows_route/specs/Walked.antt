@@ -25,20 +25,27 @@ unfoldable pub guardsAll : Ranges → ℕ → List Guard → Zones → Zones
 guardsAll b w [] zs = zs
 guardsAll b w (g ∷ gs) zs = guardsAll b w gs (guardedC b w g zs)
 
+-- a location's invariants
+abbrev pub invariantsAll : Ranges → ℕ → Location → Zones → Zones
+invariantsAll b w here zs = guardsAll b w (take (here .count) (here .guards)) zs
+
 -- a stay: a wait, then the location's invariants
 unfoldable pub stayAll : Ranges → ℕ → Location → Zones → Zones
-stayAll b w here zs = guardsAll b w (take (here .count) (here .guards)) (delayedAll w zs)
+stayAll b w here zs = invariantsAll b w here (delayedAll w zs)
 
--- a transition: its guards, which belong to the visit before it, then its resets
-unfoldable pub moveAll : Ranges → ℕ → ℕ → Transition → Zones → Zones
-moveAll b w visit t zs = atVisit (suc visit) (resetsAll w (t .resets) (guardsAll b w (take (t .count) (t .guards)) zs))
+-- a transition: its guards, which belong to the visit before it; its resets, with which the move is made; and the invariants of the
+-- location that it goes to
+unfoldable pub moveAll : Ranges → ℕ → ℕ → Transition → Location → Zones → Zones
+moveAll b w visit t there zs =
+    invariantsAll b w there (atVisit (suc visit) (resetsAll w (t .resets) (guardsAll b w (take (t .count) (t .guards)) zs)))
 
 -- from location l along the rest of a route
 unfoldable pub walkAll : Sheet → ℕ → ℕ → List ℕ → Zones → Zones
 walkAll s visit l [] zs = stayAll (s .ranges) (s .clocks) (locationC s l) zs
 walkAll s visit l (n ∷ ns) zs =
     walkAll s (suc visit) (transitionC s n .to) ns
-    (moveAll (s .ranges) (s .clocks) visit (transitionC s n) (stayAll (s .ranges) (s .clocks) (locationC s l) zs))
+    (moveAll (s .ranges) (s .clocks) visit (transitionC s n) (locationC s (transitionC s n .to))
+    (stayAll (s .ranges) (s .clocks) (locationC s l) zs))
 
 -- one zone without inequalities, all entries zero, not strict
 unfoldable pub startAll : Zones
@@ -51,6 +58,10 @@ startAll =
           (record { count = 0; ineqs = replicate 24 zeroExpr; bounds = replicate 25 zeroBound });
     }
 
+-- the start: that zone after the invariants of location 0
+unfoldable pub startedAll : Sheet → Zones
+startedAll s = invariantsAll (s .ranges) (s .clocks) (locationC s 0) startAll
+
 -- the whole route
 unfoldable pub zonesAll : Sheet → Zones
-zonesAll s = walkAll s 0 0 (take (s .moves) (s .route)) startAll
+zonesAll s = walkAll s 0 0 (take (s .moves) (s .route)) (startedAll s)

@@ -11,7 +11,7 @@ use zones::Zones;
 ghost use mathlib.Core.Path.{_≡_};
 ghost use Prim.Native.Nat.{_<_};
 ghost use lib.ListN.{take};
-ghost use Rattle.windows_route.specs.Walked.{atVisit, guardsAll, stayAll, moveAll, startAll, zonesAll};
+ghost use Rattle.windows_route.specs.Walked.{atVisit, guardsAll, stayAll, moveAll, startedAll, zonesAll};
 
 // The zones at a visit, unless they were refused before.
 fn at_visit(zones: Zones, visit: usize) -> Zones
@@ -45,29 +45,39 @@ fn guards_of(b: Ranges, clocks: usize, zones: Zones, count: usize, guards: [Guar
 fn stay(b: Ranges, clocks: usize, here: Location, zones: Zones) -> Zones
     ensures { λ r. ⌜ r ≡ stayAll b clocks here zones ⌝ }
 {
-    let guards = here.guards;
+    let invariants = here.guards;
     guards_of(
         b,
         clocks,
         delay::delayed_all(zones, clocks),
         here.count,
-        guards,
+        invariants,
     )
 }
 
-// The zones after a transition (paper: move): its guards, which belong to the visit before it, then its resets.
-fn moved(b: Ranges, clocks: usize, visit: usize, t: Transition, zones: Zones) -> Zones
+// The zones after a transition (paper: move): its guards, which belong to the visit before it; its resets, with which the move is made;
+// and on arrival the invariants of the location that it goes to.
+fn moved(
+    b: Ranges,
+    clocks: usize,
+    visit: usize,
+    t: Transition,
+    there: Location,
+    zones: Zones,
+) -> Zones
     requires { ⌜ visit < 32 ⌝ }
-    ensures { λ r. ⌜ r ≡ moveAll b clocks visit t zones ⌝ }
+    ensures { λ r. ⌜ r ≡ moveAll b clocks visit t there zones ⌝ }
 {
     let guards = t.guards;
     let limited = guards_of(b, clocks, zones, t.count, guards);
-    at_visit(delay::resets_all(limited, clocks, t.resets), visit + 1)
+    let made = at_visit(delay::resets_all(limited, clocks, t.resets), visit + 1);
+    let invariants = there.guards;
+    guards_of(b, clocks, made, there.count, invariants)
 }
 
-// One zone without inequalities, all entries zero, not strict.
-fn start() -> Zones
-    ensures { λ r. ⌜ r ≡ startAll ⌝ }
+// The zones at the start: one without inequalities, all entries zero, not strict, after the invariants of location 0.
+fn start(s: Sheet) -> Zones
+    ensures { λ r. ⌜ r ≡ startedAll s ⌝ }
 {
     let first = Zone {
         count: 0,
@@ -76,12 +86,15 @@ fn start() -> Zones
     };
     let mut list = [Zone::BLANK; 32];
     list[0] = first;
-    Zones {
+    let zones = Zones {
         refusal: 0,
         visit: 0,
         count: 1,
         list,
-    }
+    };
+    let here = sheet::location_at(s, 0);
+    let invariants = here.guards;
+    guards_of(s.ranges, s.clocks, zones, here.count, invariants)
 }
 
 // The zones after the whole route, or the first refusal that is met.
@@ -90,7 +103,7 @@ pub fn walk(s: Sheet) -> Zones
 {
     let b = s.ranges;
     let n = numbers::at_most(s.moves, 32);
-    let mut zones = start();
+    let mut zones = start(s);
     let mut l = 0;
     let mut k = 0;
     while k < n {
@@ -100,6 +113,7 @@ pub fn walk(s: Sheet) -> Zones
             s.clocks,
             k,
             t,
+            sheet::location_at(s, t.to),
             stay(b, s.clocks, sheet::location_at(s, l), zones),
         );
         zones = next;

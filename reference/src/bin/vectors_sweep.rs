@@ -7,7 +7,7 @@
 use reference::family;
 use reference::sweep::sweep;
 use reference::sweeps::paper::{self, Reply};
-use reference::sweeps::{families, line, stored, Record, PAPER};
+use reference::sweeps::{arrivals, families, line, stored, Record, ARRIVALS, PAPER};
 use reference::tool::{run, Stored};
 use std::process::ExitCode;
 
@@ -24,9 +24,12 @@ fn vectors() -> Stored {
 fn list() {
     family::list(&families(), stored, |family, first| {
         println!("  answers 0 to 6: {:?}", answers(&family.records));
-        if family.name == PAPER {
-            family::list_cases(first, paper::cases().into_iter().map(words));
-        }
+        let cases = match family.name {
+            PAPER => paper::cases(),
+            ARRIVALS => arrivals::cases(),
+            _ => return,
+        };
+        family::list_cases(first, cases.into_iter().map(words));
     });
 }
 

@@ -5,7 +5,8 @@
 //! belong to which family.
 
 use reference::cuttings::{
-    answer, edges, families, firsts, line, paper, stored, Case, Reply, EDGES, FIRSTS, PAPER,
+    answer, arrivals, edges, families, firsts, line, paper, stored, Case, Reply, ARRIVALS, EDGES,
+    FIRSTS, PAPER,
 };
 use reference::family;
 use reference::tool::{run, Stored};
@@ -59,12 +60,14 @@ fn list() {
             whole.add(&found);
         }
         tally.print();
-        match family.name {
-            PAPER => family::list_cases(first, paper::cases().into_iter().map(words)),
-            EDGES => family::list_cases(first, edges::cases().into_iter().map(words)),
-            FIRSTS => family::list_cases(first, firsts::cases().into_iter().map(words)),
-            _ => {}
-        }
+        let cases = match family.name {
+            PAPER => paper::cases(),
+            EDGES => edges::cases(),
+            FIRSTS => firsts::cases(),
+            ARRIVALS => arrivals::cases(),
+            _ => return,
+        };
+        family::list_cases(first, cases.into_iter().map(words));
     });
     println!("all lines");
     whole.print();

@@ -7,29 +7,37 @@ use crate::random::Random;
 use crate::samples::{along, at_most, range};
 use crate::sheet::{Guard, Parameter, Sheet, MOST_CLOCKS, MOST_GUARDS, MOST_ROUTE};
 
-/// The guards, one to six at each place in turn: a stay in location 0, a move to location 1, a stay there
-/// and so on. One move in four resets a clock.
+/// The guards, two to six at each place in turn: a move to location 1, a stay there, a move to
+/// location 2 and so on. One move in four resets a clock; the stay after it has none, since lower
+/// ones would forbid the arrival.
 fn scattered(random: &mut Random, parameters: &[Parameter], clocks: u8, guards: &[Guard]) -> Sheet {
     let mut left = guards;
-    let mut places: Vec<Vec<Guard>> = Vec::new();
-    while !left.is_empty() || places.len().is_multiple_of(2) {
-        let count = (2 + random.below(MOST_GUARDS - 1)).min(left.len());
-        let (some, others) = left.split_at(count);
-        places.push(some.to_vec());
-        left = others;
-    }
-    let stays: Vec<Vec<Guard>> = places.iter().step_by(2).cloned().collect();
+    let mut stays = vec![vec![]];
     let mut moves = Vec::new();
-    for list in places[1..].iter().step_by(2) {
+    while !left.is_empty() {
+        let list = some(random, &mut left);
         let resets = if clocks > 1 && random.once_in(4) {
             1 << random.below(usize::from(clocks))
         } else {
             0
         };
-        moves.push((resets, list.clone()));
+        moves.push((resets, list));
+        stays.push(if resets == 0 {
+            some(random, &mut left)
+        } else {
+            vec![]
+        });
     }
     let path: Vec<u8> = (0..stays.len() as u8).collect();
     along(parameters, clocks, &stays, &path, &moves)
+}
+
+/// The next two to six guards of a list, which loses them.
+fn some(random: &mut Random, left: &mut &[Guard]) -> Vec<Guard> {
+    let count = (2 + random.below(MOST_GUARDS - 1)).min(left.len());
+    let (some, others) = left.split_at(count);
+    *left = others;
+    some.to_vec()
 }
 
 /// Lower guards with bounds k^2 - 2kp, of which each is the least somewhere, in rising order, from both
@@ -121,27 +129,28 @@ pub(super) fn shaved(random: &mut Random) -> Vec<Record> {
     })
 }
 
-/// Sheets with a clock that is never reset and others that are reset at each of up to 32 moves, and guards
-/// with numbers up to 1,000: the largest numbers that sums and tests come to.
+/// Sheets with a clock that is never reset and others that are reset at each of up to 32 moves,
+/// upper guards at the stays and lower ones at the moves, with numbers up to 1,000: the largest
+/// numbers that sums and tests come to.
 pub(super) fn large_numbers(random: &mut Random) -> Vec<Record> {
     many(60, |n| {
         let clocks = 2 + (n % 3) as u8;
         let large = |random: &mut Random| random.from_to(900, 1000);
-        let mut stays = Vec::new();
-        for _ in 0..2 {
-            let mut stay = Vec::new();
-            for clock in 2..=clocks {
-                let coefficients = [0; 3].map(|_| large(random));
-                stay.push(at_most(clock, 0, large(random), coefficients));
-                let back = [0; 3].map(|_| -random.from_to(0, 300));
-                stay.push(at_most(0, clock, -random.from_to(0, 900), back));
-            }
-            stays.push(stay);
-        }
+        let upper = |random: &mut Random, clock| {
+            let coefficients = [0; 3].map(|_| large(random));
+            at_most(clock, 0, large(random), coefficients)
+        };
+        let lower = |random: &mut Random, clock| {
+            let coefficients = [0; 3].map(|_| -random.from_to(0, 300));
+            at_most(0, clock, -random.from_to(0, 800), coefficients)
+        };
+        let stays = [0; 2].map(|_| (2..=clocks).map(|clock| upper(random, clock)).collect());
+        let leaves = [0; 2].map(|_| (2..=clocks).map(|clock| lower(random, clock)).collect());
         let moves: Vec<(u8, Vec<Guard>)> = (0..1 + random.below(MOST_ROUTE))
-            .map(|_| {
+            .map(|k| {
                 let bits = random.below(1 << clocks) as u8 & !1;
-                (if random.once_in(2) { 2 } else { bits }, vec![])
+                let resets = if random.once_in(2) { 2 } else { bits };
+                (resets, Vec::clone(&leaves[k % 2]))
             })
             .collect();
         let path: Vec<u8> = (0..=moves.len()).map(|k| (k % 2) as u8).collect();

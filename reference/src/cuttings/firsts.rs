@@ -140,7 +140,8 @@ fn below_zero() -> Case {
     case("no guard", &one_stay(&parameters, &[]), whole)
 }
 
-/// At most p, q and r: the last of the four zones has the earliest first valuation.
+/// At most p, q and r: the last of the four zones has the earliest first valuation. The start asks
+/// p and r to be at least 0 before the end of the stay compares the three.
 fn backwards() -> Case {
     let parameters = [range(-2, 3), range(1, 4), range(-1, 5)];
     let up = [[0, 1, 0, 0], [0, 0, 1, 0], [0, 0, 0, 1]].map(up_to);
@@ -148,10 +149,10 @@ fn backwards() -> Case {
     let [q_below, p_to_q] = [[-1, 1, -1, 0], [0, -1, 1, 0]];
     let result = zones(
         &[
-            ([2, 1, 0], &[p_up, q_below, r_up, [-1, 0, 1, -1]]),
-            ([2, 1, 1], &[p_up, q_below, r_up, [0, 0, -1, 1]]),
-            ([1, 1, 0], &[p_up, p_to_q, r_up, [-1, 1, 0, -1]]),
-            ([0, 1, 0], &[p_up, p_to_q, r_up, [0, -1, 0, 1]]),
+            ([2, 1, 0], &[p_up, r_up, q_below, [-1, 0, 1, -1]]),
+            ([2, 1, 1], &[p_up, r_up, q_below, [0, 0, -1, 1]]),
+            ([1, 1, 0], &[p_up, r_up, p_to_q, [-1, 1, 0, -1]]),
+            ([0, 1, 0], &[p_up, r_up, p_to_q, [0, -1, 0, 1]]),
         ],
         96,
         72,

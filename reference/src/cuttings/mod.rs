@@ -6,6 +6,7 @@
 //! `L bytes R/P N K C D` with the file's length, the refusal's number and place (0/0 for none), the counts
 //! of zones, of valuations kept and of valuations cut (0 where it is refused), and a digest of the table.
 
+pub mod arrivals;
 mod built;
 pub mod drawn;
 pub mod edges;
@@ -27,10 +28,12 @@ use crate::windows::{windows, Outcome, Windows, PLACES};
 use crate::writer;
 use table::digest_of;
 
-/// The names of the families whose records are the cases of `paper`, of `edges` and of `firsts`.
+/// The names of the families whose records are the cases of `paper`, of `edges`, of `firsts` and of
+/// `arrivals`.
 pub const PAPER: &str = "results written by hand";
 pub const EDGES: &str = "built to end at a limit or past it";
 pub const FIRSTS: &str = "built for a first valuation";
+pub const ARRIVALS: &str = "standing limits at the start and on arrival";
 
 /// A sheet file, and how many places the table has that is lent with it.
 #[derive(Clone, Debug, PartialEq, Eq)]
@@ -43,15 +46,15 @@ pub struct Record {
 pub fn families() -> Vec<Family<Record>> {
     let random = &mut Random::new(3);
     let mut list = Vec::new();
-    let mut add = |name, records| list.push(Family { name, records });
-    add(PAPER, paper::cases().iter().map(|c| c.record()).collect());
-    add(EDGES, edges::cases().iter().map(|c| c.record()).collect());
+    let mut add = |name, cases: Vec<Case>| {
+        let records = cases.iter().map(Case::record).collect();
+        list.push(Family { name, records });
+    };
+    add(PAPER, paper::cases());
+    add(EDGES, edges::cases());
+    add(FIRSTS, firsts::cases());
+    add(ARRIVALS, arrivals::cases());
     list.extend(drawn::families(random));
-    let cases = firsts::cases();
-    list.push(Family {
-        name: FIRSTS,
-        records: cases.iter().map(Case::record).collect(),
-    });
     list
 }
 

@@ -16,7 +16,7 @@ fn zones_agree_with_sweep() {
     let random = &mut Random::new(31);
     let mut zones = [0; 33];
     let mut refused = 0;
-    for n in 0..1200 {
+    for n in 0..1300 {
         let (parameters, width) = [(1, 63), (2, 20), (3, 7)][n % 3];
         let mut shape = random_shape(random, 9, 1 + n % 6, width);
         shape.parameters = parameters;

@@ -7,22 +7,25 @@
 //! answer's number (0 a run, 1 void, else the refusal), its place (0 for a run and void), and a
 //! digest of its matrix.
 
+pub mod arrivals;
 pub mod paper;
 
+use crate::cuttings::edges;
 use crate::digest::{digest, signed};
 use crate::family::Family;
 use crate::planned::{planned, random_shape, Planned, Shape};
 use crate::random::Random;
 use crate::samples::{along, at_most, biggest_sheet, random_sheet, range, Size};
-use crate::sheet::{Sheet, MOST_CLOCKS, MOST_PARAMETERS, MOST_ROUTE};
+use crate::sheet::{read, Sheet, MOST_CLOCKS, MOST_PARAMETERS, MOST_ROUTE};
 use crate::sweep::{sweep, Matrix, ZEROS};
 use crate::valuations::{all, beyond, corners, some, Valuation};
 use crate::vectors::{self, damage, limits};
 use crate::weight::Weight;
 use crate::writer;
 
-/// The name of the family whose records are the cases of `paper`.
+/// The names of the families whose records are the cases of `paper` and of `arrivals`.
 pub const PAPER: &str = "results written by hand";
+pub const ARRIVALS: &str = "standing limits at the start and on arrival";
 
 /// A sheet file, and the valuations at which it is tried.
 #[derive(Clone, Debug, PartialEq, Eq)]
@@ -36,8 +39,10 @@ pub fn families() -> Vec<Family<Record>> {
     let random = &mut Random::new(2);
     let mut list = Vec::new();
     let mut add = |name, records| list.push(Family { name, records });
-    add(PAPER, by_hand());
+    add(PAPER, by_hand(paper::cases()));
+    add(ARRIVALS, by_hand(arrivals::cases()));
     add("the paper's sheets at all settings", papers(random));
+    add("arrivals at all settings", at_all(arrivals::sheets()));
     add("two guards that meet or miss", meetings());
     add("numbers outside the ranges", outside(random));
     add("small ranges, all settings", small_ranges(random));
@@ -48,6 +53,7 @@ pub fn families() -> Vec<Family<Record>> {
     add("random sheets", loose(random));
     add("each rule of the file at its limit", at_limits());
     add("damaged files", damaged(random));
+    add("sheets at a limit of Windows", at_windows_limits(random));
     list
 }
 
@@ -57,13 +63,32 @@ fn record(sheet: &Sheet, valuations: Vec<Valuation>) -> Record {
     Record { file, valuations }
 }
 
-/// The cases of `paper`.
-fn by_hand() -> Vec<Record> {
+/// Cases with results written by hand.
+fn by_hand(cases: Vec<paper::Case>) -> Vec<Record> {
     let one = |case: paper::Case| Record {
         file: case.file,
         valuations: vec![case.valuation],
     };
-    paper::cases().into_iter().map(one).collect()
+    cases.into_iter().map(one).collect()
+}
+
+/// Those sheets, each at all its valuations.
+fn at_all(sheets: Vec<Sheet>) -> Vec<Record> {
+    let one = |sheet: &Sheet| record(sheet, all(&sheet.parameters));
+    sheets.iter().map(one).collect()
+}
+
+/// The sheets that end at a limit of refusals 7 and 8 or past it, which Sweep does not meet, at the
+/// corners of their ranges and at some other valuations.
+fn at_windows_limits(random: &mut Random) -> Vec<Record> {
+    let mut list = Vec::new();
+    for file in edges::cases().into_iter().map(|case| case.file) {
+        let parameters = read(&file).expect("the sheet is good").parameters;
+        let mut valuations = corners(&parameters);
+        valuations.extend(some(random, &parameters, 8));
+        list.push(Record { file, valuations });
+    }
+    list
 }
 
 /// The sheets of "Sheets to try", each at all its valuations and beyond.
@@ -77,11 +102,12 @@ fn papers(random: &mut Random) -> Vec<Record> {
     list
 }
 
-/// An upper guard p and a lower guard -q on one clock, of either relation, with p and q close to each
-/// other and to 0: met in the same visit or in two, with a reset of another clock between or not.
+/// An upper guard p and a lower guard -q on one clock, of either relation, with p and q close to
+/// each other and to 0: met in the same visit or in two, with a reset of another clock between or
+/// not. The first one is judged at the start too, or at a move alone.
 pub fn meetings() -> Vec<Record> {
     let mut list = Vec::new();
-    for n in 0..32 {
+    for n in 0..64 {
         let yes = |bit: u8| n >> bit & 1 == 1;
         let mut up = at_most(1, 0, 0, [1, 0, 0]);
         let mut down = at_most(0, 1, 0, [0, -1, 0]);
@@ -94,8 +120,13 @@ pub fn meetings() -> Vec<Record> {
         } else {
             (vec![], vec![second])
         };
-        let (box_of, stays) = ([range(-2, 2); 2], [vec![first], there]);
-        let sheet = along(&box_of, 2, &stays, &[0, 1], &[(resets, back)]);
+        let (start, before) = if yes(5) {
+            (vec![], vec![first])
+        } else {
+            (vec![first], vec![])
+        };
+        let moves = [(resets, [before, back].concat())];
+        let sheet = along(&[range(-2, 2); 2], 2, &[start, there], &[0, 1], &moves);
         list.push(record(&sheet, all(&sheet.parameters)));
     }
     list
@@ -162,7 +193,7 @@ fn wide_ranges(random: &mut Random) -> Vec<Record> {
 /// Sheets with many locations and transitions and up to the most guards at each.
 fn crowded(random: &mut Random) -> Vec<Record> {
     let mut list = Vec::new();
-    for n in 0..20 {
+    for n in 0..24 {
         let mut shape = random_shape(random, MOST_ROUTE, 6, 63);
         shape.parameters = n % 4;
         shape.locations = 5 + random.below(6);
@@ -183,11 +214,14 @@ fn biggest(random: &mut Random) -> Vec<Record> {
     list
 }
 
-/// Random sheets, at a valuation and a corner.
+/// Random sheets, at a valuation and a corner. Nothing is asked of every second start.
 fn loose(random: &mut Random) -> Vec<Record> {
     let mut list = Vec::new();
-    for _ in 0..200 {
-        let sheet = random_sheet(random, Size::SMALL);
+    for n in 0..200 {
+        let mut sheet = random_sheet(random, Size::SMALL);
+        if n % 2 == 0 {
+            sheet.locations[0].invariants.clear();
+        }
         let mut valuations = some(random, &sheet.parameters, 3);
         valuations.push(corners(&sheet.parameters)[0]);
         list.push(record(&sheet, valuations));

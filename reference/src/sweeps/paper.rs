@@ -3,7 +3,8 @@
 
 use crate::rows;
 use crate::samples::{a_with, at_most, below, range, sheet_a};
-use crate::sheet::Sheet;
+use crate::sheet::{read, Refusal, Sheet};
+use crate::sweep::sweep;
 use crate::weight::Weight;
 use crate::writer;
 use Reply::{Refused, Run, Void};
@@ -23,6 +24,23 @@ pub struct Case {
     pub file: Vec<u8>,
     pub valuation: [i64; 3],
     pub result: Reply,
+}
+
+impl Case {
+    /// Whether Sweep gives the result that is written beside the case.
+    pub fn is_right(&self) -> bool {
+        match (&self.result, sweep(&self.file, self.valuation)) {
+            (&Refused(number, place), found) => found == Err(Refusal { number, place }),
+            (Void, found) => found == Ok(None),
+            (Run(rows), Ok(Some(m))) => {
+                let n = rows.len();
+                let clocks = read(&self.file).map(|sheet| usize::from(sheet.clocks));
+                let inner: Vec<Vec<Weight>> = m[..n].iter().map(|r| r[..n].to_vec()).collect();
+                clocks == Ok(n - 1) && &inner == rows
+            }
+            _ => false,
+        }
+    }
 }
 
 /// All cases.
@@ -54,7 +72,7 @@ pub fn sheets() -> Vec<Sheet> {
 }
 
 /// At most c.
-fn le(value: i64) -> Weight {
+pub(super) fn le(value: i64) -> Weight {
     Weight::At {
         value,
         strict: false,
@@ -62,7 +80,7 @@ fn le(value: i64) -> Weight {
 }
 
 /// Below c.
-fn lt(value: i64) -> Weight {
+pub(super) fn lt(value: i64) -> Weight {
     Weight::At {
         value,
         strict: true,
@@ -70,20 +88,20 @@ fn lt(value: i64) -> Weight {
 }
 
 /// None.
-const NONE: Weight = Weight::None;
+pub(super) const NONE: Weight = Weight::None;
 
 /// A run with those entries, row by row.
-fn run<const N: usize>(rows: [[Weight; N]; N]) -> Reply {
+pub(super) fn run<const N: usize>(rows: [[Weight; N]; N]) -> Reply {
     Run(rows.map(|row| row.to_vec()).to_vec())
 }
 
 /// A run of a sheet with one clock: entries (0, 1) and (1, 0), the others being zero, not strict.
-fn run1(down: Weight, up: Weight) -> Reply {
+pub(super) fn run1(down: Weight, up: Weight) -> Reply {
     run([[le(0), down], [up, le(0)]])
 }
 
 /// A case.
-fn case(name: &'static str, sheet: &Sheet, valuation: [i64; 3], result: Reply) -> Case {
+pub(super) fn case(name: &'static str, sheet: &Sheet, valuation: [i64; 3], result: Reply) -> Case {
     file_case(name, writer::file(sheet), valuation, result)
 }
 
@@ -157,7 +175,8 @@ fn wrong_turns() -> Vec<Case> {
         [NONE, le(0), le(6)],
         [NONE, le(-4), le(0)],
     ]);
-    // w up to 4, y between, x from 1, y + x up to 5: clock 1 is y + x, 2 is w + y + x, 3 is x.
+    // w up to 4, y between, x from 1 in two stays, y + x up to 5: clock 1 is y + x, 2 is w + y + x,
+    // 3 is x.
     let pushed = run([
         [le(0), le(-1), le(-1), le(-1)],
         [le(5), le(0), le(0), le(4)],
@@ -257,28 +276,12 @@ fn refused_numbers() -> Vec<Case> {
 #[cfg(test)]
 mod tests {
     use super::*;
-    use crate::sheet::{read, Refusal};
-    use crate::sweep::sweep;
 
     /// Sweep gives the results that are written here.
     #[test]
     fn results_are_the_papers() {
         for case in cases() {
-            let found = sweep(&case.file, case.valuation);
-            match &case.result {
-                Run(rows) => {
-                    let n = rows.len();
-                    let m = found.unwrap().unwrap();
-                    let inner: Vec<Vec<Weight>> =
-                        m[..n].iter().map(|row| row[..n].to_vec()).collect();
-                    assert_eq!(&inner, rows, "{}", case.name);
-                    assert_eq!(usize::from(read(&case.file).unwrap().clocks) + 1, n);
-                }
-                Void => assert_eq!(found, Ok(None), "{}", case.name),
-                &Refused(number, place) => {
-                    assert_eq!(found, Err(Refusal { number, place }), "{}", case.name)
-                }
-            }
+            assert!(case.is_right(), "{}", case.name);
         }
     }
 }

@@ -69,7 +69,9 @@ pub fn windows(file: &[u8], places: usize) -> Outcome {
     cut(&read(file)?, Limits::PAPER)
 }
 
-/// The ranges of a sheet cut into zones, or the first of refusals 7, 8 and 9 by those limits.
+/// The ranges of a sheet cut into zones, or the first of refusals 7, 8 and 9 by those limits. A
+/// location's invariants go in at the start or on arrival, and again after the wait; a move counts
+/// as made once its resets are done (paper 02, request (b)).
 pub fn cut(sheet: &Sheet, limits: Limits) -> Outcome {
     let mut cutting = Cutting {
         clocks: usize::from(sheet.clocks),
@@ -83,6 +85,7 @@ pub fn cut(sheet: &Sheet, limits: Limits) -> Outcome {
         cut: 0,
     };
     let mut at = 0;
+    cutting.guards(&sheet.locations[at].invariants)?;
     for &number in &sheet.route {
         let transition = &sheet.transitions[usize::from(number)];
         cutting.stay(&sheet.locations[at].invariants)?;
@@ -90,6 +93,7 @@ pub fn cut(sheet: &Sheet, limits: Limits) -> Outcome {
         cutting.resets(transition.resets);
         cutting.visit += 1;
         at = usize::from(transition.to);
+        cutting.guards(&sheet.locations[at].invariants)?;
     }
     cutting.stay(&sheet.locations[at].invariants)?;
     Ok(cutting.done())

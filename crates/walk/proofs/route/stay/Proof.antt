@@ -1,9 +1,8 @@
 -- A wait, then the invariants, as in `stayTable`.
 use Rattle.expr.specs.Three.{point}
 use Rattle.weight_matrix.specs.Tables.{Table}
-use Rattle.walk.specs.Walked.{stayTable, guardsTable}
+use Rattle.walk.specs.Walked.{invariantsTable, stayTable}
 use borrow.Author.Needs.{needs}
-use lib.ListN.{take}
 use mathlib.Core.Path.{ap, _∙_}
 use Rattle.walk.proofs.route.stay.Statement.{statement}
 use Rattle.walk.proofs.route.stay.Tie as tie
@@ -18,8 +17,7 @@ returns : tie.Need-returns
 unfolding stayTable
 returns c =
     let a = c .before .before .before .args in
-    c .guards-of .ensures ∙ ap (λ (m : Table). guardsTable m (a .clocks) (point (a .v)) (take (a .here .count) (a .here .guards)))
-    (c .before .delayed .ensures)
+    c .guards-of .ensures ∙ ap (λ (m : Table). invariantsTable m (a .clocks) (point (a .v)) (a .here)) (c .before .delayed .ensures)
 
 pub stay-spec : {M : Type 1} → statement M
 stay-spec = tie.close (tie.spec delayed-requires guards-of-requires returns)

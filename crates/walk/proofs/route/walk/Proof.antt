@@ -49,6 +49,9 @@ location-at-requires c κs = search needs
 stay-requires : tie.Need-stay-requires Inv-loop μ-loop
 stay-requires c κs = search needs
 
+location-at-requires-2 : tie.Need-location-at-requires-2 Inv-loop μ-loop
+location-at-requires-2 c κs = search needs
+
 moved-requires : tie.Need-moved-requires Inv-loop μ-loop
 moved-requires c κs = search needs
 
@@ -60,7 +63,8 @@ loop-less c = omega arith
 
 loop-again : tie.Need-loop-again Inv-loop μ-loop
 loop-again c =
-    let at-location-at = c .before .before in
+    let at-stay = c .before .before in
+    let at-location-at = at-stay .before in
     let at-transition-at = at-location-at .before in
     let at-index = at-transition-at .before in
     let at-loop = at-index .before .before .before in
@@ -70,13 +74,13 @@ loop-again c =
     let v = i .inv in (
       v .0,
       v .1,
-      walk-turn (a .t1) (point (a .v)) (i .k) (i .l) (i .m) _ _ _ _ _ (omega arith) (v .2)
+      walk-turn (a .t1) (point (a .v)) (i .k) (i .l) (i .m) _ _ _ _ _ _ (omega arith) (v .2)
           (at-transition-at .transition-at .ensures ∙ ap (λ (n : ℕ). transitionC (a .t1) n) (at-index .index .ensures))
-          (at-location-at .location-at .ensures) (c .before .stay .ensures) (c .moved .ensures),
+          (at-location-at .location-at .ensures) (c .before .location-at2 .ensures) (at-stay .stay .ensures) (c .moved .ensures),
     )
 
-location-at-requires-2 : tie.Need-location-at-requires-2 Inv-loop μ-loop
-location-at-requires-2 c κs = search needs
+location-at-requires-3 : tie.Need-location-at-requires-3 Inv-loop μ-loop
+location-at-requires-3 c κs = search needs
 
 stay-requires-2 : tie.Need-stay-requires-2 Inv-loop μ-loop
 stay-requires-2 c κs = search needs
@@ -87,7 +91,7 @@ returns c =
     let start = at-loop .before .before .before in
     let a = start .args in
     let i = at-loop .loop in
-    walk-done (a .t1) (point (a .v)) (i .k) (i .l) (i .m) _ _ _ (omega arith) (i .inv .2) (c .before .location-at2 .ensures)
+    walk-done (a .t1) (point (a .v)) (i .k) (i .l) (i .m) _ _ _ (omega arith) (i .inv .2) (c .before .location-at3 .ensures)
     (c .stay2 .ensures)
 
 pub walk-spec : {M : Type 1} → statement M
@@ -104,10 +108,11 @@ walk-spec =
     transition-at-requires
     location-at-requires
     stay-requires
+    location-at-requires-2
     moved-requires
     add-k
     loop-less
     loop-again
-    location-at-requires-2
+    location-at-requires-3
     stay-requires-2
     returns)

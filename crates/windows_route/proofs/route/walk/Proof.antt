@@ -44,30 +44,35 @@ transition-at-requires c κs = search needs
 location-at-requires : tie.Need-location-at-requires Inv-loop μ-loop
 location-at-requires c κs = search needs
 
+location-at-requires-2 : tie.Need-location-at-requires-2 Inv-loop μ-loop
+location-at-requires-2 c κs = search needs
+
 stay-requires : tie.Need-stay-requires Inv-loop μ-loop
 stay-requires c κs = search needs
 
 moved-requires : tie.Need-moved-requires Inv-loop μ-loop
 moved-requires c κs =
-    let in-loop = c .before .before .before .before .before in
+    let in-loop = c .before .before .before .before .before .before in
     omega (arith, in-loop .loop-test .taken, in-loop .before .loop .inv .0)
 
 add-k : tie.Need-add-k Inv-loop μ-loop
 add-k c =
-    let after-location-at = c .before .before in
-    let in-loop = after-location-at .before .before .before .before in
+    let after-transition-at = c .before .before .before .before in
+    let in-loop = after-transition-at .before .before .before in
     omega (arith, in-loop .loop-test .taken, in-loop .before .loop .inv .0)
 
 loop-less : tie.Need-loop-less Inv-loop μ-loop
 loop-less c =
-    let after-location-at = c .before .before in
-    let in-loop = after-location-at .before .before .before .before in
+    let after-transition-at = c .before .before .before .before in
+    let in-loop = after-transition-at .before .before .before in
     omega (arith, in-loop .loop-test .taken)
 
 loop-again : tie.Need-loop-again Inv-loop μ-loop
 loop-again c =
-    let after-location-at = c .before .before in
-    let after-index = after-location-at .before .before in
+    let after-here = c .before .before in
+    let after-there = after-here .before in
+    let after-transition-at = after-there .before in
+    let after-index = after-transition-at .before in
     let in-loop = after-index .before .before in
     let start = in-loop .before .before .before .before .before in
     let s = start .args .t1 in
@@ -75,14 +80,15 @@ loop-again c =
     let v = i .inv in (
       v .0,
       v .1,
-      walk-turn s (i .k) (i .l) (i .zones) (c .before .stay .result) (c .moved .result) _ (after-location-at .location-at .result)
-          (after-location-at .before .transition-at .result) (omega (arith, in-loop .loop-test .taken, v .1)) (v .2)
-          (after-location-at .before .transition-at .ensures ∙ ap (λ (n : ℕ). transitionC s n) (after-index .index .ensures))
-          (after-location-at .location-at .ensures) (c .before .stay .ensures) (c .moved .ensures),
+      walk-turn s (i .k) (i .l) (i .zones) (c .before .stay .result) (c .moved .result) _ (after-here .location-at2 .result)
+          (after-there .location-at .result) (after-transition-at .transition-at .result)
+          (omega (arith, in-loop .loop-test .taken, v .1)) (v .2)
+          (after-transition-at .transition-at .ensures ∙ ap (λ (n : ℕ). transitionC s n) (after-index .index .ensures))
+          (after-here .location-at2 .ensures) (after-there .location-at .ensures) (c .before .stay .ensures) (c .moved .ensures),
     )
 
-location-at-requires-2 : tie.Need-location-at-requires-2 Inv-loop μ-loop
-location-at-requires-2 c κs = search needs
+location-at-requires-3 : tie.Need-location-at-requires-3 Inv-loop μ-loop
+location-at-requires-3 c κs = search needs
 
 stay-requires-2 : tie.Need-stay-requires-2 Inv-loop μ-loop
 stay-requires-2 c κs = search needs
@@ -93,8 +99,8 @@ returns c =
     let start = past-loop .before .before .before .before .before in
     let s = start .args .t1 in
     let i = past-loop .before .loop in
-    walk-done s (i .k) (i .l) (i .zones) _ _ (c .before .location-at2 .result) (omega (arith, past-loop .loop-test .left, i .inv .1))
-    (i .inv .2) (c .before .location-at2 .ensures) (c .stay2 .ensures)
+    walk-done s (i .k) (i .l) (i .zones) _ _ (c .before .location-at3 .result) (omega (arith, past-loop .loop-test .left, i .inv .1))
+    (i .inv .2) (c .before .location-at3 .ensures) (c .stay2 .ensures)
 
 pub walk-spec : {M : Type 1} → statement M
 walk-spec =
@@ -109,11 +115,12 @@ walk-spec =
     index-requires
     transition-at-requires
     location-at-requires
+    location-at-requires-2
     stay-requires
     moved-requires
     add-k
     loop-less
     loop-again
-    location-at-requires-2
+    location-at-requires-3
     stay-requires-2
     returns)
