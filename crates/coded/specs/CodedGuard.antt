@@ -1,6 +1,6 @@
--- What the code does to zones in order under one guard (Guarded) is what the cutting does: the tree of tests is worked to the same
--- listing, and a refusal sticks on both sides.
-use mathlib.Core.Path.{_≡_, refl, sym, ap, _∙_}
+-- What the code does to zones in order under one guard (Guarded) is what the cutting does: the tree of tests is worked to the same ways,
+-- test for test, and a refusal sticks on both sides.
+use mathlib.Core.Path.{_≡_, refl, sym, ap, subst, _∙_}
 use mathlib.Core.List.{List, [], _∷_, _++_, map}
 use mathlib.Core.Bool.{Bool, true, false, cond}
 use Prim.Native.Nat.{ℕ, suc, _-_, _≤_, _<_}
@@ -11,7 +11,8 @@ use lib.ListN.{length, set, replicate}
 use Rattle.cutting.specs.Cutting.{Bounds, Tree, cut, keep, wideTree, asks, guardTree, Listing, listed, refused, INEQS, ZONES, never}
 use Rattle.cutting.specs.Cutting.{listZone, worked, guardZones, andThen}
 use Rattle.cutting.specs.Cutting as cutting
-use Rattle.cutting.specs.Listings.{worked-refused}
+use Rattle.cutting.specs.Ways.{Way, Outcome, leads, refuses, listWay, counting, withoutCounts}
+use Rattle.cutting.specs.CeilingProof.{zones-more, zones-length, counting-without}
 use Rattle.expr.specs.Affine.{Affine, opposite}
 use Rattle.expr.specs.Three.{affine, exprOf, boundAs, rangeList, zeroExpr}
 use Rattle.search.specs.Valuations.{first}
@@ -20,21 +21,19 @@ use Rattle.expr.specs.declared.range.Ranges.{Ranges}
 use Rattle.guards.specs.declared.Guard.{Guard}
 use Rattle.timed.specs.Lists.{AllOf}
 use Rattle.coded.specs.Records.{boundsOf, zoneOf, zonesIn, coded}
+use Rattle.coded.specs.Counts.{NarrowM, NarrowZone, countsIn, codedWays}
 use Rattle.coded.specs.Coded.{one-more, length-more, taken}
-use Rattle.coded.specs.CodedTests.{pad-first, NarrowM, opposite-coded, never-is}
+use Rattle.coded.specs.CodedTests.{pad-first, opposite-coded, never-is}
 use Rattle.coded.specs.CodedTree.{treeOf, Good, Same, guard-same}
 use Rattle.split.specs.Guarded.{ruleC, cutC, cutAll, guardedC}
-use Rattle.split.specs.Listed.{noneAt, refusedC, listC}
+use Rattle.split.specs.Listed.{noneAt, refusedC, addedC, listC}
+use Rattle.split.specs.declared.list.Counted.{Counted}
 use Rattle.zones.specs.Zone.{blankZone, plusC}
 use Rattle.parts.specs.Parts.{withBounds}
 use Rattle.split.specs.Trees.{TreeC, cutT, keepT, wideT, askT, treeAt, workedC}
 use Rattle.zones.specs.Settled.{oppositeC, neverC, isNone}
 use Rattle.zones.specs.declared.zone.Zone.{Zone}
 use Rattle.zones.specs.declared.zone.Zones.{Zones}
-
--- a zone whose matrix is narrow
-pub record NarrowZone (z : cutting.Zone) : Type 0 where
-  pub bounds : NarrowM (z .bounds)
 
 -- the zones' matrices are narrow, or the refusal has a number
 abbrev pub Sound : Listing → Type 0
@@ -68,20 +67,48 @@ plus-coded is m e h =
     record { count = k; ineqs = map exprOf (is ++ (e ∷ [])) ++ replicate (24 - length (is ++ (e ∷ []))) zeroExpr; bounds = boundsOf m })
     (sym (length-more is e))
 
-list-coded : (visit : ℕ) (z : cutting.Zone) (zs : List cutting.Zone)
-    → listC (zoneOf z) (coded visit (listed zs)) ≡ coded visit (listZone visit z zs)
-unfolding listC coded listZone refusedC zonesIn
-list-coded visit z zs = by (ltb (length zs) 32) refl
-  where
-    by : (b : Bool) → ltb (length zs) 32 ≡ b
-        → cond b (record { refusal = 0; visit = visit; count = suc (length zs); list = set (zonesIn zs) (length zs) (zoneOf z) })
-        (refusedC 7 (coded visit (listed zs)))
-        ≡ coded visit (cond b (listed (zs ++ (z ∷ []))) (refused 7 visit))
-    by true h =
-        ap (λ (l : List Zone). record { refusal = 0; visit = visit; count = suc (length zs); list = l })
-        (one-more zoneOf blankZone 32 zs z (ltb-true (length zs) 32 h))
-        ∙ ap (λ (k : ℕ). record { refusal = 0; visit = visit; count = k; list = zonesIn (zs ++ (z ∷ [])) }) (sym (length-more zs z))
-    by false h = refl
+-- a zone listed with its count of tests
+module _ (visit : ℕ) (z : cutting.Zone) (k : ℕ) (ws : List Way) where
+  abbrev way : Way
+  way = record { zone = z; tests = k }
+
+  abbrev zs : List cutting.Zone
+  zs = map (λ (w : Way). w .zone) ws
+
+  abbrev added : Zones
+  added = addedC (zoneOf z) (coded visit (listed zs))
+
+  room : (b : Bool) → ltb (length ws) 32 ≡ b → ltb (length zs) 32 ≡ b
+  room b h = ap (λ (n : ℕ). ltb n 32) (zones-length ws) ∙ h
+
+  zones-listed : length zs < 32 → added ≡ coded visit (listed (map (λ (w : Way). w .zone) (ws ++ (way ∷ []))))
+  unfolding coded zonesIn
+  zones-listed h =
+      ap (λ (l : List Zone). record { refusal = 0; visit = visit; count = suc (length zs); list = l })
+      (one-more zoneOf blankZone 32 zs z h)
+      ∙ ap (λ (n : ℕ). record { refusal = 0; visit = visit; count = n; list = zonesIn (zs ++ (z ∷ [])) }) (sym (length-more zs z))
+      ∙ ap (λ (l : List cutting.Zone). coded visit (listed l)) (sym (zones-more ws way))
+
+  counts-listed : length ws < 32 → set (countsIn (leads ws)) (length zs) k ≡ countsIn (leads (ws ++ (way ∷ [])))
+  counts-listed h =
+      ap (λ (n : ℕ). set (countsIn (leads ws)) n k) (zones-length ws) ∙ one-more (λ (w : Way). w .tests) 0 32 ws way h
+
+  list-coded : listC (zoneOf z) k (codedWays visit (leads ws)) ≡ codedWays visit (listWay visit way ws)
+  unfolding listC codedWays coded listWay refusedC
+  list-coded = by (ltb (length ws) 32) refl
+    where
+      by : (b : Bool) → ltb (length ws) 32 ≡ b
+          → cond (ltb (length zs) 32) (record { zones = added; tests = set (countsIn (leads ws)) (length zs) k })
+          (refusedC 7 (codedWays visit (leads ws)))
+          ≡ codedWays visit (cond b (leads (ws ++ (way ∷ []))) (refuses 7 visit))
+      by true h =
+          rw (room true h)
+          (ap (λ (l : Zones). record { zones = l; tests = set (countsIn (leads ws)) (length zs) k })
+          (zones-listed (ltb-true (length zs) 32 (room true h)))
+          ∙ ap
+          (λ (l : List ℕ). record { zones = coded visit (listed (map (λ (w : Way). w .zone) (ws ++ (way ∷ [])))); tests = l })
+          (counts-listed (ltb-true (length ws) 32 h)))
+      by false h = rw (room false h) refl
 
 other-bounds : (is : List Affine) (m₀ m : Bounds) → withBounds (zoneOf (with-ineqs is m₀)) (boundsOf m) ≡ zoneOf (with-ineqs is m)
 unfolding zoneOf
@@ -92,21 +119,22 @@ cond-all : {A : Type 0} (b : Bool) (x y o : A) → x ≡ o → y ≡ o → cond 
 cond-all true x y o h k = h
 cond-all false x y o h k = k
 
-refused-stays : (n : ℕ) (out : Zones) → eqb (out .refusal) 0 ≡ false → refusedC n out ≡ out
+refused-stays : (n : ℕ) (out : Counted) → eqb (out .zones .refusal) 0 ≡ false → refusedC n out ≡ out
 unfolding refusedC
 refused-stays n out h = rw h refl
 
-sticks : (b : Ranges) (t : TreeC) (z : Zone) (out : Zones) → eqb (out .refusal) 0 ≡ false → workedC b t z out ≡ out
+sticks : (b : Ranges) (t : TreeC) (k : ℕ) (z : Zone) (out : Counted) → eqb (out .zones .refusal) 0 ≡ false → workedC b t k z out ≡ out
 unfolding workedC listC
-sticks b cutT z out h = refl
-sticks b (keepT m) z out h = rw h (refused-stays 7 out h)
-sticks b wideT z out h = refused-stays 9 out h
-sticks b (askT e f) z out h =
-    cond-all (neverC b z e) (workedC b (f false) z out) _ out (sticks b (f false) z out h)
-    (cond-all (neverC b z (oppositeC e)) (workedC b (f true) z out) _ out (sticks b (f true) z out h)
-    (cond-all (ltb (z .count) 24) (workedC b (f false) (plusC z (oppositeC e)) (workedC b (f true) (plusC z e) out)) (refusedC 8 out) out
-    (ap (workedC b (f false) (plusC z (oppositeC e))) (sticks b (f true) (plusC z e) out h)
-    ∙ sticks b (f false) (plusC z (oppositeC e)) out h)
+sticks b cutT k z out h = refl
+sticks b (keepT m) k z out h = rw h (refused-stays 7 out h)
+sticks b wideT k z out h = refused-stays 9 out h
+sticks b (askT e f) k z out h =
+    cond-all (neverC b z e) (workedC b (f false) (suc k) z out) _ out (sticks b (f false) (suc k) z out h)
+    (cond-all (neverC b z (oppositeC e)) (workedC b (f true) (suc k) z out) _ out (sticks b (f true) (suc k) z out h)
+    (cond-all (ltb (z .count) 24) (workedC b (f false) (suc k) (plusC z (oppositeC e)) (workedC b (f true) (suc k) (plusC z e) out))
+    (refusedC 8 out) out
+    (ap (workedC b (f false) (suc k) (plusC z (oppositeC e))) (sticks b (f true) (suc k) (plusC z e) out h)
+    ∙ sticks b (f false) (suc k) (plusC z (oppositeC e)) out h)
     (refused-stays 8 out h)))
 
 -- ---- a tree worked
@@ -148,82 +176,103 @@ module _ (b : Ranges) (visit : ℕ) where
       (worked-sound (f true) (g .1 true) (is ++ (e ∷ [])) (listed zs) s)) refl))
   worked-sound (asks e f) g is (refused n k) s = s
 
+  abbrev counts : Tree → ℕ → List Affine → Outcome → Outcome
+  counts t k is o = counting (rangeList b) visit t k is o
+
+  -- what a tree leads to is sound
+  counted-sound : (t : Tree) → Good t → (k : ℕ) (is : List Affine) (o : Outcome) → Sound (withoutCounts o)
+      → Sound (withoutCounts (counts t k is o))
+  counted-sound t g k is o s =
+      subst Sound (sym (counting-without (rangeList b) visit t k is o)) (worked-sound t g is (withoutCounts o) s)
+
   module _ (m₀ : Bounds) where
     abbrev Coded : Tree → Type 0
     Coded t =
-        (is : List Affine) (o : Listing) → Sound o
-        → workedC b (treeOf t) (zoneOf (with-ineqs is m₀)) (coded visit o) ≡ coded visit (works t is o)
+        (k : ℕ) (is : List Affine) (o : Outcome) → Sound (withoutCounts o)
+        → workedC b (treeOf t) k (zoneOf (with-ineqs is m₀)) (codedWays visit o) ≡ codedWays visit (counts t k is o)
 
-    module _ (e : Affine) (f : Bool → Tree) (g : Good (asks e f)) (ih : (x : Bool) → Coded (f x)) (is : List Affine)
-        (zs : List cutting.Zone) (s : AllOf NarrowZone zs) where
+    module _ (e : Affine) (f : Bool → Tree) (g : Good (asks e f)) (ih : (x : Bool) → Coded (f x)) (k : ℕ) (is : List Affine)
+        (ws : List Way) (s : Sound (withoutCounts (leads ws))) where
       abbrev zone : Zone
       zone = zoneOf (with-ineqs is m₀)
 
-      abbrev goes : Bool → Zone → Zones → Zones
-      goes x z out = workedC b (treeOf (f x)) z out
+      -- one test more was asked
+      abbrev goes : Bool → Zone → Counted → Counted
+      goes x z out = workedC b (treeOf (f x)) (suc k) z out
+
+      abbrev leadsOn : Bool → List Affine → Outcome → Outcome
+      leadsOn x is o = counts (f x) (suc k) is o
 
       -- what was listed before
-      abbrev out : Zones
-      out = coded visit (listed zs)
+      abbrev out : Counted
+      out = codedWays visit (leads ws)
 
       -- both halves, as the code has them and as the cutting has them
-      abbrev halvesC : Zones
+      abbrev halvesC : Counted
       halvesC = goes false (plusC zone (exprOf (opposite e))) (goes true (plusC zone (exprOf e)) out)
 
-      abbrev halves : Listing
-      halves = works (f false) (is ++ (opposite e ∷ [])) (works (f true) (is ++ (e ∷ [])) (listed zs))
+      abbrev halves : Outcome
+      halves = leadsOn false (is ++ (opposite e ∷ [])) (leadsOn true (is ++ (e ∷ [])) (leads ws))
 
-      split-coded : length is < 24 → halvesC ≡ coded visit halves
+      split-coded : length is < 24 → halvesC ≡ codedWays visit halves
       split-coded h =
           ap (λ (z : Zone). goes false z (goes true (plusC zone (exprOf e)) out)) (plus-coded is m₀ (opposite e) h)
           ∙ ap (λ (z : Zone). goes false (zoneOf (with-ineqs (is ++ (opposite e ∷ [])) m₀)) (goes true z out)) (plus-coded is m₀ e h)
-          ∙ ap (goes false (zoneOf (with-ineqs (is ++ (opposite e ∷ [])) m₀))) (ih true (is ++ (e ∷ [])) (listed zs) s)
-          ∙ ih false (is ++ (opposite e ∷ [])) (works (f true) (is ++ (e ∷ [])) (listed zs))
-          (worked-sound (f true) (g .1 true) (is ++ (e ∷ [])) (listed zs) s)
+          ∙ ap (goes false (zoneOf (with-ineqs (is ++ (opposite e ∷ [])) m₀))) (ih true (suc k) (is ++ (e ∷ [])) (leads ws) s)
+          ∙ ih false (suc k) (is ++ (opposite e ∷ [])) (leadsOn true (is ++ (e ∷ [])) (leads ws))
+          (counted-sound (f true) (g .1 true) (suc k) (is ++ (e ∷ [])) (leads ws) s)
 
-      room-coded : (x : Bool) → ltb (length is) 24 ≡ x → cond x halvesC (refusedC 8 out) ≡ coded visit (cond x halves (refused 8 visit))
-      unfolding refusedC coded
+      room-coded : (x : Bool) → ltb (length is) 24 ≡ x
+          → cond x halvesC (refusedC 8 out) ≡ codedWays visit (cond x halves (refuses 8 visit))
+      unfolding refusedC coded codedWays
       room-coded true h = split-coded (ltb-true (length is) 24 h)
       room-coded false h = refl
 
       all-coded : (x : Bool)
           → cond x (goes true zone out) (cond (ltb (length is) 24) halvesC (refusedC 8 out))
-          ≡ coded visit (cond x (works (f true) is (listed zs)) (cond (ltb (length is) INEQS) halves (refused 8 visit)))
-      all-coded true = ih true is (listed zs) s
+          ≡ codedWays visit (cond x (leadsOn true is (leads ws)) (cond (ltb (length is) INEQS) halves (refuses 8 visit)))
+      all-coded true = ih true (suc k) is (leads ws) s
       all-coded false = room-coded (ltb (length is) 24) refl
 
       none-coded : (x : Bool)
           → cond x (goes false zone out)
           (cond (never (rangeList b) is (opposite e)) (goes true zone out) (cond (ltb (length is) 24) halvesC (refusedC 8 out)))
-          ≡ coded visit (cond x (works (f false) is (listed zs))
-          (cond (never (rangeList b) is (opposite e)) (works (f true) is (listed zs))
-          (cond (ltb (length is) INEQS) halves (refused 8 visit))))
-      none-coded true = ih false is (listed zs) s
+          ≡ codedWays visit (cond x (leadsOn false is (leads ws))
+          (cond (never (rangeList b) is (opposite e)) (leadsOn true is (leads ws))
+          (cond (ltb (length is) INEQS) halves (refuses 8 visit))))
+      none-coded true = ih false (suc k) is (leads ws) s
       none-coded false = all-coded (never (rangeList b) is (opposite e))
 
-      asks-coded : workedC b (treeOf (asks e f)) zone out ≡ coded visit (works (asks e f) is (listed zs))
-      unfolding workedC worked zoneOf
+      asks-coded : workedC b (treeOf (asks e f)) k zone out ≡ codedWays visit (counts (asks e f) k is (leads ws))
+      unfolding workedC counting zoneOf
       asks-coded =
           rw (opposite-coded e (g .0))
           (rw (never-coded b is m₀ e, never-coded b is m₀ (opposite e)) (none-coded (never (rangeList b) is e)))
 
-    stuck : (t : Tree) (is : List Affine) (n k : ℕ) → eqb n 0 ≡ false
-        → workedC b (treeOf t) (zoneOf (with-ineqs is m₀)) (coded visit (refused n k)) ≡ coded visit (works t is (refused n k))
-    unfolding coded
-    stuck t is n k s =
-        sticks b (treeOf t) (zoneOf (with-ineqs is m₀)) (coded visit (refused n k)) s
-        ∙ ap (coded visit) (sym (worked-refused (rangeList b) visit t is n k))
+    counting-refused : (t : Tree) (k : ℕ) (is : List Affine) (n v : ℕ) → counts t k is (refuses n v) ≡ refuses n v
+    unfolding counting
+    counting-refused cut k is n v = refl
+    counting-refused (keep m) k is n v = refl
+    counting-refused wideTree k is n v = refl
+    counting-refused (asks e f) k is n v = refl
+
+    stuck : (t : Tree) (k : ℕ) (is : List Affine) (n v : ℕ) → eqb n 0 ≡ false
+        → workedC b (treeOf t) k (zoneOf (with-ineqs is m₀)) (codedWays visit (refuses n v)) ≡ codedWays visit (counts t k is (refuses n v))
+    unfolding coded codedWays
+    stuck t k is n v s =
+        sticks b (treeOf t) k (zoneOf (with-ineqs is m₀)) (codedWays visit (refuses n v)) s
+        ∙ ap (codedWays visit) (sym (counting-refused t k is n v))
 
     pub worked-coded : (t : Tree) → Good t → Coded t
-    unfolding workedC worked coded refusedC
-    worked-coded cut g is (listed zs) s = refl
-    worked-coded cut g is (refused n k) s = stuck cut is n k s
-    worked-coded (keep m) g is (listed zs) s = rw (other-bounds is m₀ m) (list-coded visit (with-ineqs is m) zs)
-    worked-coded (keep m) g is (refused n k) s = stuck (keep m) is n k s
-    worked-coded wideTree g is (listed zs) s = refl
-    worked-coded wideTree g is (refused n k) s = stuck wideTree is n k s
-    worked-coded (asks e f) g is (listed zs) s = asks-coded e f g (λ x. worked-coded (f x) (g .1 x)) is zs s
-    worked-coded (asks e f) g is (refused n k) s = stuck (asks e f) is n k s
+    unfolding workedC counting coded codedWays refusedC
+    worked-coded cut g k is (leads ws) s = refl
+    worked-coded cut g k is (refuses n v) s = stuck cut k is n v s
+    worked-coded (keep m) g k is (leads ws) s = rw (other-bounds is m₀ m) (list-coded visit (with-ineqs is m) k ws)
+    worked-coded (keep m) g k is (refuses n v) s = stuck (keep m) k is n v s
+    worked-coded wideTree g k is (leads ws) s = refl
+    worked-coded wideTree g k is (refuses n v) s = stuck wideTree k is n v s
+    worked-coded (asks e f) g k is (leads ws) s = asks-coded e f g (λ x. worked-coded (f x) (g .1 x)) k is ws s
+    worked-coded (asks e f) g k is (refuses n v) s = stuck (asks e f) k is n v s
 
 -- ---- one guard
 module _ (b : Ranges) (visit w : ℕ) (g : Guard) (four : w ≤ 4) (left : g .left ≤ 4) (right : g .right ≤ 4) where
@@ -234,41 +283,63 @@ module _ (b : Ranges) (visit w : ℕ) (g : Guard) (four : w ≤ 4) (left : g .le
   unfolding zoneOf
   trees-same z n = guard-same w (g .left) (g .right) (g .bound) (z .bounds) four left right (n .bounds)
 
-  zone-coded : (z : cutting.Zone) → NarrowZone z → (o : Listing) → Sound o
-      → cutC b (ruleC w g (zoneOf z)) (zoneOf z) (coded visit o) ≡ coded visit (worked (rangeList b) visit (tree z) (z .ineqs) o)
+  -- one zone, after what was listed before
+  abbrev one : cutting.Zone → Outcome → Outcome
+  one z o = counting (rangeList b) visit (tree z) 0 (z .ineqs) o
+
+  pub zone-coded : (z : cutting.Zone) → NarrowZone z → (o : Outcome) → Sound (withoutCounts o)
+      → cutC b (ruleC w g (zoneOf z)) (zoneOf z) (codedWays visit o) ≡ codedWays visit (one z o)
   unfolding cutC zoneOf
   zone-coded z n o s =
-      ap (λ (t : TreeC). workedC b t (zoneOf z) (coded visit o)) (trees-same z n .same)
-      ∙ worked-coded b visit (z .bounds) (tree z) (trees-same z n .good) (z .ineqs) o s
+      ap (λ (t : TreeC). workedC b t 0 (zoneOf z) (codedWays visit o)) (trees-same z n .same)
+      ∙ worked-coded b visit (z .bounds) (tree z) (trees-same z n .good) 0 (z .ineqs) o s
 
-  zone-sound : (z : cutting.Zone) → NarrowZone z → (o : Listing) → Sound o → Sound (worked (rangeList b) visit (tree z) (z .ineqs) o)
-  zone-sound z n o s = worked-sound b visit (tree z) (trees-same z n .good) (z .ineqs) o s
+  zone-sound : (z : cutting.Zone) → NarrowZone z → (o : Outcome) → Sound (withoutCounts o) → Sound (withoutCounts (one z o))
+  zone-sound z n o s = counted-sound b visit (tree z) (trees-same z n .good) 0 (z .ineqs) o s
 
-  each-sound : (zs : List cutting.Zone) → AllOf NarrowZone zs → (o : Listing) → Sound o → Sound (guardZones (rangeList b) visit w g zs o)
-  unfolding guardZones
+  -- zones in order
+  abbrev each : List cutting.Zone → Outcome → Outcome
+  each [] o = o
+  each (z ∷ zs) o = each zs (one z o)
+
+  each-sound : (zs : List cutting.Zone) → AllOf NarrowZone zs → (o : Outcome) → Sound (withoutCounts o) → Sound (withoutCounts (each zs o))
   each-sound [] a o s = s
-  each-sound (z ∷ zs) a o s = each-sound zs (a .1) (worked (rangeList b) visit (tree z) (z .ineqs) o) (zone-sound z (a .0) o s)
+  each-sound (z ∷ zs) a o s = each-sound zs (a .1) (one z o) (zone-sound z (a .0) o s)
 
-  each-coded : (zs : List cutting.Zone) → AllOf NarrowZone zs → (o : Listing) → Sound o
-      → cutAll b w g (map zoneOf zs) (coded visit o) ≡ coded visit (guardZones (rangeList b) visit w g zs o)
-  unfolding cutAll guardZones
+  each-coded : (zs : List cutting.Zone) → AllOf NarrowZone zs → (o : Outcome) → Sound (withoutCounts o)
+      → cutAll b w g (map zoneOf zs) (codedWays visit o) ≡ codedWays visit (each zs o)
+  unfolding cutAll
   each-coded [] a o s = refl
   each-coded (z ∷ zs) a o s =
-      ap (cutAll b w g (map zoneOf zs)) (zone-coded z (a .0) o s)
-      ∙ each-coded zs (a .1) (worked (rangeList b) visit (tree z) (z .ineqs) o) (zone-sound z (a .0) o s)
+      ap (cutAll b w g (map zoneOf zs)) (zone-coded z (a .0) o s) ∙ each-coded zs (a .1) (one z o) (zone-sound z (a .0) o s)
+
+  -- without the counts they are the cutting's
+  each-without : (zs : List cutting.Zone) (o : Outcome)
+      → withoutCounts (each zs o) ≡ guardZones (rangeList b) visit w g zs (withoutCounts o)
+  unfolding guardZones
+  each-without [] o = refl
+  each-without (z ∷ zs) o =
+      each-without zs (one z o)
+      ∙ ap (guardZones (rangeList b) visit w g zs) (counting-without (rangeList b) visit (tree z) 0 (z .ineqs) o)
 
   -- what follows on a listing that is not refused
   abbrev cuts : List cutting.Zone → Listing
   cuts zs = guardZones (rangeList b) visit w g zs (listed [])
 
   pub guard-sound : (o : Listing) → Sound o → Sound (andThen o cuts)
-  guard-sound (listed zs) s = each-sound zs s (listed []) tt
+  guard-sound (listed zs) s = subst Sound (each-without zs (leads [])) (each-sound zs s (leads []) tt)
   guard-sound (refused n k) s = s
 
+  zones-coded : (zs : List cutting.Zone) → AllOf NarrowZone zs
+      → cutAll b w g (map zoneOf zs) (codedWays visit (leads [])) .zones ≡ coded visit (cuts zs)
+  unfolding codedWays
+  zones-coded zs s =
+      ap (λ (o : Counted). o .zones) (each-coded zs s (leads []) tt) ∙ ap (coded visit) (each-without zs (leads []))
+
   pub guard-coded : (o : Listing) → Sound o → guardedC b w g (coded visit o) ≡ coded visit (andThen o cuts)
-  unfolding guardedC coded noneAt zonesIn
+  unfolding guardedC coded codedWays noneAt zonesIn
   guard-coded (listed zs) s =
-      rw (le-ltb 4 (g .left) left, le-ltb 4 (g .right) right, taken zoneOf blankZone (32 - length zs) zs) (each-coded zs s (listed []) tt)
+      rw (le-ltb 4 (g .left) left, le-ltb 4 (g .right) right, taken zoneOf blankZone (32 - length zs) zs) (zones-coded zs s)
   guard-coded (refused n k) s = rw (lt-ltb 0 n (some n s)) refl
     where
       some : (n : ℕ) → eqb n 0 ≡ false → 0 < n

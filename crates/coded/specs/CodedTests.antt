@@ -27,6 +27,7 @@ use Rattle.expr.specs.declared.range.Ranges.{Ranges}
 use Rattle.integer.specs.Order.{leZ-true}
 use Rattle.integer.specs.Split.{split, split-all}
 use Rattle.zones.specs.Settled.{oppositeC, isNone}
+use Rattle.coded.specs.Counts.{Narrow, NarrowB}
 
 -- the expression that the code's record stands for
 abbrev pub pad : Affine → Affine
@@ -154,20 +155,9 @@ pad-slack true false a b = pad-minus b a
 pad-slack false t a b = ap lessOne (pad-minus b a) ∙ pad-less (minus b a)
 
 -- ---- at most three coefficients
-pub record Narrow (e : Affine) : Type 0 where
-  pub three : length (e .coefs) ≤ 3
-
-abbrev pub NarrowB : Upper Affine → Type 0
-NarrowB none = Unit {0}
-NarrowB (upper s e) = Narrow e
-
 abbrev pub NarrowJ : Judged (Upper Affine) → Type 0
 NarrowJ (fine b) = NarrowB b
 NarrowJ wide = Unit {0}
-
--- every entry
-pub record NarrowM (m : Bounds) : Type 0 where
-  pub entry : (i j : ℕ) → NarrowB (m i j)
 
 plus-length : (cs ds : List ℤ) (n : ℕ) → length cs ≤ n → length ds ≤ n → length (plusL cs ds) ≤ n
 unfolding plusL

@@ -19,8 +19,9 @@ use Rattle.expr.specs.declared.bound.Test.{Test}
 use Rattle.expr.specs.declared.bound.Test.the-variants.{No}
 use Rattle.dbm.specs.Entries.{up-to-4}
 use Rattle.coded.specs.Records.{boundsOf}
+use Rattle.coded.specs.Counts.{NarrowB, NarrowM}
 use Rattle.coded.specs.Coded.{entry-at, getD-at, set-entry}
-use Rattle.coded.specs.CodedTests.{padB, NarrowB, NarrowJ, NarrowM, limit-narrow, zero-narrow, sum-narrow, pad-sum, pad-test}
+use Rattle.coded.specs.CodedTests.{padB, NarrowJ, limit-narrow, zero-narrow, sum-narrow, pad-sum, pad-test}
 use Rattle.coded.specs.CodedTests.{limit-pad, InLimit, Asked, tighter-asked}
 use Rattle.split.specs.Trees.{TreeC, cutT, keepT, wideT, askT, testedC, pushC, tightC, treeAt}
 use Rattle.constrain.specs.Rules.{entryC, sumC, tighterC, testSum, sumSum, viaBound, voidTest, tightTest, viaC, pushTest}

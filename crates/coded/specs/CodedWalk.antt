@@ -1,5 +1,5 @@
 -- What the code does along the whole route (Walked) is the cutting, for every accepted sheet: `zones-coded`.
-use mathlib.Core.Path.{_≡_, refl, sym, ap, _∙_}
+use mathlib.Core.Path.{_≡_, refl, sym, ap, subst, _∙_}
 use mathlib.Core.List.{List, [], _∷_, _++_, map}
 use mathlib.Core.Bool.{Bool, true, false, _&&_, cond}
 use Prim.Native.Nat.{ℕ, zero, suc, _+_, _-_, _/_, _%_, _^_, _≤_, _<_}
@@ -29,8 +29,9 @@ use Rattle.timed.specs.Right.{StepRight, filled-all, steps-right}
 use Rattle.timed.specs.Steps.{Step, delay, guard, resets, arrivalSteps, staySteps, moveSteps, stepsFrom, stepsOf, moves}
 use Rattle.timed.specs.Visits.{Visits, resetsThen, move-joined, steps-visits, steps-moves}
 use Rattle.coded.specs.Records.{rowOf, boundsOf, zoneOf, zonesIn, coded}
-use Rattle.coded.specs.CodedGuard.{NarrowZone, Sound, guard-sound, guard-coded}
-use Rattle.coded.specs.CodedTests.{NarrowB, NarrowM, zero-narrow}
+use Rattle.coded.specs.Counts.{NarrowB, NarrowM, NarrowZone}
+use Rattle.coded.specs.CodedGuard.{Sound, guard-sound, guard-coded}
+use Rattle.coded.specs.CodedTests.{zero-narrow}
 use Rattle.split.specs.Guarded.{guardedC}
 use Rattle.zones.specs.Zone.{blankZone}
 use Rattle.delay.specs.Delayed.{delayedB, resetPair, resetB, resetIfB, resetsB, onFirst, delayedZone, resetsZone, delayedAll}
@@ -258,6 +259,10 @@ module _ (parameters : ℕ) (b : Ranges) {w : ℕ} (four : w ≤ 4) where
       ∙ ap (coded (made k s + moves steps)) (next-is s steps o)
       ∙ ap (λ (j : ℕ). coded j (cuts (s ∷ steps) o)) (made-moves k s steps)
 
+  pub all-sound : (steps : List Step) → AllOf (StepRight parameters w) steps → (o : Listing) → Sound o → Sound (cuts steps o)
+  all-sound [] r o n = subst Sound (none-is o) n
+  all-sound (s ∷ steps) r o n = subst Sound (next-is s steps o) (all-sound steps (r .1) (cutBy s o) (step-sound s (r .0) o n))
+
 -- ---- the code's walk makes the steps along the route
 guards-then : (b : Ranges) (w k : ℕ) (rest : List Step) (gs : List Guard) (zs : Zones)
     → stepsAll b w k rest (guardsAll b w gs zs) ≡ stepsAll b w k (map (guard k) gs ++ rest) zs
@@ -350,6 +355,15 @@ route-length {s} f =
     let long = f .route .long in
     simp length-take (omega arith)
 
+start-sound : Sound (listed (startZone ∷ []))
+start-sound = (record { bounds = start-narrow }, tt)
+
+-- what the cutting lists is narrow
+pub zones-narrow : (s : Sheet) → WellFormed s → (route : List ℕ) → Sound (zonesAlong s route)
+unfolding zonesAlong
+zones-narrow s f route =
+    all-sound (s .parameters) (s .ranges) (f .clocks) (stepsOf s route) (steps-right f route) (listed (startZone ∷ [])) start-sound
+
 -- what the code lists is what the cutting lists, or both are refused alike
 pub zones-coded : (s : Sheet) → WellFormed s → zonesAll s ≡ coded (s .moves) (zonesOf s)
 unfolding zonesOf zonesAlong
@@ -358,6 +372,5 @@ zones-coded s f =
     route-is f
     ∙ ap (stepsAll (s .ranges) (s .clocks) 0 steps) start-coded
     ∙ all-coded (s .parameters) (s .ranges) (f .clocks) steps 0 (steps-visits s (routeOf s)) (steps-right f (routeOf s))
-    (listed (startZone ∷ []))
-    (record { bounds = start-narrow }, tt)
+    (listed (startZone ∷ [])) start-sound
     ∙ ap (λ (k : ℕ). coded k (zonesOf s)) (ap (λ (k : ℕ). 0 + k) (steps-moves s (routeOf s)) ∙ route-length f)

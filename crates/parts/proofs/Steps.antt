@@ -3,13 +3,15 @@ use mathlib.Core.Path.{_≡_, refl, sym, ap, _∙_}
 use mathlib.Core.List.{List}
 use mathlib.Core.Bool.{Bool, true, false, cond}
 use Prim.Native.Nat.{ℕ, _+_, _-_, _≤_, _<_}
+use native.Mathlib.Omega.{arith}
 use borrow.Author.Tests.{lt-ltb, le-ltb}
 use lib.ListN.{length}
 use lib.Seq.{set-out}
 use Rattle.expr.specs.declared.bound.Bound.{Bound}
 use Rattle.expr.specs.declared.bound.Test.{Test}
+use Rattle.expr.specs.declared.bound.Test.the-variants.{Yes, No, Ask, Wide as TestWide}
 use Rattle.expr.specs.declared.range.Ranges.{Ranges}
-use Rattle.parts.specs.Parts.{pushedC, answeredC, haltedC, forwardC, standing, putC, withBounds}
+use Rattle.parts.specs.Parts.{pushedC, answeredC, haltedC, testsIn, countedC, forwardC, standing, putC, withBounds}
 use Rattle.constrain.specs.Rules.{viaBound, viaC, askC}
 use Rattle.zones.specs.Settled.{settledC}
 use Rattle.parts.specs.declared.part.Part.{Part}
@@ -19,7 +21,9 @@ use Rattle.zones.specs.declared.settle.Verdict.{Verdict}
 -- ---- an entry put in
 pub put-past : (p : Part) (x : ℕ) (b : Bound) → length (p .zone .bounds) ≤ x → p ≡ putC p x b
 put-past p x b h =
-    ap (λ (l : List Bound). record { phase = p .phase; halt = p .halt; test = p .test; zone = withBounds (p .zone) l })
+    ap
+    (λ (l : List Bound).
+    record { phase = p .phase; halt = p .halt; tests = p .tests; test = p .test; zone = withBounds (p .zone) l })
     (sym (set-out (p .zone .bounds) x b h))
 
 -- ---- parts
@@ -64,22 +68,32 @@ module _ (r : Rule) (p : Part) (b : Bool) where
     unfolding answeredC
     push-answer k = rw (le-ltb (p .phase) 1 h, le-ltb (p .phase) 2 k) refl
 
-module _ (b : Ranges) (r : Rule) (p : Part) (t : Test) (ht : t ≡ askC r (p .phase)) (v : Verdict) (hv : v ≡ settledC b (p .zone) t) where
+pub tests-few : (t : Test) → testsIn t ≤ 1
+tests-few Yes = omega arith
+tests-few No = omega arith
+tests-few (Ask e) = omega arith
+tests-few TestWide = omega arith
+
+module _ (b : Ranges) (r : Rule) (p : Part) (t : Test) (ht : t ≡ askC r (p .phase)) (v : Verdict) (hv : v ≡ settledC b (p .zone) t)
+    (q : Part) (hq : q ≡ countedC p t) where
   verdict : v ≡ settledC b (p .zone) (askC r (p .phase))
   verdict = hv ∙ ap (settledC b (p .zone)) ht
 
   kind : v .kind ≡ settledC b (p .zone) (askC r (p .phase)) .kind
   kind = ap (λ (x : Verdict). x .kind) verdict
 
-  pub forward-no : v .kind < 1 → answeredC r p false ≡ forwardC b r p
+  part : q ≡ countedC p (askC r (p .phase))
+  part = hq ∙ ap (countedC p) ht
+
+  pub forward-no : v .kind < 1 → answeredC r q false ≡ forwardC b r p
   unfolding forwardC
-  forward-no h = rw (sym kind, lt-ltb (v .kind) 1 h) refl
+  forward-no h = rw (sym kind, lt-ltb (v .kind) 1 h, sym part) refl
 
   module _ (h : 1 ≤ v .kind) where
-    pub forward-yes : v .kind < 2 → answeredC r p true ≡ forwardC b r p
+    pub forward-yes : v .kind < 2 → answeredC r q true ≡ forwardC b r p
     unfolding forwardC
-    forward-yes k = rw (sym kind, le-ltb (v .kind) 1 h, lt-ltb (v .kind) 2 k) refl
+    forward-yes k = rw (sym kind, le-ltb (v .kind) 1 h, lt-ltb (v .kind) 2 k, sym part) refl
 
-    pub forward-halts : 2 ≤ v .kind → haltedC p v ≡ forwardC b r p
+    pub forward-halts : 2 ≤ v .kind → haltedC q v ≡ forwardC b r p
     unfolding forwardC
-    forward-halts k = rw (sym verdict, le-ltb (v .kind) 1 h, le-ltb (v .kind) 2 k) refl
+    forward-halts k = rw (sym verdict, le-ltb (v .kind) 1 h, le-ltb (v .kind) 2 k, sym part) refl

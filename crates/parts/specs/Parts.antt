@@ -1,12 +1,14 @@
 -- A part of a zone on its way through the tests of a guard: one test, and the two parts of a split, on the code's records.
 use mathlib.Core.List.{List}
 use mathlib.Core.Bool.{Bool, true, false, cond}
-use Prim.Native.Nat.{ℕ, _+_, _-_}
+use Prim.Native.Nat.{ℕ, _+_, _-_, min}
 use lib.Dec.{ltb}
 use lib.ListN.{set}
 use Rattle.constrain.specs.Rules.{viaC, viaBound, askC}
 use Rattle.constrain.specs.declared.rule.Rule.{Rule}
 use Rattle.expr.specs.declared.bound.Bound.{Bound}
+use Rattle.expr.specs.declared.bound.Test.{Test}
+use Rattle.expr.specs.declared.bound.Test.the-variants.{Yes, No, Ask, Wide as TestWide}
 use Rattle.expr.specs.declared.number.Expr.{Expr}
 use Rattle.expr.specs.declared.range.Ranges.{Ranges}
 use Rattle.parts.specs.declared.part.Part.{Part}
@@ -19,10 +21,17 @@ abbrev pub withBounds : Zone → List Bound → Zone
 withBounds z m = record { count = z .count; ineqs = z .ineqs; bounds = m }
 
 abbrev pub standing : Part → ℕ → ℕ → Part
-standing p phase halt = record { phase = phase; halt = halt; test = p .test; zone = p .zone }
+standing p phase halt = record { phase = phase; halt = halt; tests = p .tests; test = p .test; zone = p .zone }
 
 abbrev pub putC : Part → ℕ → Bound → Part
-putC p x b = record { phase = p .phase; halt = p .halt; test = p .test; zone = withBounds (p .zone) (set (p .zone .bounds) x b) }
+putC p x b =
+    record {
+      phase = p .phase;
+      halt = p .halt;
+      tests = p .tests;
+      test = p .test;
+      zone = withBounds (p .zone) (set (p .zone .bounds) x b);
+    }
 
 unfoldable pub pushedC : Rule → Part → ℕ → Bool → Part
 pushedC r p x b =
@@ -35,16 +44,30 @@ answeredC r p b =
     (cond (ltb (p .phase) 2) (cond b (standing p 2 0) (standing p 27 2)) (pushedC r p (p .phase - 2) b))
 
 abbrev pub haltedC : Part → Verdict → Part
-haltedC p v = record { phase = p .phase; halt = v .kind; test = v .test; zone = p .zone }
+haltedC p v = record { phase = p .phase; halt = v .kind; tests = p .tests; test = v .test; zone = p .zone }
+
+-- how many tests a test is: an answer that comes without asking is none
+abbrev pub testsIn : Test → ℕ
+testsIn Yes = 0
+testsIn No = 0
+testsIn (Ask e) = 1
+testsIn TestWide = 0
+
+-- the part with its test counted; one that goes on has asked 26 at most
+unfoldable pub countedC : Part → Test → Part
+countedC p t =
+    record { phase = p .phase; halt = p .halt; tests = min (p .tests) 26 + testsIn t; test = p .test; zone = p .zone }
 
 unfoldable pub forwardC : Ranges → Rule → Part → Part
 forwardC b r p =
-    let v = settledC b (p .zone) (askC r (p .phase)) in
-    cond (ltb (v .kind) 1) (answeredC r p false) (cond (ltb (v .kind) 2) (answeredC r p true) (haltedC p v))
+    let t = askC r (p .phase) in
+    let v = settledC b (p .zone) t in
+    let q = countedC p t in
+    cond (ltb (v .kind) 1) (answeredC r q false) (cond (ltb (v .kind) 2) (answeredC r q true) (haltedC q v))
 
 -- the two parts of a split
 abbrev pub withMore : Part → Expr → Part
-withMore p e = record { phase = p .phase; halt = 0; test = p .test; zone = moreC (p .zone) e }
+withMore p e = record { phase = p .phase; halt = 0; tests = p .tests; test = p .test; zone = moreC (p .zone) e }
 
 unfoldable pub yesC : Rule → Part → Part
 yesC r p = answeredC r (withMore p (p .test)) true

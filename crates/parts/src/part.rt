@@ -4,17 +4,19 @@ use constrain::Rule;
 use expr::Bound;
 use expr::Expr;
 use expr::Ranges;
+use expr::Test;
 use zones::Verdict;
 use zones::Zone;
 ghost use mathlib.Core.Path.{_≡_};
 ghost use Rattle.constrain.specs.Rules.{viaC, viaBound};
-ghost use Rattle.parts.specs.Parts.{standing, putC, pushedC, answeredC, forwardC, yesC, noC};
+ghost use Rattle.parts.specs.Parts.{standing, putC, pushedC, answeredC, haltedC, testsIn, countedC, forwardC, yesC, noC};
 
 // A part: the test that comes next (27: none); whether it goes on (0), is cut (1), is kept (2), splits by the test (3), or is refused
-// (8, 9); and its zone, whose matrix is the new one.
+// (8, 9); how many tests were asked on its way; and its zone, whose matrix is the new one.
 pub struct Part {
     pub phase: usize,
     pub halt: usize,
+    pub tests: usize,
     pub test: Expr,
     pub zone: Zone,
 }
@@ -28,6 +30,7 @@ fn at(p: Part, phase: usize, halt: usize) -> Part
     Part {
         phase,
         halt,
+        tests: p.tests,
         test,
         zone,
     }
@@ -44,6 +47,7 @@ fn put(p: Part, x: usize, b: Bound) -> Part
         return Part {
             phase: p.phase,
             halt: p.halt,
+            tests: p.tests,
             test,
             zone,
         };
@@ -93,14 +97,42 @@ fn answered(r: Rule, p: Part, yes: bool) -> Part
 
 // A part that stops at its test.
 fn halted(p: Part, v: Verdict) -> Part
-    ensures { λ q. ⌜ q ≡ record { phase = p .phase; halt = v .kind; test = v .test; zone = p .zone } ⌝ }
+    ensures { λ q. ⌜ q ≡ haltedC p v ⌝ }
 {
     let zone = p.zone;
     let test = v.test;
     Part {
         phase: p.phase,
         halt: v.kind,
+        tests: p.tests,
         test,
+        zone,
+    }
+}
+
+// How many tests a test is: an answer that comes without asking is none.
+fn tests_in(test: Test) -> usize
+    ensures { λ n. ⌜ n ≡ testsIn test ⌝ }
+{
+    match test {
+        Test::Yes => 0,
+        Test::No => 0,
+        Test::Ask(_) => 1,
+        Test::Wide => 0,
+    }
+}
+
+// The part with its test counted. A part that goes on has asked 26 tests at most, one in each phase before the last.
+fn counted(p: Part, test: Test) -> Part
+    ensures { λ q. ⌜ q ≡ countedC p test ⌝ }
+{
+    let zone = p.zone;
+    let expr = p.test;
+    Part {
+        phase: p.phase,
+        halt: p.halt,
+        tests: numbers::at_most(p.tests, 26) + tests_in(test),
+        test: expr,
         zone,
     }
 }
@@ -110,14 +142,16 @@ pub fn forward(b: Ranges, r: Rule, p: Part) -> Part
     ensures { λ q. ⌜ q ≡ forwardC b r p ⌝ }
 {
     let zone = p.zone;
-    let v = zones::settled(b, zone, constrain::asked(r, p.phase));
+    let test = constrain::asked(r, p.phase);
+    let v = zones::settled(b, zone, test);
+    let q = counted(p, test);
     if v.kind < 1 {
-        return answered(r, p, false);
+        return answered(r, q, false);
     }
     if v.kind < 2 {
-        return answered(r, p, true);
+        return answered(r, q, true);
     }
-    halted(p, v)
+    halted(q, v)
 }
 
 // The yes part of a split.
@@ -130,6 +164,7 @@ pub fn yes_part(r: Rule, p: Part) -> Part
     let part = Part {
         phase: p.phase,
         halt: 0,
+        tests: p.tests,
         test,
         zone: more,
     };
@@ -146,6 +181,7 @@ pub fn no_part(r: Rule, p: Part) -> Part
     let part = Part {
         phase: p.phase,
         halt: 0,
+        tests: p.tests,
         test,
         zone: more,
     };

@@ -2,7 +2,8 @@
 use mathlib.Core.Path.{_≡_, refl, sym, ap, subst, _∙_}
 use mathlib.Core.List.{List}
 use mathlib.Core.Bool.{Bool, true, false, cond}
-use Prim.Native.Nat.{ℕ, zero, suc, _+_, _-_, _≤_, _<_}
+use Prim.Native.Nat.{ℕ, zero, suc, _+_, _-_, _≤_, _<_, min}
+use native.Mathlib.Numerals.{add-one}
 use native.Mathlib.Omega.{arith}
 use borrow.Author.Tests.{lt-ltb, le-ltb, eq-eqb, ne-eqb, ltb-true, ltb-false}
 use lib.Dec.{ltb, eqb}
@@ -15,7 +16,8 @@ use Rattle.expr.specs.declared.range.Ranges.{Ranges}
 use Rattle.split.specs.Listed.{refusedC, listC}
 use Rattle.expr.specs.Three.{zeroExpr}
 use Rattle.zones.specs.Zone.{plusC, moreC}
-use Rattle.parts.specs.Parts.{withBounds, standing, putC, pushedC, answeredC, haltedC, forwardC, withMore, yesC, noC}
+use Rattle.parts.specs.Parts.{withBounds, standing, putC, pushedC, answeredC, haltedC}
+use Rattle.parts.specs.Parts.{testsIn, countedC, forwardC, withMore, yesC, noC}
 use Rattle.split.specs.Trees.{TreeC, cutT, keepT, wideT, askT, testedC, pushC, tightC, treeAt, workedC, endedC, meant, meantEnd}
 use Rattle.split.specs.Trees.{Live, Ran}
 use Rattle.constrain.specs.Rules.{viaC, viaBound, askC}
@@ -24,20 +26,21 @@ use Rattle.parts.specs.declared.part.Part.{Part}
 use Rattle.constrain.specs.declared.rule.Rule.{Rule}
 use Rattle.zones.specs.declared.settle.Verdict.{Verdict}
 use Rattle.zones.specs.declared.zone.Zone.{Zone}
-use Rattle.zones.specs.declared.zone.Zones.{Zones}
+use Rattle.split.specs.declared.list.Counted.{Counted}
 
 -- a tree looks at a zone's inequalities only
-worked-bounds : (b : Ranges) (t : TreeC) (z : Zone) (m : List Bound) (out : Zones) → workedC b t (withBounds z m) out ≡ workedC b t z out
+worked-bounds : (b : Ranges) (t : TreeC) (k : ℕ) (z : Zone) (m : List Bound) (out : Counted)
+    → workedC b t k (withBounds z m) out ≡ workedC b t k z out
 unfolding workedC neverC plusC
-worked-bounds b cutT z m out = refl
-worked-bounds b (keepT n) z m out = refl
-worked-bounds b wideT z m out = refl
-worked-bounds b (askT e f) z m out =
+worked-bounds b cutT k z m out = refl
+worked-bounds b (keepT n) k z m out = refl
+worked-bounds b wideT k z m out = refl
+worked-bounds b (askT e f) k z m out =
     rw (
-      worked-bounds b (f false) z m out,
-      worked-bounds b (f true) z m out,
-      worked-bounds b (f true) (plusC z e) m out,
-      worked-bounds b (f false) (plusC z (oppositeC e)) m (workedC b (f true) (plusC z e) out),
+      worked-bounds b (f false) (suc k) z m out,
+      worked-bounds b (f true) (suc k) z m out,
+      worked-bounds b (f true) (suc k) (plusC z e) m out,
+      worked-bounds b (f false) (suc k) (plusC z (oppositeC e)) m (workedC b (f true) (suc k) (plusC z e) out),
     ) refl
 
 -- what follows the test of a phase
@@ -58,21 +61,28 @@ tree-at r (suc (suc x)) new h =
 
 -- ---- a part after an answer
 record Answered (b : Ranges) (r : Rule) (q : Part) (t : Bool) (a : Part) : Type 0 where
-  live : Live a
+  below : a .halt < 3
+  early : a .halt < 1 → a .phase < 27
+  tests : a .tests ≡ q .tests
   later : q .phase < a .phase
   count : a .zone .count ≡ q .zone .count
-  worth : (out : Zones) → meant b r a out ≡ workedC b (cont r (q .phase) (q .zone .bounds) t) (q .zone) out
+  worth : (out : Counted) → meant b r a out ≡ workedC b (cont r (q .phase) (q .zone .bounds) t) (q .tests) (q .zone) out
+
+-- it waits for its turn, if no more tests were asked than phases are behind it
+answered-live : {b : Ranges} {r : Rule} {q : Part} {t : Bool} {a : Part} → Answered b r q t a → q .tests ≤ suc (q .phase) → Live a
+answered-live a k = record { below = a .below; early = a .early; counted = omega (arith, a .tests, a .later) }
 
 module _ (b : Ranges) (r : Rule) where
-  meant-cut : (p : Part) (out : Zones) → meant b r (standing p 27 1) out ≡ out
+  meant-cut : (p : Part) (out : Counted) → meant b r (standing p 27 1) out ≡ out
   unfolding meant endedC
   meant-cut p out = refl
 
-  meant-kept : (p : Part) (out : Zones) → meant b r (standing p 27 2) out ≡ listC (p .zone) out
+  meant-kept : (p : Part) (out : Counted) → meant b r (standing p 27 2) out ≡ listC (p .zone) (p .tests) out
   unfolding meant endedC
   meant-kept p out = refl
 
-  meant-on : (p : Part) (k : ℕ) (out : Zones) → meant b r (standing p k 0) out ≡ workedC b (treeAt r k (p .zone .bounds)) (p .zone) out
+  meant-on : (p : Part) (k : ℕ) (out : Counted)
+      → meant b r (standing p k 0) out ≡ workedC b (treeAt r k (p .zone .bounds)) (p .tests) (p .zone) out
   unfolding meant
   meant-on p k out = refl
 
@@ -83,6 +93,10 @@ module _ (b : Ranges) (r : Rule) where
   entered-count : (p : Part) (x : ℕ) (t : Bool) → entered p x t .zone .count ≡ p .zone .count
   entered-count p x true = refl
   entered-count p x false = refl
+
+  entered-tests : (p : Part) (x : ℕ) (t : Bool) → entered p x t .tests ≡ p .tests
+  entered-tests p x true = refl
+  entered-tests p x false = refl
 
   cont-on : (x : ℕ) (new : List Bound) (t : Bool) → x < 24
       → treeAt r (x + 3) (cond t (set new x (viaBound (viaC r x))) new) ≡ cont r (suc (suc x)) new t
@@ -97,35 +111,36 @@ module _ (b : Ranges) (r : Rule) where
   unfolding cont pushC
   cont-last x new t l = let none : 24 - x ≡ 0 = omega arith in rw none refl
 
-  at-phase : (q : Part) (k : ℕ) (t : Bool) (l out : Zones) → q .phase ≡ k
-      → l ≡ workedC b (cont r k (q .zone .bounds) t) (q .zone) out → l ≡ workedC b (cont r (q .phase) (q .zone .bounds) t) (q .zone) out
+  at-phase : (q : Part) (k : ℕ) (t : Bool) (l out : Counted) → q .phase ≡ k
+      → l ≡ workedC b (cont r k (q .zone .bounds) t) (q .tests) (q .zone) out
+      → l ≡ workedC b (cont r (q .phase) (q .zone .bounds) t) (q .tests) (q .zone) out
   at-phase q k t l out e h = rw e h
 
-  on-entered : (q : Part) (x : ℕ) (t : Bool) (out : Zones)
-      → workedC b (treeAt r (x + 3) (entered q x t .zone .bounds)) (entered q x t .zone) out
-      ≡ workedC b (treeAt r (x + 3) (cond t (set (q .zone .bounds) x (viaBound (viaC r x))) (q .zone .bounds))) (q .zone) out
-  on-entered q x true out = worked-bounds b _ (q .zone) (set (q .zone .bounds) x (viaBound (viaC r x))) out
+  on-entered : (q : Part) (x : ℕ) (t : Bool) (out : Counted)
+      → workedC b (treeAt r (x + 3) (entered q x t .zone .bounds)) (entered q x t .tests) (entered q x t .zone) out
+      ≡ workedC b (treeAt r (x + 3) (cond t (set (q .zone .bounds) x (viaBound (viaC r x))) (q .zone .bounds))) (q .tests) (q .zone) out
+  on-entered q x true out = worked-bounds b _ (q .tests) (q .zone) (set (q .zone .bounds) x (viaBound (viaC r x))) out
   on-entered q x false out = refl
 
-  on-worth : (q : Part) (x : ℕ) (t : Bool) → q .phase ≡ suc (suc x) → x < 24 → (out : Zones)
-      → workedC b (treeAt r (x + 3) (entered q x t .zone .bounds)) (entered q x t .zone) out
-      ≡ workedC b (cont r (q .phase) (q .zone .bounds) t) (q .zone) out
+  on-worth : (q : Part) (x : ℕ) (t : Bool) → q .phase ≡ suc (suc x) → x < 24 → (out : Counted)
+      → workedC b (treeAt r (x + 3) (entered q x t .zone .bounds)) (entered q x t .tests) (entered q x t .zone) out
+      ≡ workedC b (cont r (q .phase) (q .zone .bounds) t) (q .tests) (q .zone) out
   on-worth q x t e l out =
       at-phase q (suc (suc x)) t _ out e
-      (on-entered q x t out ∙ ap (λ (tree : TreeC). workedC b tree (q .zone) out) (cont-on x (q .zone .bounds) t l))
+      (on-entered q x t out ∙ ap (λ (tree : TreeC). workedC b tree (q .tests) (q .zone) out) (cont-on x (q .zone .bounds) t l))
 
-  kept-worth : (q : Part) (x : ℕ) (t : Bool) (out : Zones)
-      → listC (entered q x t .zone) out
-      ≡ workedC b (keepT (cond t (set (q .zone .bounds) x (viaBound (viaC r x))) (q .zone .bounds))) (q .zone) out
+  kept-worth : (q : Part) (x : ℕ) (t : Bool) (out : Counted)
+      → listC (entered q x t .zone) (entered q x t .tests) out
+      ≡ workedC b (keepT (cond t (set (q .zone .bounds) x (viaBound (viaC r x))) (q .zone .bounds))) (q .tests) (q .zone) out
   unfolding workedC
   kept-worth q x true out = refl
   kept-worth q x false out = refl
 
-  last-worth : (q : Part) (x : ℕ) (t : Bool) → q .phase ≡ suc (suc x) → 24 ≤ x → (out : Zones)
-      → listC (entered q x t .zone) out ≡ workedC b (cont r (q .phase) (q .zone .bounds) t) (q .zone) out
+  last-worth : (q : Part) (x : ℕ) (t : Bool) → q .phase ≡ suc (suc x) → 24 ≤ x → (out : Counted)
+      → listC (entered q x t .zone) (entered q x t .tests) out ≡ workedC b (cont r (q .phase) (q .zone .bounds) t) (q .tests) (q .zone) out
   last-worth q x t e l out =
       at-phase q (suc (suc x)) t _ out e
-      (kept-worth q x t out ∙ ap (λ (tree : TreeC). workedC b tree (q .zone) out) (cont-last x (q .zone .bounds) t l))
+      (kept-worth q x t out ∙ ap (λ (tree : TreeC). workedC b tree (q .tests) (q .zone) out) (cont-last x (q .zone .bounds) t l))
 
   pushed-answered : (q : Part) (x : ℕ) (t : Bool) → q .phase ≡ suc (suc x) → x < 25 → Answered b r q t (pushedC r q x t)
   unfolding pushedC
@@ -135,7 +150,9 @@ module _ (b : Ranges) (r : Rule) where
       by true k =
           let l = ltb-true x 24 k in
           record {
-            live = record { below = omega arith; early = λ _. omega arith };
+            below = omega arith;
+            early = λ _. omega arith;
+            tests = entered-tests q x t;
             later = omega arith;
             count = entered-count q x t;
             worth = λ out. meant-on (entered q x t) (x + 3) out ∙ on-worth q x t e l out;
@@ -143,42 +160,51 @@ module _ (b : Ranges) (r : Rule) where
       by false k =
           let l = ltb-false x 24 k in
           record {
-            live = record { below = omega arith; early = λ z. absurd (omega arith) };
+            below = omega arith;
+            early = λ z. absurd (omega arith);
+            tests = entered-tests q x t;
             later = omega arith;
             count = entered-count q x t;
             worth = λ out. meant-kept (entered q x t) out ∙ last-worth q x t e l out;
           }
 
-  void-worth : (q : Part) → q .phase ≡ 0 → (out : Zones) → out ≡ workedC b (cont r (q .phase) (q .zone .bounds) true) (q .zone) out
+  void-worth : (q : Part) → q .phase ≡ 0 → (out : Counted)
+      → out ≡ workedC b (cont r (q .phase) (q .zone .bounds) true) (q .tests) (q .zone) out
   unfolding cont workedC
   void-worth q e out = rw e refl
 
-  not-void-worth : (q : Part) → q .phase ≡ 0 → (out : Zones)
-      → workedC b (treeAt r 1 (q .zone .bounds)) (q .zone) out ≡ workedC b (cont r (q .phase) (q .zone .bounds) false) (q .zone) out
+  not-void-worth : (q : Part) → q .phase ≡ 0 → (out : Counted)
+      → workedC b (treeAt r 1 (q .zone .bounds)) (q .tests) (q .zone) out
+      ≡ workedC b (cont r (q .phase) (q .zone .bounds) false) (q .tests) (q .zone) out
   unfolding cont treeAt
   not-void-worth q e out = rw e refl
 
-  tight-worth : (q : Part) → q .phase ≡ 1 → (out : Zones)
-      → workedC b (treeAt r 2 (q .zone .bounds)) (q .zone) out ≡ workedC b (cont r (q .phase) (q .zone .bounds) true) (q .zone) out
+  tight-worth : (q : Part) → q .phase ≡ 1 → (out : Counted)
+      → workedC b (treeAt r 2 (q .zone .bounds)) (q .tests) (q .zone) out
+      ≡ workedC b (cont r (q .phase) (q .zone .bounds) true) (q .tests) (q .zone) out
   unfolding cont treeAt
   tight-worth q e out = rw e refl
 
-  not-tight-worth : (q : Part) → q .phase ≡ 1 → (out : Zones)
-      → listC (q .zone) out ≡ workedC b (cont r (q .phase) (q .zone .bounds) false) (q .zone) out
+  not-tight-worth : (q : Part) → q .phase ≡ 1 → (out : Counted)
+      → listC (q .zone) (q .tests) out ≡ workedC b (cont r (q .phase) (q .zone .bounds) false) (q .tests) (q .zone) out
   unfolding cont workedC
   not-tight-worth q e out = rw e refl
 
   first-answer : (q : Part) (t : Bool) → q .phase ≡ 0 → Answered b r q t (cond t (standing q 27 1) (standing q 1 0))
   first-answer q true e =
       record {
-        live = record { below = omega arith; early = λ z. absurd (omega arith) };
+        below = omega arith;
+        early = λ z. absurd (omega arith);
+        tests = refl;
         later = omega arith;
         count = refl;
         worth = λ out. meant-cut q out ∙ void-worth q e out;
       }
   first-answer q false e =
       record {
-        live = record { below = omega arith; early = λ _. omega arith };
+        below = omega arith;
+        early = λ _. omega arith;
+        tests = refl;
         later = omega arith;
         count = refl;
         worth = λ out. meant-on q 1 out ∙ not-void-worth q e out;
@@ -187,14 +213,18 @@ module _ (b : Ranges) (r : Rule) where
   second-answer : (q : Part) (t : Bool) → q .phase ≡ 1 → Answered b r q t (cond t (standing q 2 0) (standing q 27 2))
   second-answer q true e =
       record {
-        live = record { below = omega arith; early = λ _. omega arith };
+        below = omega arith;
+        early = λ _. omega arith;
+        tests = refl;
         later = omega arith;
         count = refl;
         worth = λ out. meant-on q 2 out ∙ tight-worth q e out;
       }
   second-answer q false e =
       record {
-        live = record { below = omega arith; early = λ z. absurd (omega arith) };
+        below = omega arith;
+        early = λ z. absurd (omega arith);
+        tests = refl;
         later = omega arith;
         count = refl;
         worth = λ out. meant-kept q out ∙ not-tight-worth q e out;
@@ -211,9 +241,13 @@ module _ (b : Ranges) (r : Rule) where
   answer : (q : Part) (t : Bool) → q .phase < 27 → Answered b r q t (answeredC r q t)
   answer q t h = answer-at q (q .phase) t refl h
 
+-- ---- a part with k tests asked
+abbrev withTests : Part → ℕ → Part
+withTests q k = record { phase = q .phase; halt = q .halt; tests = k; test = q .test; zone = q .zone }
+
 -- ---- the two parts of a split have one inequality more
 abbrev plusPart : Part → Expr → Part
-plusPart p e = record { phase = p .phase; halt = 0; test = p .test; zone = plusC (p .zone) e }
+plusPart p e = record { phase = p .phase; halt = 0; tests = p .tests; test = p .test; zone = plusC (p .zone) e }
 
 module _ (r : Rule) (p : Part) (l : p .zone .count < 24) where
   yes-is : yesC r p ≡ answeredC r (plusPart p (p .test)) true
@@ -229,51 +263,52 @@ unfolding moreC plusC
 more-count z e l = rw (lt-ltb (z .count) 24 l) refl
 
 -- ---- a test on a zone
-module _ (b : Ranges) (e : Expr) (f : Bool → TreeC) (z : Zone) (out : Zones) where
-  ask-no : neverC b z e ≡ true → workedC b (f false) z out ≡ workedC b (askT e f) z out
+module _ (b : Ranges) (e : Expr) (f : Bool → TreeC) (k : ℕ) (z : Zone) (out : Counted) where
+  ask-no : neverC b z e ≡ true → workedC b (f false) (suc k) z out ≡ workedC b (askT e f) k z out
   unfolding workedC
   ask-no n = rw n refl
 
   module _ (n : neverC b z e ≡ false) where
-    ask-yes : neverC b z (oppositeC e) ≡ true → workedC b (f true) z out ≡ workedC b (askT e f) z out
+    ask-yes : neverC b z (oppositeC e) ≡ true → workedC b (f true) (suc k) z out ≡ workedC b (askT e f) k z out
     unfolding workedC
     ask-yes o = rw (n, o) refl
 
     module _ (o : neverC b z (oppositeC e) ≡ false) where
       ask-split : ltb (z .count) 24 ≡ true
-          → workedC b (f false) (plusC z (oppositeC e)) (workedC b (f true) (plusC z e) out) ≡ workedC b (askT e f) z out
+          → workedC b (f false) (suc k) (plusC z (oppositeC e)) (workedC b (f true) (suc k) (plusC z e) out) ≡ workedC b (askT e f) k z out
       unfolding workedC
       ask-split l = rw (n, o, l) refl
 
-      ask-full : ltb (z .count) 24 ≡ false → refusedC 8 out ≡ workedC b (askT e f) z out
+      ask-full : ltb (z .count) 24 ≡ false → refusedC 8 out ≡ workedC b (askT e f) k z out
       unfolding workedC
       ask-full l = rw (n, o, l) refl
 
 -- ---- a part on its way
 -- what a part comes to, on its way or stopped
-unfoldable pub reached : Ranges → Rule → Part → Zones → Zones
-reached b r q out = cond (ltb (q .halt) 1) (workedC b (treeAt r (q .phase) (q .zone .bounds)) (q .zone) out) (meantEnd b r q out)
+unfoldable pub reached : Ranges → Rule → Part → Counted → Counted
+reached b r q out = cond (ltb (q .halt) 1) (workedC b (treeAt r (q .phase) (q .zone .bounds)) (q .tests) (q .zone) out) (meantEnd b r q out)
 
 pub record Going (b : Ranges) (r : Rule) (p q : Part) : Type 0 where
-  pub same : (out : Zones) → reached b r q out ≡ meant b r p out
+  pub same : (out : Counted) → reached b r q out ≡ meant b r p out
   pub later : p .phase ≤ q .phase
   pub count : q .zone .count ≡ p .zone .count
   pub early : q .halt < 1 → q .phase < 27
-  pub splits : q .halt ≡ 3 → (q .phase < 27) × (q .zone .count < 24)
+  pub counted : q .halt < 1 → q .tests ≤ q .phase
+  pub splits : q .halt ≡ 3 → (q .phase < 27) × (q .zone .count < 24) × (q .tests ≤ suc (q .phase))
 
 -- what is left of the way
 abbrev pub left : Part → ℕ
 left q = cond (ltb (q .halt) 1) (28 - q .phase) 0
 
 module _ (b : Ranges) (r : Rule) where
-  live-reached : (a : Part) → Live a → (out : Zones) → reached b r a out ≡ meant b r a out
+  live-reached : (a : Part) → Live a → (out : Counted) → reached b r a out ≡ meant b r a out
   unfolding reached meant meantEnd
   live-reached a l out = by (ltb (a .halt) 1) refl
     where
       by : (t : Bool) → ltb (a .halt) 1 ≡ t
-          → cond t (workedC b (treeAt r (a .phase) (a .zone .bounds)) (a .zone) out)
+          → cond t (workedC b (treeAt r (a .phase) (a .zone .bounds)) (a .tests) (a .zone) out)
           (cond (eqb (a .halt) 3) (meant b r (noC r a) (meant b r (yesC r a) out)) (endedC a out))
-          ≡ cond t (workedC b (treeAt r (a .phase) (a .zone .bounds)) (a .zone) out) (endedC a out)
+          ≡ cond t (workedC b (treeAt r (a .phase) (a .zone .bounds)) (a .tests) (a .zone) out) (endedC a out)
       by true h = refl
       by false h = rw (ne-eqb (a .halt) 3 (λ e. absurd (omega (arith, l .below)))) refl
 
@@ -284,6 +319,7 @@ module _ (b : Ranges) (r : Rule) where
         later = omega arith;
         count = refl;
         early = l .early;
+        counted = λ _. l .counted;
         splits = λ e. absurd (omega (arith, l .below));
       }
 
@@ -296,7 +332,7 @@ module _ (b : Ranges) (r : Rule) where
             λ out.
             subst
             (λ (t : Bool).
-            cond t (workedC b (treeAt r (q .phase) (q .zone .bounds)) (q .zone) out) (meantEnd b r q out) ≡ meant b r p out)
+            cond t (workedC b (treeAt r (q .phase) (q .zone .bounds)) (q .tests) (q .zone) out) (meantEnd b r q out) ≡ meant b r p out)
             (le-ltb (q .halt) 1 h) (g .same out);
         later = g .later;
         count = g .count;
@@ -304,158 +340,207 @@ module _ (b : Ranges) (r : Rule) where
       }
 
   module _ (p q : Part) (g : Going b r p q) (h : q .halt < 1) where
-    here : (out : Zones) → workedC b (testedC (askC r (q .phase)) (cont r (q .phase) (q .zone .bounds))) (q .zone) out ≡ meant b r p out
-    unfolding reached
+    -- what follows its test
+    f : Bool → TreeC
+    f = cont r (q .phase) (q .zone .bounds)
+
+    -- what is to come of it
+    abbrev Worth : TreeC → ℕ → Type 0
+    Worth t k = (out : Counted) → workedC b t k (q .zone) out ≡ meant b r p out
+
+    here : Worth (testedC (askC r (q .phase)) f) (q .tests)
+    unfolding reached f
     here out =
-        subst (λ (t : TreeC). workedC b t (q .zone) out ≡ meant b r p out) (tree-at r (q .phase) (q .zone .bounds) (g .early h))
+        subst (λ (t : TreeC). workedC b t (q .tests) (q .zone) out ≡ meant b r p out) (tree-at r (q .phase) (q .zone .bounds) (g .early h))
         (subst
-        (λ (t : Bool). cond t (workedC b (treeAt r (q .phase) (q .zone .bounds)) (q .zone) out) (meantEnd b r q out) ≡ meant b r p out)
+        (λ (t : Bool).
+        cond t (workedC b (treeAt r (q .phase) (q .zone .bounds)) (q .tests) (q .zone) out) (meantEnd b r q out) ≡ meant b r p out)
         (lt-ltb (q .halt) 1 h) (g .same out))
 
-    -- the test is settled by t
-    answered-going : (t : Bool) → ((out : Zones) → workedC b (cont r (q .phase) (q .zone .bounds) t) (q .zone) out ≡ meant b r p out)
-        → Going b r p (answeredC r q t)
-    answered-going t w =
-        let a = answer b r q t (g .early h) in
-        record {
-          same = λ out. live-reached (answeredC r q t) (a .live) out ∙ a .worth out ∙ w out;
-          later = omega (arith, a .later, g .later);
-          count = a .count ∙ g .count;
-          early = a .live .early;
-          splits = λ e. absurd (omega (arith, a .live .below));
-        }
+    -- with k tests asked
+    abbrev at : ℕ → Part
+    at k = withTests q k
 
-    split-same : (e : Expr) → q .zone .count < 24 → (out : Zones)
-        → workedC b (cont r (q .phase) (q .zone .bounds) false) (plusC (q .zone) (oppositeC e))
-        (workedC b (cont r (q .phase) (q .zone .bounds) true) (plusC (q .zone) e) out)
-        ≡ meant b r p out
-        → reached b r (haltedC q (record { kind = 3; test = e })) out ≡ meant b r p out
-    unfolding reached meantEnd plusC
-    split-same e l out w =
-        let s = haltedC q (record { kind = 3; test = e }) in
-        let y = answer b r (plusPart s e) true (g .early h) in
-        let n = answer b r (plusPart s (oppositeC e)) false (g .early h) in
-        ap (λ (a : Part). meant b r (noC r s) (meant b r a out)) (yes-is r s l)
-        ∙ ap (λ (a : Part). meant b r a (meant b r (answeredC r (plusPart s e) true) out)) (no-is r s l)
-        ∙ n .worth (meant b r (answeredC r (plusPart s e) true) out)
-        ∙ ap (workedC b (cont r (q .phase) (q .zone .bounds) false) (plusC (q .zone) (oppositeC e))) (y .worth out) ∙ w
+    module _ (k : ℕ) (few : k ≤ suc (q .phase)) where
+      -- the test is settled by t
+      answered-going : (t : Bool) → Worth (f t) k → Going b r p (answeredC r (at k) t)
+      unfolding f
+      answered-going t w =
+          let a = answer b r (at k) t (g .early h) in
+          let live = answered-live a few in
+          record {
+            same = λ out. live-reached (answeredC r (at k) t) live out ∙ a .worth out ∙ w out;
+            later = omega (arith, a .later, g .later);
+            count = a .count ∙ g .count;
+            early = a .early;
+            counted = λ _. live .counted;
+            splits = λ e. absurd (omega (arith, a .below));
+          }
 
-    halted-going : (v : Verdict) → 1 ≤ v .kind → (v .kind ≡ 3 → q .zone .count < 24)
-        → ((out : Zones) → reached b r (haltedC q v) out ≡ meant b r p out) → Going b r p (haltedC q v)
-    halted-going v k l w =
-        record { same = w; later = g .later; count = g .count; early = λ z. absurd (omega arith); splits = λ z. (g .early h, l z) }
+      split-same : (e : Expr) → q .zone .count < 24 → (out : Counted)
+          → workedC b (f false) k (plusC (q .zone) (oppositeC e)) (workedC b (f true) k (plusC (q .zone) e) out) ≡ meant b r p out
+          → reached b r (haltedC (at k) (record { kind = 3; test = e })) out ≡ meant b r p out
+      unfolding reached meantEnd plusC f
+      split-same e l out w =
+          let s = haltedC (at k) (record { kind = 3; test = e }) in
+          let y = answer b r (plusPart s e) true (g .early h) in
+          let n = answer b r (plusPart s (oppositeC e)) false (g .early h) in
+          ap (λ (a : Part). meant b r (noC r s) (meant b r a out)) (yes-is r s l)
+          ∙ ap (λ (a : Part). meant b r a (meant b r (answeredC r (plusPart s e) true) out)) (no-is r s l)
+          ∙ n .worth (meant b r (answeredC r (plusPart s e) true) out)
+          ∙ ap (workedC b (cont r (q .phase) (q .zone .bounds) false) k (plusC (q .zone) (oppositeC e))) (y .worth out) ∙ w
 
-    refused-same : (v : Verdict) → 4 ≤ v .kind → (out : Zones) → refusedC (v .kind) out ≡ meant b r p out
-        → reached b r (haltedC q v) out ≡ meant b r p out
-    unfolding reached meantEnd endedC
-    refused-same v k out w =
-        rw (
-          le-ltb (v .kind) 1 (omega arith),
-          ne-eqb (v .kind) 3 (λ z. omega arith),
-          le-ltb (v .kind) 2 (omega arith),
-          le-ltb (v .kind) 3 (omega arith),
-          le-ltb (v .kind) 4 k,
-        )
-        w
+      halted-going : (v : Verdict) → 1 ≤ v .kind → (v .kind ≡ 3 → q .zone .count < 24)
+          → ((out : Counted) → reached b r (haltedC (at k) v) out ≡ meant b r p out) → Going b r p (haltedC (at k) v)
+      halted-going v i l w =
+          record {
+            same = w;
+            later = g .later;
+            count = g .count;
+            early = λ z. absurd (omega arith);
+            counted = λ z. absurd (omega arith);
+            splits = λ z. (g .early h, l z, few);
+          }
 
-    -- the verdicts
-    by-kind : Verdict → Part
-    by-kind v = cond (ltb (v .kind) 1) (answeredC r q false) (cond (ltb (v .kind) 2) (answeredC r q true) (haltedC q v))
+      refused-same : (v : Verdict) → 4 ≤ v .kind → (out : Counted) → refusedC (v .kind) out ≡ meant b r p out
+          → reached b r (haltedC (at k) v) out ≡ meant b r p out
+      unfolding reached meantEnd endedC
+      refused-same v i out w =
+          rw (
+            le-ltb (v .kind) 1 (omega arith),
+            ne-eqb (v .kind) 3 (λ z. omega arith),
+            le-ltb (v .kind) 2 (omega arith),
+            le-ltb (v .kind) 3 (omega arith),
+            le-ltb (v .kind) 4 i,
+          )
+          w
 
-    by-ask : (e : Expr) → askC r (q .phase) ≡ Ask e → Going b r p (by-kind (onC b (q .zone) e))
+      -- the verdicts
+      by-kind : Verdict → Part
+      by-kind v = cond (ltb (v .kind) 1) (answeredC r (at k) false) (cond (ltb (v .kind) 2) (answeredC r (at k) true) (haltedC (at k) v))
+
+    few-now : q .tests ≤ suc (q .phase)
+    few-now = omega (arith, g .counted h)
+
+    few-next : suc (q .tests) ≤ suc (q .phase)
+    few-next = omega (arith, g .counted h)
+
+    by-ask : (e : Expr) → askC r (q .phase) ≡ Ask e → Going b r p (by-kind (suc (q .tests)) few-next (onC b (q .zone) e))
     unfolding by-kind onC testedC
     by-ask e a = first (neverC b (q .zone) e) refl
       where
-        f : Bool → TreeC
-        f = cont r (q .phase) (q .zone .bounds)
+        k : ℕ
+        k = suc (q .tests)
 
-        worth : (out : Zones) → workedC b (askT e f) (q .zone) out ≡ meant b r p out
-        worth out = subst (λ (t : Test). workedC b (testedC t f) (q .zone) out ≡ meant b r p out) a (here out)
+        worth : Worth (askT e f) (q .tests)
+        worth out = subst (λ (t : Test). workedC b (testedC t f) (q .tests) (q .zone) out ≡ meant b r p out) a (here out)
 
         third : (t : Bool) → ltb (q .zone .count) 24 ≡ t → neverC b (q .zone) e ≡ false → neverC b (q .zone) (oppositeC e) ≡ false
-            → Going b r p (by-kind (cond t (record { kind = 3; test = e }) (record { kind = 8; test = e })))
+            → Going b r p (by-kind k few-next (cond t (record { kind = 3; test = e }) (record { kind = 8; test = e })))
         third true l n o =
-            halted-going (record { kind = 3; test = e }) (omega arith) (λ _. ltb-true (q .zone .count) 24 l)
-            (λ out. split-same e (ltb-true (q .zone .count) 24 l) out (ask-split b e f (q .zone) out n o l ∙ worth out))
+            halted-going k few-next (record { kind = 3; test = e }) (omega arith) (λ _. ltb-true (q .zone .count) 24 l)
+            (λ out. split-same k few-next e (ltb-true (q .zone .count) 24 l) out
+            (ask-split b e f (q .tests) (q .zone) out n o l ∙ worth out))
         third false l n o =
-            halted-going (record { kind = 8; test = e }) (omega arith) (λ z. absurd (omega arith))
-            (λ out. refused-same (record { kind = 8; test = e }) (omega arith) out (ask-full b e f (q .zone) out n o l ∙ worth out))
+            halted-going k few-next (record { kind = 8; test = e }) (omega arith) (λ z. absurd (omega arith))
+            (λ out. refused-same k few-next (record { kind = 8; test = e }) (omega arith) out
+            (ask-full b e f (q .tests) (q .zone) out n o l ∙ worth out))
 
         second : (t : Bool) → neverC b (q .zone) (oppositeC e) ≡ t → neverC b (q .zone) e ≡ false
             → Going b r p
-            (by-kind
+            (by-kind k few-next
             (cond t (record { kind = 1; test = e })
             (cond (ltb (q .zone .count) 24) (record { kind = 3; test = e }) (record { kind = 8; test = e }))))
-        second true o n = answered-going true (λ out. ask-yes b e f (q .zone) out n o ∙ worth out)
+        second true o n = answered-going k few-next true (λ out. ask-yes b e f (q .tests) (q .zone) out n o ∙ worth out)
         second false o n = third (ltb (q .zone .count) 24) refl n o
 
         first : (t : Bool) → neverC b (q .zone) e ≡ t
             → Going b r p
-            (by-kind
+            (by-kind k few-next
             (cond t (record { kind = 0; test = e })
             (cond (neverC b (q .zone) (oppositeC e)) (record { kind = 1; test = e })
             (cond (ltb (q .zone .count) 24) (record { kind = 3; test = e }) (record { kind = 8; test = e })))))
-        first true n = answered-going false (λ out. ask-no b e f (q .zone) out n ∙ worth out)
+        first true n = answered-going k few-next false (λ out. ask-no b e f (q .tests) (q .zone) out n ∙ worth out)
         first false n = second (neverC b (q .zone) (oppositeC e)) refl n
 
-    by-test : (t : Test) → askC r (q .phase) ≡ t → Going b r p (by-kind (settledC b (q .zone) t))
+    -- one that goes on has asked 26 tests at most
+    counted-is : (t : Test) → countedC q t ≡ at (q .tests + testsIn t)
+    unfolding countedC
+    counted-is t =
+        let m : min (q .tests) 26 ≡ q .tests = omega (arith, g .counted h, g .early h) in
+        ap (λ (n : ℕ). at (n + testsIn t)) m
+
+    -- what a test that is no question comes to
+    told : (t : Test) → askC r (q .phase) ≡ t → Worth (testedC t f) (q .tests)
+    told t a out = subst (λ (x : Test). workedC b (testedC x f) (q .tests) (q .zone) out ≡ meant b r p out) a (here out)
+
+    -- the part after its test
+    abbrev after : Test → Part → Part
+    after t c =
+        let v = settledC b (q .zone) t in
+        cond (ltb (v .kind) 1) (answeredC r c false) (cond (ltb (v .kind) 2) (answeredC r c true) (haltedC c v))
+
+    -- no test more
+    as-before : (P : ℕ → Type 0) → P (q .tests) → P (q .tests + 0)
+    as-before P h = let none : q .tests + 0 ≡ q .tests = omega arith in rw none h
+
+    by-test : (t : Test) → askC r (q .phase) ≡ t → Going b r p (after t (at (q .tests + testsIn t)))
     unfolding by-kind testedC workedC
-    by-test Yes a =
-        answered-going true
-        (λ out.
-        subst (λ (t : Test). workedC b (testedC t (cont r (q .phase) (q .zone .bounds))) (q .zone) out ≡ meant b r p out) a (here out))
-    by-test No a =
-        answered-going false
-        (λ out.
-        subst (λ (t : Test). workedC b (testedC t (cont r (q .phase) (q .zone .bounds))) (q .zone) out ≡ meant b r p out) a (here out))
-    by-test (Ask e) a = by-ask e a
+    by-test Yes a = as-before (λ k. Going b r p (after Yes (at k))) (answered-going (q .tests) few-now true (told Yes a))
+    by-test No a = as-before (λ k. Going b r p (after No (at k))) (answered-going (q .tests) few-now false (told No a))
+    by-test (Ask e) a = rw (add-one (q .tests)) (by-ask e a)
     by-test TestWide a =
-        halted-going (record { kind = 9; test = zeroExpr }) (omega arith) (λ z. absurd (omega arith))
-        (λ out. refused-same (record { kind = 9; test = zeroExpr }) (omega arith) out
-        (subst (λ (t : Test). workedC b (testedC t (cont r (q .phase) (q .zone .bounds))) (q .zone) out ≡ meant b r p out) a (here out)))
+        as-before (λ k. Going b r p (after TestWide (at k)))
+        (halted-going (q .tests) few-now (record { kind = 9; test = zeroExpr }) (omega arith) (λ z. absurd (omega arith))
+        (λ out. refused-same (q .tests) few-now (record { kind = 9; test = zeroExpr }) (omega arith) out (told TestWide a out)))
 
     pub goes-on : Going b r p (forwardC b r q)
-    unfolding forwardC by-kind
-    goes-on = by-test (askC r (q .phase)) refl
+    unfolding forwardC
+    goes-on =
+        subst (λ (c : Part). Going b r p (after (askC r (q .phase)) c)) (sym (counted-is (askC r (q .phase))))
+        (by-test (askC r (q .phase)) refl)
 
 -- ---- the way gets shorter
 module _ (b : Ranges) (r : Rule) (p q : Part) (g : Going b r p q) (h : q .halt < 1) where
   left-now : left q ≡ 28 - q .phase
   left-now = rw (lt-ltb (q .halt) 1 h) refl
 
-  answered-less : (t : Bool) → left (answeredC r q t) < left q
-  answered-less t =
-      let a = answer b r q t (g .early h) in
-      rw left-now (by (ltb (answeredC r q t .halt) 1) (a .later))
+  answered-less : (c : Part) (t : Bool) → c .phase ≡ q .phase → left (answeredC r c t) < left q
+  answered-less c t e =
+      let a = answer b r c t (omega (arith, g .early h)) in
+      rw left-now (by (ltb (answeredC r c t .halt) 1) (omega (arith, a .later)))
     where
-      by : (s : Bool) → q .phase < answeredC r q t .phase → cond s (28 - answeredC r q t .phase) 0 < 28 - q .phase
+      by : (s : Bool) → q .phase < answeredC r c t .phase → cond s (28 - answeredC r c t .phase) 0 < 28 - q .phase
       by true l = omega (arith, g .early h)
       by false l = omega (arith, g .early h)
 
-  halted-less : (v : Verdict) → 1 ≤ v .kind → left (haltedC q v) < left q
-  halted-less v k = rw (left-now, le-ltb (v .kind) 1 k) (omega (arith, g .early h))
+  halted-less : (c : Part) (v : Verdict) → 1 ≤ v .kind → left (haltedC c v) < left q
+  halted-less c v k = rw (left-now, le-ltb (v .kind) 1 k) (omega (arith, g .early h))
 
   pub left-less : left (forwardC b r q) < left q
-  unfolding forwardC
+  unfolding forwardC countedC
   left-less = by (ltb (v .kind) 1) refl
     where
       v : Verdict
       v = settledC b (q .zone) (askC r (q .phase))
 
-      second : (t : Bool) → ltb (v .kind) 2 ≡ t → 1 ≤ v .kind → left (cond t (answeredC r q true) (haltedC q v)) < left q
-      second true e k = answered-less true
-      second false e k = halted-less v k
+      c : Part
+      c = countedC q (askC r (q .phase))
+
+      second : (t : Bool) → ltb (v .kind) 2 ≡ t → 1 ≤ v .kind → left (cond t (answeredC r c true) (haltedC c v)) < left q
+      second true e k = answered-less c true refl
+      second false e k = halted-less c v k
 
       by : (t : Bool) → ltb (v .kind) 1 ≡ t
-          → left (cond t (answeredC r q false) (cond (ltb (v .kind) 2) (answeredC r q true) (haltedC q v))) < left q
-      by true e = answered-less false
+          → left (cond t (answeredC r c false) (cond (ltb (v .kind) 2) (answeredC r c true) (haltedC c v))) < left q
+      by true e = answered-less c false refl
       by false e = second (ltb (v .kind) 2) refl (ltb-false (v .kind) 1 e)
 
 -- ---- the two parts of a split, and a part that has stopped
 module _ (b : Ranges) (r : Rule) (q : Part) (h : q .phase < 27) where
-  pub yes-live : Live (yesC r q)
+  pub yes-live : q .tests ≤ suc (q .phase) → Live (yesC r q)
   unfolding yesC
-  yes-live = answer b r (withMore q (q .test)) true h .live
+  yes-live k = answered-live (answer b r (withMore q (q .test)) true h) k
 
   pub yes-later : q .phase < yesC r q .phase
   unfolding yesC
@@ -465,9 +550,9 @@ module _ (b : Ranges) (r : Rule) (q : Part) (h : q .phase < 27) where
   unfolding yesC
   yes-count l = answer b r (withMore q (q .test)) true h .count ∙ more-count (q .zone) (q .test) l
 
-  pub no-live : Live (noC r q)
+  pub no-live : q .tests ≤ suc (q .phase) → Live (noC r q)
   unfolding noC
-  no-live = answer b r (withMore q (oppositeC (q .test))) false h .live
+  no-live k = answered-live (answer b r (withMore q (oppositeC (q .test))) false h) k
 
   pub no-later : q .phase < noC r q .phase
   unfolding noC
@@ -477,7 +562,7 @@ module _ (b : Ranges) (r : Rule) (q : Part) (h : q .phase < 27) where
   unfolding noC
   no-count l = answer b r (withMore q (oppositeC (q .test))) false h .count ∙ more-count (q .zone) (oppositeC (q .test)) l
 
-module _ (b : Ranges) (r : Rule) (p q : Part) (g : Ran b r p q) (out : Zones) where
+module _ (b : Ranges) (r : Rule) (p q : Part) (g : Ran b r p q) (out : Counted) where
   pub ran-ended : (q .halt ≡ 3 → ⊥) → meant b r p out ≡ endedC q out
   unfolding meantEnd
   ran-ended h =
@@ -492,6 +577,6 @@ module _ (b : Ranges) (r : Rule) (p q : Part) (g : Ran b r p q) (out : Zones) wh
       (subst (λ (t : Bool). cond t (meant b r (noC r q) (meant b r (yesC r q) out)) (endedC q out) ≡ meant b r p out)
       (eq-eqb (q .halt) 3 h) (g .same out))
 
-pub split-leaves : (q : Part) (out : Zones) → q .halt ≡ 3 → endedC q out ≡ out
+pub split-leaves : (q : Part) (out : Counted) → q .halt ≡ 3 → endedC q out ≡ out
 unfolding endedC
 split-leaves q out h = rw h refl

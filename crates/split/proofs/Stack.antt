@@ -21,14 +21,14 @@ use Rattle.zones.specs.Settled.{oppositeC, neverC}
 use Rattle.parts.specs.declared.part.Part.{Part}
 use Rattle.constrain.specs.declared.rule.Rule.{Rule}
 use Rattle.zones.specs.declared.zone.Zone.{Zone}
-use Rattle.zones.specs.declared.zone.Zones.{Zones}
+use Rattle.split.specs.declared.list.Counted.{Counted}
 
 -- what is read past the stack's end
 abbrev pub noPart : Part
-noPart = record { phase = 0; halt = 0; test = zeroExpr; zone = record { count = 0; ineqs = []; bounds = [] } }
+noPart = record { phase = 0; halt = 0; tests = 0; test = zeroExpr; zone = record { count = 0; ineqs = []; bounds = [] } }
 
 -- the first n parts worked, from the top down
-unfoldable pub drained : Ranges → Rule → List Part → ℕ → Zones → Zones
+unfoldable pub drained : Ranges → Rule → List Part → ℕ → Counted → Counted
 drained b r st zero out = out
 drained b r st (suc k) out = drained b r st k (meant b r (getD st k noPart) out)
 
@@ -38,50 +38,51 @@ Waiting st zero = Unit {0}
 Waiting st (suc k) = (k ≤ getD st k noPart .zone .count) × Live (getD st k noPart) × Waiting st k
 
 -- ---- a refusal sticks
-refused-sticks : (n : ℕ) (out : Zones) → 0 < out .refusal → refusedC n out ≡ out
+refused-sticks : (n : ℕ) (out : Counted) → 0 < out .zones .refusal → refusedC n out ≡ out
 unfolding refusedC
-refused-sticks n out h = rw (ne-eqb (out .refusal) 0 (λ e. omega arith)) refl
+refused-sticks n out h = rw (ne-eqb (out .zones .refusal) 0 (λ e. omega arith)) refl
 
-list-sticks : (z : Zone) (out : Zones) → 0 < out .refusal → listC z out ≡ out
+list-sticks : (z : Zone) (k : ℕ) (out : Counted) → 0 < out .zones .refusal → listC z k out ≡ out
 unfolding listC
-list-sticks z out h = rw (ne-eqb (out .refusal) 0 (λ e. omega arith)) (refused-sticks 7 out h)
+list-sticks z k out h = rw (ne-eqb (out .zones .refusal) 0 (λ e. omega arith)) (refused-sticks 7 out h)
 
 same-pick : {A : Type 0} (t : Bool) (a b c : A) → a ≡ c → b ≡ c → cond t a b ≡ c
 same-pick true a b c h k = h
 same-pick false a b c h k = k
 
-pub worked-sticks : (b : Ranges) (t : TreeC) (z : Zone) (out : Zones) → 0 < out .refusal → workedC b t z out ≡ out
+pub worked-sticks : (b : Ranges) (t : TreeC) (k : ℕ) (z : Zone) (out : Counted) → 0 < out .zones .refusal → workedC b t k z out ≡ out
 unfolding workedC
-worked-sticks b cutT z out h = refl
-worked-sticks b (keepT m) z out h = list-sticks _ out h
-worked-sticks b wideT z out h = refused-sticks 9 out h
-worked-sticks b (askT e f) z out h =
-    same-pick (neverC b z e) _ _ out (worked-sticks b (f false) z out h)
-    (same-pick (neverC b z (oppositeC e)) _ _ out (worked-sticks b (f true) z out h)
+worked-sticks b cutT k z out h = refl
+worked-sticks b (keepT m) k z out h = list-sticks _ k out h
+worked-sticks b wideT k z out h = refused-sticks 9 out h
+worked-sticks b (askT e f) k z out h =
+    same-pick (neverC b z e) _ _ out (worked-sticks b (f false) (suc k) z out h)
+    (same-pick (neverC b z (oppositeC e)) _ _ out (worked-sticks b (f true) (suc k) z out h)
     (same-pick (ltb (z .count) 24) _ _ out
-    (ap (workedC b (f false) (plusC z (oppositeC e))) (worked-sticks b (f true) (plusC z e) out h)
-    ∙ worked-sticks b (f false) (plusC z (oppositeC e)) out h)
+    (ap (workedC b (f false) (suc k) (plusC z (oppositeC e))) (worked-sticks b (f true) (suc k) (plusC z e) out h)
+    ∙ worked-sticks b (f false) (suc k) (plusC z (oppositeC e)) out h)
     (refused-sticks 8 out h)))
 
-ended-sticks : (p : Part) (out : Zones) → 0 < out .refusal → endedC p out ≡ out
+ended-sticks : (p : Part) (out : Counted) → 0 < out .zones .refusal → endedC p out ≡ out
 unfolding endedC
 ended-sticks p out h =
     same-pick (ltb (p .halt) 2) _ _ out refl
-    (same-pick (ltb (p .halt) 3) _ _ out (list-sticks (p .zone) out h)
+    (same-pick (ltb (p .halt) 3) _ _ out (list-sticks (p .zone) (p .tests) out h)
     (same-pick (ltb (p .halt) 4) _ _ out refl (refused-sticks (p .halt) out h)))
 
-meant-sticks : (b : Ranges) (r : Rule) (p : Part) (out : Zones) → 0 < out .refusal → meant b r p out ≡ out
+meant-sticks : (b : Ranges) (r : Rule) (p : Part) (out : Counted) → 0 < out .zones .refusal → meant b r p out ≡ out
 unfolding meant
 meant-sticks b r p out h =
-    same-pick (ltb (p .halt) 1) _ _ out (worked-sticks b (treeAt r (p .phase) (p .zone .bounds)) (p .zone) out h) (ended-sticks p out h)
+    same-pick (ltb (p .halt) 1) _ _ out (worked-sticks b (treeAt r (p .phase) (p .zone .bounds)) (p .tests) (p .zone) out h)
+    (ended-sticks p out h)
 
-drained-sticks : (b : Ranges) (r : Rule) (st : List Part) (k : ℕ) (out : Zones) → 0 < out .refusal → drained b r st k out ≡ out
+drained-sticks : (b : Ranges) (r : Rule) (st : List Part) (k : ℕ) (out : Counted) → 0 < out .zones .refusal → drained b r st k out ≡ out
 unfolding drained
 drained-sticks b r st zero out h = refl
 drained-sticks b r st (suc k) out h = ap (drained b r st k) (meant-sticks b r (getD st k noPart) out h) ∙ drained-sticks b r st k out h
 
 -- ---- what lies below a place
-drained-set : (b : Ranges) (r : Rule) (st : List Part) (i k : ℕ) (x : Part) (out : Zones) → k ≤ i
+drained-set : (b : Ranges) (r : Rule) (st : List Part) (i k : ℕ) (x : Part) (out : Counted) → k ≤ i
     → drained b r (set st i x) k out ≡ drained b r st k out
 unfolding drained
 drained-set b r st i zero x out h = refl
@@ -134,7 +135,7 @@ load-set st i (suc k) x h =
     ∙ ap (λ (n : ℕ). weight (getD st k noPart) + n) (load-set st i k x (omega arith))
 
 -- ---- the loop's turns: the part on top of n + 1 was run to q
-module _ (b : Ranges) (r : Rule) (st : List Part) (k : ℕ) (now next whole : Zones) (q : Part) where
+module _ (b : Ranges) (r : Rule) (st : List Part) (k : ℕ) (now next whole : Counted) (q : Part) where
   abbrev top : Part
   top = getD st k noPart
 
@@ -143,13 +144,13 @@ module _ (b : Ranges) (r : Rule) (st : List Part) (k : ℕ) (now next whole : Zo
     unfolding drained
     turn-ends h = ap (drained b r st k) (e ∙ sym (ran-ended b r top q ran now h)) ∙ d
 
-    pub turn-refused : 0 < next .refusal → next ≡ whole
+    pub turn-refused : 0 < next .zones .refusal → next ≡ whole
     turn-refused h = by (eqb (q .halt) 3) refl
       where
         by : (t : Bool) → eqb (q .halt) 3 ≡ t → next ≡ whole
         by true s =
             let same = e ∙ split-leaves q now (eqb-true (q .halt) 3 s) in
-            let h′ : 0 < now .refusal = subst (λ (z : Zones). 0 < z .refusal) same h in
+            let h′ : 0 < now .zones .refusal = subst (λ (z : Counted). 0 < z .zones .refusal) same h in
             same ∙ sym (drained-sticks b r st (suc k) now h′) ∙ d
         by false s = sym (drained-sticks b r st k next h) ∙ turn-ends (eqb-false (q .halt) 3 s)
 
@@ -183,10 +184,10 @@ module _ (b : Ranges) (r : Rule) (st : List Part) (k : ℕ) (now next whole : Zo
         let no-enough : k ≤ noC r q .zone .count = omega (arith, w .0, ran .count, no-count b r q (s .0) (s .1)) in
         rw (more-top, more-next) (
           yes-enough,
-          yes-live b r q (s .0),
+          yes-live b r q (s .0) (s .2),
           (
             no-enough,
-            no-live b r q (s .0),
+            no-live b r q (s .0) (s .2),
             waiting-set (set st k (noC r q)) (suc k) k (yesC r q) (omega arith) (waiting-set st k k (noC r q) (omega arith) (w .2)),
           ),
         )
@@ -209,32 +210,32 @@ pub room-splits : (b : Ranges) (r : Rule) (st : List Part) (k : ℕ) (q : Part) 
     → q .halt ≡ 3 → k < 24
 room-splits b r st k q ran w h = omega (arith, w .0, ran .count, ran .splits h .1)
 
-pub start-drained : (b : Ranges) (r : Rule) (z : Zone) (out : Zones) → meant b r (startC z) out ≡ cutC b r z out
+pub start-drained : (b : Ranges) (r : Rule) (z : Zone) (out : Counted) → meant b r (startC z) out ≡ cutC b r z out
 unfolding meant cutC
 start-drained b r z out = refl
 
 pub start-live : (z : Zone) → Live (startC z)
-start-live z = record { below = omega arith; early = λ _. omega arith }
+start-live z = record { below = omega arith; early = λ _. omega arith; counted = omega arith }
 
-pub cut-sticks : (b : Ranges) (r : Rule) (z : Zone) (out : Zones) → 0 < out .refusal → out ≡ cutC b r z out
+pub cut-sticks : (b : Ranges) (r : Rule) (z : Zone) (out : Counted) → 0 < out .zones .refusal → out ≡ cutC b r z out
 unfolding cutC
-cut-sticks b r z out h = sym (worked-sticks b (treeAt r 0 (z .bounds)) (startC z .zone) out h)
+cut-sticks b r z out h = sym (worked-sticks b (treeAt r 0 (z .bounds)) 0 z out h)
 
 -- ---- the same as the code has it: n parts, the top one at n - 1
-pub record Turned (b : Ranges) (r : Rule) (st : List Part) (n : ℕ) (now whole : Zones) : Type 0 where
+pub record Turned (b : Ranges) (r : Rule) (st : List Part) (n : ℕ) (now whole : Counted) : Type 0 where
   pub few : n ≤ 25
   pub long : length st ≡ 25
   pub waiting : Waiting st n
   pub same : drained b r st n now ≡ whole
 
 -- a turn of the loop: the part on top of the n was run to p, and what was listed became next
-pub record Turn (b : Ranges) (r : Rule) (st : List Part) (n : ℕ) (now next whole : Zones) (p : Part) : Type 0 where
+pub record Turn (b : Ranges) (r : Rule) (st : List Part) (n : ℕ) (now next whole : Counted) (p : Part) : Type 0 where
   pub top : n ≡ suc (n - 1)
   pub turned : Turned b r st n now whole
   pub ran : Ran b r (getD st (n - 1) noPart) p
   pub ended : next ≡ endedC p now
 
-module _ {b : Ranges} {r : Rule} {st : List Part} {n : ℕ} {now next whole : Zones} {p : Part} (t : Turn b r st n now next whole p) where
+module _ {b : Ranges} {r : Rule} {st : List Part} {n : ℕ} {now next whole : Counted} {p : Part} (t : Turn b r st n now next whole p) where
   abbrev k : ℕ
   k = n - 1
 
@@ -253,7 +254,7 @@ module _ {b : Ranges} {r : Rule} {st : List Part} {n : ℕ} {now next whole : Zo
         same = turn-ends b r st k now next whole p (t .ran) (t .ended) is-same h;
       }
 
-  pub refused-turned : 0 < next .refusal → next ≡ whole
+  pub refused-turned : 0 < next .zones .refusal → next ≡ whole
   refused-turned h = turn-refused b r st k now next whole p (t .ran) (t .ended) is-same h
 
   pub room-turned : p .halt ≡ 3 → n < 25
@@ -289,11 +290,11 @@ module _ {b : Ranges} {r : Rule} {st : List Part} {n : ℕ} {now next whole : Zo
 pub ends-less : (st : List Part) (n k : ℕ) → n ≡ suc k → load st k < load st n
 ends-less st n k e = rw e (load-ends st k)
 
-pub start-turned : (b : Ranges) (r : Rule) (z : Zone) (out : Zones) (p : Part) → p ≡ startC z
+pub start-turned : (b : Ranges) (r : Rule) (z : Zone) (out : Counted) (p : Part) → p ≡ startC z
     → Turned b r (replicate 25 p) 1 out (drained b r (replicate 25 p) 1 out)
 start-turned b r z out p e = record { few = omega arith; long = refl; waiting = (omega arith, rw e (start-live z), tt); same = refl }
 
-pub start-whole : (b : Ranges) (r : Rule) (z : Zone) (out : Zones) (p : Part) → p ≡ startC z
+pub start-whole : (b : Ranges) (r : Rule) (z : Zone) (out : Counted) (p : Part) → p ≡ startC z
     → drained b r (replicate 25 p) 1 out ≡ cutC b r z out
 unfolding drained
 start-whole b r z out p e = ap (λ (q : Part). meant b r q out) e ∙ start-drained b r z out
@@ -301,7 +302,7 @@ start-whole b r z out p e = ap (λ (q : Part). meant b r q out) e ∙ start-drai
 pub top-live : (st : List Part) (n k : ℕ) → n ≡ suc k → Waiting st n → Live (getD st k noPart)
 top-live st n k e w = (subst (λ (m : ℕ). Waiting st m) e w) .1
 
-pub all-turned : (b : Ranges) (r : Rule) (st : List Part) (n : ℕ) (now whole : Zones) → n ≤ 0 → Turned b r st n now whole → now ≡ whole
+pub all-turned : (b : Ranges) (r : Rule) (st : List Part) (n : ℕ) (now whole : Counted) → n ≤ 0 → Turned b r st n now whole → now ≡ whole
 unfolding drained
 all-turned b r st zero now whole h t = t .same
 all-turned b r st (suc n) now whole h t = absurd (omega arith)

@@ -19,7 +19,7 @@ use Rattle.zones.specs.Settled.{oppositeC, neverC}
 use Rattle.expr.specs.Three.{zeroExpr}
 use Rattle.zones.specs.Zone.{plusC}
 use Rattle.zones.specs.declared.zone.Zone.{Zone}
-use Rattle.zones.specs.declared.zone.Zones.{Zones}
+use Rattle.split.specs.declared.list.Counted.{Counted}
 
 -- ---- the tests of a guard as a tree
 pub data TreeC : Type 0 where
@@ -49,46 +49,49 @@ treeAt r zero new = testedC (voidTest r) (λ b. cond b cutT (tightC r new))
 treeAt r (suc zero) new = tightC r new
 treeAt r (suc (suc x)) new = pushC r (25 - x) x new
 
--- the tree worked on a zone's inequalities, what it keeps being listed after what was listed so far
-unfoldable pub workedC : Ranges → TreeC → Zone → Zones → Zones
-workedC b cutT z out = out
-workedC b (keepT m) z out = listC (withBounds z m) out
-workedC b wideT z out = refusedC 9 out
-workedC b (askT e f) z out =
-    cond (neverC b z e) (workedC b (f false) z out)
-    (cond (neverC b z (oppositeC e)) (workedC b (f true) z out)
+-- the tree worked on a zone's inequalities, k tests having been asked; what it keeps is listed after what was listed so far, with the
+-- count of tests on the way to it, settled ones too
+unfoldable pub workedC : Ranges → TreeC → ℕ → Zone → Counted → Counted
+workedC b cutT k z out = out
+workedC b (keepT m) k z out = listC (withBounds z m) k out
+workedC b wideT k z out = refusedC 9 out
+workedC b (askT e f) k z out =
+    cond (neverC b z e) (workedC b (f false) (suc k) z out)
+    (cond (neverC b z (oppositeC e)) (workedC b (f true) (suc k) z out)
     (cond (ltb (z .count) 24)
-    (workedC b (f false) (plusC z (oppositeC e)) (workedC b (f true) (plusC z e) out))
+    (workedC b (f false) (suc k) (plusC z (oppositeC e)) (workedC b (f true) (suc k) (plusC z e) out))
     (refusedC 8 out)))
 
 -- ---- the code's steps
 -- the zone before the first test
 abbrev pub startC : Zone → Part
-startC z = record { phase = 0; halt = 0; test = zeroExpr; zone = z }
+startC z = record { phase = 0; halt = 0; tests = 0; test = zeroExpr; zone = z }
 
 -- what was listed, after a part that is cut (1), kept (2) or refused (8, 9); a split leaves it
-unfoldable pub endedC : Part → Zones → Zones
+unfoldable pub endedC : Part → Counted → Counted
 endedC p out =
-    cond (ltb (p .halt) 2) out (cond (ltb (p .halt) 3) (listC (p .zone) out) (cond (ltb (p .halt) 4) out (refusedC (p .halt) out)))
+    cond (ltb (p .halt) 2) out
+    (cond (ltb (p .halt) 3) (listC (p .zone) (p .tests) out) (cond (ltb (p .halt) 4) out (refusedC (p .halt) out)))
 
 -- ---- what a part comes to
 -- one that waits for its turn: it goes on, is cut or is kept
-unfoldable pub meant : Ranges → Rule → Part → Zones → Zones
-meant b r p out = cond (ltb (p .halt) 1) (workedC b (treeAt r (p .phase) (p .zone .bounds)) (p .zone) out) (endedC p out)
+unfoldable pub meant : Ranges → Rule → Part → Counted → Counted
+meant b r p out = cond (ltb (p .halt) 1) (workedC b (treeAt r (p .phase) (p .zone .bounds)) (p .tests) (p .zone) out) (endedC p out)
 
 -- one that has stopped: it may also split, the yes part first
-unfoldable pub meantEnd : Ranges → Rule → Part → Zones → Zones
+unfoldable pub meantEnd : Ranges → Rule → Part → Counted → Counted
 meantEnd b r p out = cond (eqb (p .halt) 3) (meant b r (noC r p) (meant b r (yesC r p) out)) (endedC p out)
 
 -- a part that waits for its turn
 pub record Live (p : Part) : Type 0 where
   pub below : p .halt < 3
   pub early : p .halt < 1 → p .phase < 27
+  pub counted : p .tests ≤ p .phase
 
 -- the part q is where p stops
 pub record Ran (b : Ranges) (r : Rule) (p q : Part) : Type 0 where
   pub stopped : 1 ≤ q .halt
-  pub same : (out : Zones) → meantEnd b r q out ≡ meant b r p out
+  pub same : (out : Counted) → meantEnd b r q out ≡ meant b r p out
   pub later : p .phase ≤ q .phase
   pub count : q .zone .count ≡ p .zone .count
-  pub splits : q .halt ≡ 3 → (q .phase < 27) × (q .zone .count < 24)
+  pub splits : q .halt ≡ 3 → (q .phase < 27) × (q .zone .count < 24) × (q .tests ≤ suc (q .phase))

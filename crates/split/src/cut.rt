@@ -1,5 +1,6 @@
 // One guard over zones in order: the parts still to be worked on stand on a stack, the next one on top.
 use crate::list;
+use crate::list::Counted;
 use constrain::Rule;
 use expr::Expr;
 use expr::Ranges;
@@ -8,7 +9,7 @@ use parts::Part;
 use zones::Zone;
 use zones::Zones;
 ghost use mathlib.Core.Path.{_≡_};
-ghost use Rattle.split.specs.Guarded.{cutC, ruleC, guardedC};
+ghost use Rattle.split.specs.Guarded.{cutC, ruleC, oneC, guardedC};
 ghost use Rattle.split.specs.Trees.{startC, endedC, Live, Ran};
 
 // The part where it stops.
@@ -25,7 +26,7 @@ fn run(b: Ranges, r: Rule, p: Part) -> Part
 }
 
 // The zones listed so far, after a part that is not split: cut, it leaves them; kept, it is listed; or refused.
-fn ended(out: Zones, p: Part) -> Zones
+fn ended(out: Counted, p: Part) -> Counted
     ensures { λ r. ⌜ r ≡ endedC p out ⌝ }
 {
     if p.halt < 2 {
@@ -33,7 +34,7 @@ fn ended(out: Zones, p: Part) -> Zones
     }
     if p.halt < 3 {
         let zone = p.zone;
-        return list::listed(out, zone);
+        return list::listed(out, zone, p.tests);
     }
     if p.halt < 4 {
         return out;
@@ -48,16 +49,17 @@ fn start(zone: Zone) -> Part
     Part {
         phase: 0,
         halt: 0,
+        tests: 0,
         test: Expr::ZERO,
         zone,
     }
 }
 
 // The zones listed so far, and then the parts of a zone that a guard leaves.
-fn cut_zone(b: Ranges, r: Rule, zone: Zone, out: Zones) -> Zones
+fn cut_zone(b: Ranges, r: Rule, zone: Zone, out: Counted) -> Counted
     ensures { λ s. ⌜ s ≡ cutC b r zone out ⌝ }
 {
-    if 0 < out.refusal {
+    if 0 < out.zones.refusal {
         return out;
     }
     let mut stack = [start(zone); 25];
@@ -69,7 +71,7 @@ fn cut_zone(b: Ranges, r: Rule, zone: Zone, out: Zones) -> Zones
         let p = run(b, r, popped);
         let next = ended(now, p);
         now = next;
-        if 0 < now.refusal {
+        if 0 < now.zones.refusal {
             return now;
         }
         if p.halt == 3 {
@@ -100,6 +102,13 @@ fn rule(clocks: usize, g: Guard, zone: Zone) -> Rule
     }
 }
 
+// What a guard leaves of one zone at a visit, each zone with the tests that were asked on the way to it.
+pub fn cut_one(b: Ranges, clocks: usize, g: Guard, visit: usize, zone: Zone) -> Counted
+    ensures { λ r. ⌜ r ≡ oneC b clocks g visit zone ⌝ }
+{
+    cut_zone(b, rule(clocks, g, zone), zone, list::none_at(visit))
+}
+
 // What a guard leaves of zones in order. Zones that were refused stay so, and so do all where the guard has no such clock.
 pub fn cut_by(b: Ranges, clocks: usize, g: Guard, zones: Zones) -> Zones
     ensures { λ r. ⌜ r ≡ guardedC b clocks g zones ⌝ }
@@ -122,5 +131,5 @@ pub fn cut_by(b: Ranges, clocks: usize, g: Guard, zones: Zones) -> Zones
         out = next;
         i += 1;
     }
-    out
+    out.zones
 }

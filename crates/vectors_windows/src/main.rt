@@ -1,8 +1,10 @@
 // Reads the records that are stored one after the other in `windows.bin`: the length of a sheet file (two bytes, the low one
 // first), its bytes, and how many places of the table are lent (one byte). It writes a line for each record: the length, what
-// Windows answers as R/P, the number and the place, then how many pieces, kept and cut, and a digest of the lent places. No place
-// of the table is blank before the call. The lines that it must write come from reference/.
+// Windows answers as R/P, the number and the place, then how many pieces, kept and cut, a digest of the lent places, and one of the
+// tests of single guards on the pieces (`tests`). No place of the table is blank before the call. The lines that it must write come from
+// reference/.
 mod digest;
+mod tests;
 
 use answers::windows::Answer;
 use answers::windows::Counts;
@@ -86,11 +88,18 @@ fn print_line(file: &[u8], n: usize)
     let reply = tabled::windows(file, filled(), n);
     let answer = reply.answer;
     let table = reply.table;
+    let reading = reading::read(file);
+    let counts = counts_of(answer);
     print_number(file.len());
     io::write_all(STDOUT_FILENO, b" bytes");
     print_answer(answer);
     io::write_all(STDOUT_FILENO, b" ");
     io::print_decimal(STDOUT_FILENO, digest::digest(table, n));
+    io::write_all(STDOUT_FILENO, b" ");
+    io::print_decimal(
+        STDOUT_FILENO,
+        tests::digest(reading.sheet, table, counts.pieces),
+    );
     io::write_all(STDOUT_FILENO, b"\n");
 }
 

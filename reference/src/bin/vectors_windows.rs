@@ -5,8 +5,8 @@
 //! belong to which family.
 
 use reference::cuttings::{
-    answer, arrivals, edges, families, firsts, line, paper, stored, Case, Reply, ARRIVALS, EDGES,
-    FIRSTS, PAPER,
+    answer, arrivals, counts, edges, families, firsts, line, paper, stored, Case, Left, Reply,
+    ARRIVALS, COUNTS, EDGES, FIRSTS, PAPER,
 };
 use reference::family;
 use reference::tool::{run, Stored};
@@ -65,6 +65,7 @@ fn list() {
             EDGES => edges::cases(),
             FIRSTS => firsts::cases(),
             ARRIVALS => arrivals::cases(),
+            COUNTS => counts::cases(),
             _ => return,
         };
         family::list_cases(first, cases.into_iter().map(words));
@@ -81,6 +82,28 @@ fn words(case: Case) -> (String, String) {
         }
         Reply::Counts(zones, kept, cut) => format!("{zones} zones, {kept} kept, {cut} cut"),
         Reply::Refused(number, place) => format!("refused {number} place {place}"),
+        Reply::Left(list) => {
+            let each: Vec<String> = list.iter().map(left_words).collect();
+            format!("tests {}", each.join("; "))
+        }
     };
     (case.name, result)
+}
+
+/// What one guard leaves of one zone: the counts of tests of its zones, or the refusal.
+fn left_words(left: &Left) -> String {
+    let tests: Vec<usize> = match left {
+        Left::Zones(list) => list.iter().map(|&(_, tests)| tests).collect(),
+        Left::Tests(list) => list.clone(),
+        Left::Refused(number) => return format!("refused {number}"),
+    };
+    let same = |list: &[usize]| match list.len() {
+        1 => format!("{}", list[0]),
+        count => format!("{count} times {}", list[0]),
+    };
+    let words: Vec<String> = tests.chunk_by(|x, y| x == y).map(same).collect();
+    if words.is_empty() {
+        return "no zone".to_string();
+    }
+    words.join(" and ")
 }

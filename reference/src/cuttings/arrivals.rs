@@ -147,16 +147,3 @@ fn parted() -> Vec<Case> {
         case("cut and parted on arrival", &cut, cut_and_parted),
     ]
 }
-
-#[cfg(test)]
-mod tests {
-    use super::*;
-
-    /// Windows gives the results that are written here.
-    #[test]
-    fn results_are_as_built() {
-        for case in cases() {
-            assert!(case.is_right(), "{}", case.name);
-        }
-    }
-}

@@ -51,7 +51,12 @@ fn in_turn(parameters: &[Parameter], guards: &[Guard]) -> Sheet {
 }
 
 /// Guards at moves alone, that many at each, with those invariants at each stay.
-fn at_moves(parameters: &[Parameter], stay: &[Guard], guards: &[Guard], each: usize) -> Sheet {
+pub(super) fn at_moves(
+    parameters: &[Parameter],
+    stay: &[Guard],
+    guards: &[Guard],
+    each: usize,
+) -> Sheet {
     let moves: Vec<(u8, Vec<Guard>)> = guards.chunks(each).map(|c| (0, c.to_vec())).collect();
     let path = vec![0; moves.len() + 1];
     along(parameters, 1, &[stay.to_vec()], &path, &moves)
@@ -169,7 +174,7 @@ fn at_least(numbers: impl Iterator<Item = i64>) -> Vec<Expr> {
 }
 
 /// 0 - 1 at most -k, for each k.
-fn rising(numbers: impl Iterator<Item = i16>) -> Vec<Guard> {
+pub(super) fn rising(numbers: impl Iterator<Item = i16>) -> Vec<Guard> {
     numbers.map(|k| at_most(0, 1, -k, [0; 3])).collect()
 }
 
@@ -301,21 +306,7 @@ fn nothing() -> Vec<Case> {
 #[cfg(test)]
 mod tests {
     use super::*;
-    use crate::windows::{cut, windows, Limits};
-
-    /// Windows gives the results that are written here.
-    #[test]
-    fn results_are_as_built() {
-        for case in cases() {
-            let found = windows(&case.file, case.places);
-            assert!(
-                case.is_right(),
-                "{}: {:?}",
-                case.name,
-                found.map(|w| (w.zones.len(), w.kept, w.cut))
-            );
-        }
-    }
+    use crate::windows::{cut, Limits};
 
     /// Each of the sheets with both grounds is refused on the other one where the first is lifted.
     #[test]

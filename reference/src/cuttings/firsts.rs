@@ -159,16 +159,3 @@ fn backwards() -> Case {
     );
     case("<= p, <= q, <= r", &one_stay(&parameters, &up), result)
 }
-
-#[cfg(test)]
-mod tests {
-    use super::*;
-
-    /// Windows gives the results that are written here.
-    #[test]
-    fn results_are_as_built() {
-        for case in cases() {
-            assert!(case.is_right(), "{}", case.name);
-        }
-    }
-}

@@ -1,6 +1,5 @@
 //! The zones of a sheet held to Sweep at single valuations.
 
-use crate::bound::value;
 use crate::random::Random;
 use crate::sheet::Sheet;
 use crate::sweep::{walk, SIDE};
@@ -18,7 +17,7 @@ const TRIED: usize = 1_000;
 pub fn held(random: &mut Random, sheet: &Sheet, found: &Windows) -> Result<(), String> {
     let valuations = all(&sheet.parameters);
     for zone in &found.zones {
-        let least = valuations.iter().filter(|&&v| holds(zone, v)).min();
+        let least = valuations.iter().filter(|&&v| zone.holds(v)).min();
         if least != Some(&zone.first) {
             return Err(format!("{least:?} is the least, {:?} first", zone.first));
         }
@@ -45,7 +44,7 @@ pub fn held(random: &mut Random, sheet: &Sheet, found: &Windows) -> Result<(), S
 
 /// Whether there is a run at that valuation, if the zones and Sweep agree on it.
 fn agrees(sheet: &Sheet, found: &Windows, v: Valuation) -> Result<bool, String> {
-    let zones: Vec<&Zone> = found.zones.iter().filter(|zone| holds(zone, v)).collect();
+    let zones: Vec<&Zone> = found.zones.iter().filter(|zone| zone.holds(v)).collect();
     match (&zones[..], walk(sheet, v)) {
         ([], None) => Ok(false),
         ([zone], Some(matrix)) => {
@@ -64,9 +63,4 @@ fn agrees(sheet: &Sheet, found: &Windows, v: Valuation) -> Result<bool, String> 
             matrix.is_some()
         )),
     }
-}
-
-/// Whether a zone holds a valuation of the ranges.
-pub fn holds(zone: &Zone, v: Valuation) -> bool {
-    zone.inequalities.iter().all(|&e| value(e, v) >= 0)
 }

@@ -3,11 +3,21 @@
 //!
 //! The records stand one after the other: a sheet file's length (u16, little-endian) and its bytes, and
 //! the number of places of the table that is lent (u8). The results are text, a line for each record:
-//! `L bytes R/P N K C D` with the file's length, the refusal's number and place (0/0 for none), the counts
-//! of zones, of valuations kept and of valuations cut (0 where it is refused), and a digest of the table.
+//! `L bytes R/P N K C D T` with the file's length, the refusal's number and place (0/0 for none), the counts
+//! of zones, of valuations kept and of valuations cut (0 where it is refused), a digest of the table, and a
+//! digest of counts of tests.
+//!
+//! T, the digest of counts of tests, starts from 0. For each filled place of the table in order (there is none
+//! where Windows refuses), each of the invariants of location 0 in file order, and then of the guards of
+//! transition 0 in file order, if the sheet has a transition, is put to that zone alone, at visit 0. The
+//! numbers of each are: the refusal, or 0 where there is none; how many zones the guard lists; and for each of
+//! them how many tests were asked on the way to it, 32 counts in all, zeros past the zones.
 
+mod alone;
 pub mod arrivals;
+mod beside;
 mod built;
+pub mod counts;
 pub mod drawn;
 pub mod edges;
 pub mod firsts;
@@ -17,23 +27,26 @@ pub mod paper;
 mod table;
 #[cfg(test)]
 mod tests;
+#[cfg(test)]
+mod ways;
 
 use crate::bound::Expr;
 use crate::family::Family;
 use crate::random::Random;
-use crate::sheet::{Refusal, Sheet};
+use crate::sheet::{read, Refusal, Sheet};
 use crate::valuations::Valuation;
 use crate::vectors;
-use crate::windows::{windows, Outcome, Windows, PLACES};
+use crate::windows::{windows, Outcome, Windows, Zone, PLACES};
 use crate::writer;
 use table::digest_of;
 
-/// The names of the families whose records are the cases of `paper`, of `edges`, of `firsts` and of
-/// `arrivals`.
+/// The names of the families whose records are the cases of `paper`, of `edges`, of `firsts`, of `arrivals`
+/// and of `counts`.
 pub const PAPER: &str = "results written by hand";
 pub const EDGES: &str = "built to end at a limit or past it";
 pub const FIRSTS: &str = "built for a first valuation";
 pub const ARRIVALS: &str = "standing limits at the start and on arrival";
+pub const COUNTS: &str = "tests of one guard on one zone";
 
 /// A sheet file, and how many places the table has that is lent with it.
 #[derive(Clone, Debug, PartialEq, Eq)]
@@ -54,6 +67,11 @@ pub fn families() -> Vec<Family<Record>> {
     add(EDGES, edges::cases());
     add(FIRSTS, firsts::cases());
     add(ARRIVALS, arrivals::cases());
+    add(COUNTS, counts::cases());
+    list.push(Family {
+        name: "guards beside the route",
+        records: beside::records(&mut Random::new(8)),
+    });
     list.extend(drawn::families(random));
     list
 }
@@ -70,12 +88,23 @@ pub fn record_of(file: Vec<u8>, places: usize) -> Record {
 }
 
 /// What a record must give, written by hand: for each zone its first valuation and its inequalities, and the
-/// counts of valuations kept and cut; the count of zones and those two alone; or a refusal's number and place.
+/// counts of valuations kept and cut; the count of zones and those two alone; a refusal's number and place; or
+/// for each zone what each guard that is put to it leaves of it (see T above).
 #[derive(Clone, Debug)]
 pub enum Reply {
     Zones(Vec<(Valuation, Vec<Expr>)>, usize, usize),
     Counts(usize, usize, usize),
     Refused(u8, usize),
+    Left(Vec<Left>),
+}
+
+/// What one guard leaves of one zone: for each zone that it lists the inequalities that it adds and how many
+/// tests were asked on the way; those numbers of tests alone; or a refusal's number.
+#[derive(Clone, Debug)]
+pub enum Left {
+    Zones(Vec<(Vec<Expr>, usize)>),
+    Tests(Vec<usize>),
+    Refused(u8),
 }
 
 /// Zones with those first valuations and inequalities, and the counts of valuations kept and cut.
@@ -113,7 +142,7 @@ impl Case {
         record_of(self.file.clone(), self.places)
     }
 
-    /// Whether Windows gives the result that is written beside the case.
+    /// Whether Windows, and one guard on one zone, give the result that is written beside the case.
     pub fn is_right(&self) -> bool {
         match (&self.result, windows(&self.file, self.places)) {
             (&Reply::Refused(number, place), found) => found == Err(Refusal { number, place }),
@@ -125,6 +154,31 @@ impl Case {
                 let zones = found.zones.into_iter();
                 let shown = zones.map(|zone| (zone.first, zone.inequalities));
                 shown.eq(list.iter().cloned()) && (found.kept, found.cut) == (*kept, *cut)
+            }
+            (Reply::Left(list), Ok(found)) => {
+                let sheet = read(&self.file).expect("Windows takes the file");
+                let outcomes: Vec<_> = alone::outcomes(&sheet, &found.zones).collect();
+                let mut pairs = list.iter().zip(&outcomes);
+                list.len() == outcomes.len()
+                    && pairs.all(|(left, (zone, outcome))| left.is_right(zone, outcome))
+            }
+        }
+    }
+}
+
+impl Left {
+    /// Whether this is what a guard leaves of a zone.
+    fn is_right(&self, zone: &Zone, outcome: &alone::Outcome) -> bool {
+        match (self, outcome) {
+            (&Left::Refused(number), found) => *found == Err(Refusal { number, place: 0 }),
+            (_, Err(_)) => false,
+            (Left::Tests(tests), Ok(list)) => list.iter().map(|c| c.tests).eq(tests.clone()),
+            (Left::Zones(zones), Ok(list)) => {
+                let added = zone.inequalities.len();
+                let shown = list
+                    .iter()
+                    .map(|c| (&c.zone.inequalities[added..], c.tests));
+                shown.eq(zones.iter().map(|(list, tests)| (&list[..], *tests)))
             }
         }
     }
@@ -142,11 +196,13 @@ pub fn line(record: &Record) -> String {
     match answer(record) {
         Err(Refusal { number, place }) => {
             let blank = table(&[]);
-            format!("{length} bytes {number}/{place} 0 0 0 {blank}\n")
+            format!("{length} bytes {number}/{place} 0 0 0 {blank} 0\n")
         }
         Ok(Windows { zones, kept, cut }) => {
+            let sheet = read(&record.file).expect("Windows takes the file");
             let (count, filled) = (zones.len(), table(&zones));
-            format!("{length} bytes 0/0 {count} {kept} {cut} {filled}\n")
+            let tests = alone::digest_of(&sheet, &zones);
+            format!("{length} bytes 0/0 {count} {kept} {cut} {filled} {tests}\n")
         }
     }
 }
@@ -169,7 +225,17 @@ mod stored_tests {
         assert_eq!(stored(&record), [3, 0, 1, 2, 3, 40]);
     }
 
+    /// The digest of numbers one after the other.
+    fn mixed(numbers: &[u64]) -> u64 {
+        let with = |h, x| (h * 1_000_003 + x) % 1_000_000_007;
+        numbers.iter().fold(0, with)
+    }
+
     /// A blank table has the digest 0; sheet A's is that of its numbers one after the other.
+    ///
+    /// Of sheet A's zone the invariant, at most p, leaves one zone with 4 tests: p - 3 is not below 0, the clock
+    /// has no upper bound, and entries (0, 0), (0, 1) and (1, 1) are asked. The transition's guard is in the
+    /// zone already, which is one test.
     #[test]
     fn digests() {
         let case = &paper::cases()[0];
@@ -188,14 +254,19 @@ mod stored_tests {
         }
         let places = 33;
         numbers.resize(places * (8 + 24 * 8 + 25 * 10), 0);
-        let h = numbers
-            .iter()
-            .fold(0, |h, x| (h * 1_000_003 + x) % 1_000_000_007);
+        let h = mixed(&numbers);
         assert_eq!(digest_of(&found.zones, places), h);
         assert_eq!(digest_of(&[], 40), 0);
+        let mut tests = vec![0, 1, 4];
+        tests.resize(34, 0);
+        tests.extend([0, 1, 1]);
+        tests.resize(2 * 34, 0);
+        let t = mixed(&tests);
         assert_eq!(
             line(&record_of(case.file.clone(), 33)),
-            format!("62 bytes 0/0 1 8 3 {h}\n")
+            format!("62 bytes 0/0 1 8 3 {h} {t}\n")
         );
+        let refused = line(&record_of(case.file.clone(), 31));
+        assert_eq!(refused, "62 bytes 1/0 0 0 0 0 0\n");
     }
 }

@@ -152,16 +152,3 @@ fn refused_files() -> Vec<Case> {
         case("a move from elsewhere", &rows::a_apart(), Refused(5, 62)),
     ]
 }
-
-#[cfg(test)]
-mod tests {
-    use super::*;
-
-    /// Windows gives the results that are written here.
-    #[test]
-    fn results_are_the_papers() {
-        for case in cases() {
-            assert!(case.is_right(), "{}", case.name);
-        }
-    }
-}

@@ -1,14 +1,33 @@
-//! The cutting held to Sweep on random sheets, and to its refusals by limits that are lower than the paper's.
+//! The cutting held to the results that are written by hand, to Sweep on random sheets, and to its refusals by limits
+//! that are lower than the paper's.
 
-use super::held::{held, holds, MOST_TRIED};
-use super::{answer, families};
+use super::held::{held, MOST_TRIED};
+use super::{answer, arrivals, counts, edges, families, firsts, paper};
 use crate::family::records;
 use crate::planned::{crossed, planned, random_shape};
 use crate::random::Random;
 use crate::samples::{along, at_most, range};
 use crate::sheet::{read, Guard, Refusal, Sheet};
 use crate::valuations::{all, Valuation};
-use crate::windows::{cut, Limits};
+use crate::windows::{cut, windows, Limits};
+
+/// Windows, and one guard on one zone, give the results that are written beside the cases.
+#[test]
+fn results_are_as_written() {
+    for cases in [
+        paper::cases(),
+        edges::cases(),
+        firsts::cases(),
+        arrivals::cases(),
+        counts::cases(),
+    ] {
+        for case in cases {
+            let found = windows(&case.file, case.places);
+            let found = found.map(|w| (w.zones.len(), w.kept, w.cut));
+            assert!(case.is_right(), "{}: {found:?}", case.name);
+        }
+    }
+}
 
 /// Nothing of the zones of random sheets disagrees with Sweep, at any valuation.
 #[test]
@@ -63,7 +82,7 @@ fn stored_first_valuations() {
             continue;
         }
         for zone in &found.zones {
-            let its: Vec<&Valuation> = valuations.iter().filter(|&&v| holds(zone, v)).collect();
+            let its: Vec<&Valuation> = valuations.iter().filter(|&&v| zone.holds(v)).collect();
             let least = [0, 1, 2].map(|k| its.iter().map(|v| v[k]).min());
             let kinds = [
                 least != zone.first.map(Some),

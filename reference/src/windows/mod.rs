@@ -6,7 +6,7 @@
 
 mod part;
 
-use crate::bound::{Bound, Expr};
+use crate::bound::{value, Bound, Expr};
 use crate::sheet::{read, Guard, Refusal, Sheet};
 use crate::sweep::SIDE;
 use crate::valuations::{all, Valuation};
@@ -22,6 +22,21 @@ pub struct Zone {
     pub first: Valuation,
     pub inequalities: Vec<Expr>,
     pub bounds: Bounds,
+}
+
+impl Zone {
+    /// Whether the zone holds a valuation of the ranges.
+    pub fn holds(&self, v: Valuation) -> bool {
+        self.inequalities.iter().all(|&e| value(e, v) >= 0)
+    }
+}
+
+/// A zone that one guard lists, and how many tests were asked on the way to it, from the guard's first test
+/// on: every test of "tighter" that is asked counts, settled or split, and an answer with no test does not.
+#[derive(Clone, Debug, PartialEq, Eq)]
+pub struct Counted {
+    pub zone: Zone,
+    pub tests: usize,
 }
 
 /// The zones of a sheet in order, and how many valuations have a run and how many have none.
@@ -73,17 +88,12 @@ pub fn windows(file: &[u8], places: usize) -> Outcome {
 /// location's invariants go in at the start or on arrival, and again after the wait; a move counts
 /// as made once its resets are done (paper 02, request (b)).
 pub fn cut(sheet: &Sheet, limits: Limits) -> Outcome {
-    let mut cutting = Cutting {
-        clocks: usize::from(sheet.clocks),
-        limits,
-        parts: vec![Part {
-            inequalities: Vec::new(),
-            valuations: all(&sheet.parameters),
-            bounds: [[Bound::ZERO; SIDE]; SIDE],
-        }],
-        visit: 0,
-        cut: 0,
-    };
+    let whole = Part::new(
+        all(&sheet.parameters),
+        Vec::new(),
+        [[Bound::ZERO; SIDE]; SIDE],
+    );
+    let mut cutting = Cutting::new(sheet.clocks, whole, 0, limits);
     let mut at = 0;
     cutting.guards(&sheet.locations[at].invariants)?;
     for &number in &sheet.route {
@@ -99,6 +109,28 @@ pub fn cut(sheet: &Sheet, limits: Limits) -> Outcome {
     Ok(cutting.done())
 }
 
+/// What one guard leaves of one zone of a sheet at a visit: the zones that it lists in order, each with its
+/// count of tests, or the first of refusals 7, 8 and 9 by those limits (paper 02, request (j)). The zone
+/// holds a valuation, as those do that Windows lists.
+pub fn cut_one(
+    sheet: &Sheet,
+    zone: &Zone,
+    guard: &Guard,
+    visit: usize,
+    limits: Limits,
+) -> Result<Vec<Counted>, Refusal> {
+    let mut held = all(&sheet.parameters);
+    held.retain(|&v| zone.holds(v));
+    let part = Part::new(held, zone.inequalities.clone(), zone.bounds);
+    let mut cutting = Cutting::new(sheet.clocks, part, visit, limits);
+    cutting.guard(guard)?;
+    let counted = |part: Part| Counted {
+        tests: part.tests,
+        zone: part.zone(),
+    };
+    Ok(cutting.parts.into_iter().map(counted).collect())
+}
+
 /// The work along a route: the zones so far in order, the moves made, and how many valuations are cut.
 struct Cutting {
     clocks: usize,
@@ -109,6 +141,17 @@ struct Cutting {
 }
 
 impl Cutting {
+    /// The work on one zone, at that visit.
+    fn new(clocks: u8, part: Part, visit: usize, limits: Limits) -> Cutting {
+        Cutting {
+            clocks: usize::from(clocks),
+            limits,
+            parts: vec![part],
+            visit,
+            cut: 0,
+        }
+    }
+
     /// A wait, and the invariants that end it: entries (i, 0), i >= 1, become none.
     fn stay(&mut self, invariants: &[Guard]) -> Result<(), Refusal> {
         for part in &mut self.parts {
@@ -132,7 +175,11 @@ impl Cutting {
         while let Some(part) = pile.pop() {
             match part.guarded(self.clocks, &limit, self.limits.number) {
                 Ok(None) => self.cut += part.valuations.len(),
-                Ok(Some(bounds)) => self.list(Part { bounds, ..part })?,
+                Ok(Some((bounds, tests))) => self.list(Part {
+                    bounds,
+                    tests,
+                    ..part
+                })?,
                 Err(Stop::Wide) => return self.refused(9),
                 Err(Stop::Open(_)) if part.inequalities.len() == self.limits.inequalities => {
                     return self.refused(8)
@@ -177,13 +224,8 @@ impl Cutting {
     /// What is answered at the end of the route.
     fn done(self) -> Windows {
         let kept = self.parts.iter().map(|part| part.valuations.len()).sum();
-        let zone = |part: Part| Zone {
-            first: part.first(),
-            inequalities: part.inequalities,
-            bounds: part.bounds,
-        };
         Windows {
-            zones: self.parts.into_iter().map(zone).collect(),
+            zones: self.parts.into_iter().map(Part::zone).collect(),
             kept,
             cut: self.cut,
         }

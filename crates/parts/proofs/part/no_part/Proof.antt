@@ -19,7 +19,7 @@ returns c =
     let a = c .before .before .before .before .args in
     let p = a .p in
     c .answered .ensures
-    ∙ ap (λ (z : Zone). answeredC (a .r) (record { phase = p .phase; halt = 0; test = p .test; zone = z }) false)
+    ∙ ap (λ (z : Zone). answeredC (a .r) (record { phase = p .phase; halt = 0; tests = p .tests; test = p .test; zone = z }) false)
     (c .before .with-opposite .ensures)
 
 pub no-part-spec : {M : Type 1} → statement M

@@ -19,7 +19,7 @@ returns c = search needs
 returns-2 : tie.Need-returns-2
 returns-2 c =
     let a = c .before .args in
-    let l : length (a .p .zone .bounds) ≡ 25 = simp length-map at (c .before .good .0 .1 .1 .1 .1 .1 .0 .1 .1 .1 .1 .0 .1 .0 .1) in
+    let l : length (a .p .zone .bounds) ≡ 25 = simp length-map at (c .before .good .0 .1 .1 .1 .1 .1 .1 .0 .1 .1 .1 .1 .0 .1 .0 .1) in
     let h = c .if1 .left in
     put-past (a .p) (a .x) (a .b) (omega arith)
 

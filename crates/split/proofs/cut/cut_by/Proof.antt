@@ -7,7 +7,7 @@ use native.Mathlib.Omega.{arith}
 use mathlib.Core.Path.{_≡_, refl, ap, _∙_}
 use lib.ListN.{length, take, drop, length-map}
 use Rattle.split.specs.Guarded.{cutAll}
-use Rattle.zones.specs.declared.zone.Zones.{Zones}
+use Rattle.split.specs.declared.list.Counted.{Counted}
 use Rattle.split.proofs.Steps.{guarded-refused, guarded-left, guarded-right, guarded-all, size-is, all-turn, all-done}
 
 abbrev Inv-loop : tie.InvT-loop
@@ -82,15 +82,17 @@ loop-again c =
 
 returns-4 : tie.Need-returns-4 Inv-loop μ-loop
 returns-4 c =
-    let after-none-at = c .before .before in
+    let at-end = c .before in
+    let after-none-at = at-end .before .before in
     let tested-3 = after-none-at .before .before in
     let tested-2 = tested-3 .before .before in
     let tested-1 = tested-2 .before .before in
     let a = tested-1 .before .args in
-    let v = c .before .loop .inv in
-    all-done (a .b) (a .clocks) (a .g) (a .t4 .list) (a .t4 .count) (c .before .loop .i) (c .before .loop .out) _
-    (omega (arith, c .loop-test .left, v .1)) (v .2)
-    ∙ ap (λ (o : Zones). cutAll (a .b) (a .clocks) (a .g) (take (a .t4 .count) (a .t4 .list)) o) (after-none-at .none-at .ensures)
+    let v = at-end .before .loop .inv in
+    ap (λ (o : Counted). o .zones)
+    (all-done (a .b) (a .clocks) (a .g) (a .t4 .list) (a .t4 .count) (at-end .before .loop .i) (at-end .before .loop .out) _
+    (omega (arith, at-end .loop-test .left, v .1)) (v .2)
+    ∙ ap (λ (o : Counted). cutAll (a .b) (a .clocks) (a .g) (take (a .t4 .count) (a .t4 .list)) o) (after-none-at .none-at .ensures))
     ∙ guarded-all (a .b) (a .clocks) (a .g) (a .t4) (tested-1 .if1 .left) (tested-2 .if2 .left) (tested-3 .if3 .left)
 
 pub cut-by-spec : {M : Type 1} → statement M
