@@ -34,19 +34,6 @@ pub enum Test {
     Asked(Expr),
 }
 
-/// A number of a sum or of a test leaves the range that it may lie in (refusal 9).
-#[derive(Clone, Copy, Debug, PartialEq, Eq)]
-pub struct Wide;
-
-/// The expression, if none of its numbers passes `most` in size.
-fn judged(e: Expr, most: i64) -> Result<Expr, Wide> {
-    if e.iter().all(|x| x.abs() <= most) {
-        Ok(e)
-    } else {
-        Err(Wide)
-    }
-}
-
 impl Bound {
     /// Zero, not strict.
     pub const ZERO: Bound = Bound::At {
@@ -54,35 +41,32 @@ impl Bound {
         strict: false,
     };
 
-    /// The sum: expressions added; strict if either is; none if either is. No number of it may pass
-    /// `most` in size.
-    pub fn sum(self, other: Bound, most: i64) -> Result<Bound, Wide> {
+    /// The sum: expressions added; strict if either is; none if either is.
+    pub fn sum(self, other: Bound) -> Bound {
         let (Bound::At { expr: a, strict: s }, Bound::At { expr: b, strict: t }) = (self, other)
         else {
-            return Ok(Bound::None);
+            return Bound::None;
         };
-        let expr = judged(std::array::from_fn(|k| a[k] + b[k]), most)?;
-        Ok(Bound::At {
-            expr,
+        Bound::At {
+            expr: std::array::from_fn(|k| a[k] + b[k]),
             strict: s || t,
-        })
+        }
     }
 
     /// Whether this bound, a, is tighter than the other, b: with a strict and b not, b - a >= 0, else
-    /// b - a - 1 >= 0. Any other bound is tighter than none, and none than no bound, with no test. No
-    /// number of the test may pass `most` in size.
-    pub fn tighter(self, other: Bound, most: i64) -> Result<Test, Wide> {
+    /// b - a - 1 >= 0. Any other bound is tighter than none, and none than no bound, with no test.
+    pub fn tighter(self, other: Bound) -> Test {
         let Bound::At { expr: a, strict: s } = self else {
-            return Ok(Test::Known(false));
+            return Test::Known(false);
         };
         let Bound::At { expr: b, strict: t } = other else {
-            return Ok(Test::Known(true));
+            return Test::Known(true);
         };
         let mut test: Expr = std::array::from_fn(|k| b[k] - a[k]);
         if !s || t {
             test[0] -= 1;
         }
-        judged(test, most).map(Test::Asked)
+        Test::Asked(test)
     }
 
     /// The bound with a valuation put in.
@@ -120,9 +104,9 @@ mod tests {
         for _ in 0..20000 {
             let (a, b) = (some(random), some(random));
             let v = [0; 3].map(|_| i64::from(random.from_to(-4, 4)));
-            assert_eq!(a.sum(b, 100).unwrap().at(v), a.at(v).sum(b.at(v)));
+            assert_eq!(a.sum(b).at(v), a.at(v).sum(b.at(v)));
             let yes = a.at(v).tighter(b.at(v));
-            match a.tighter(b, 100).unwrap() {
+            match a.tighter(b) {
                 Test::Known(answer) => assert_eq!(answer, yes),
                 Test::Asked(e) => {
                     assert_eq!(value(e, v) >= 0, yes);
@@ -132,53 +116,27 @@ mod tests {
         }
     }
 
-    /// Finished numbers are judged, up to a million in size, and none never is.
+    /// Sums and tests number by number, and with none.
     #[test]
-    fn wide_numbers() {
-        let most = 1_000_000;
-        let at = |constant, p, strict| Bound::At {
-            expr: [constant, p, 0, 0],
-            strict,
-        };
-        let (x, y) = (at(900_000, 0, false), at(100_000, 0, false));
-        assert_eq!(x.sum(y, most), Ok(at(1_000_000, 0, false)));
-        assert_eq!(x.sum(at(100_001, 0, true), most), Err(Wide));
-        assert_eq!(
-            at(0, -900_000, false).sum(at(0, -100_001, true), most),
-            Err(Wide)
-        );
-        assert_eq!(
-            at(2_000_000, 0, false).sum(Bound::None, most),
-            Ok(Bound::None)
-        );
-        // b - a - 1 is judged, not b - a
-        assert_eq!(x.tighter(at(-100_000, 0, false), most), Err(Wide));
-        assert_eq!(
-            x.tighter(at(-99_999, 0, false), most),
-            Ok(Test::Asked([-1_000_000, 0, 0, 0]))
-        );
-        assert_eq!(
-            y.tighter(at(1_100_001, 0, false), most),
-            Ok(Test::Asked([1_000_000, 0, 0, 0]))
-        );
-        assert_eq!(y.tighter(at(1_100_002, 0, false), most), Err(Wide));
-        let strict = at(900_000, 0, true);
-        assert_eq!(
-            strict.tighter(at(-100_000, 0, false), most),
-            Ok(Test::Asked([-1_000_000, 0, 0, 0]))
-        );
-        assert_eq!(strict.tighter(at(-100_000, 0, true), most), Err(Wide));
-        assert_eq!(
-            at(0, 2_000_000, false).tighter(Bound::None, most),
-            Ok(Test::Known(true))
-        );
-        assert_eq!(
-            Bound::None.tighter(at(0, 2_000_000, false), most),
-            Ok(Test::Known(false))
-        );
-        assert_eq!(
-            Bound::None.tighter(Bound::None, most),
-            Ok(Test::Known(false))
-        );
+    fn numbers_are_exact() {
+        let at = |expr, strict| Bound::At { expr, strict };
+        let [a, b] = [[9_000_000, -7, 0, 2], [2_000_000, 5, -1, 0]];
+        let sum = at([11_000_000, -2, -1, 2], true);
+        assert_eq!(at(a, false).sum(at(b, true)), sum);
+        for (s, t, constant) in [
+            (false, false, -7_000_001),
+            (false, true, -7_000_001),
+            (true, true, -7_000_001),
+            (true, false, -7_000_000),
+        ] {
+            let test = Test::Asked([constant, 12, -1, -2]);
+            assert_eq!(at(a, s).tighter(at(b, t)), test);
+        }
+        for bound in [at(a, true), Bound::None] {
+            assert_eq!(bound.sum(Bound::None), Bound::None);
+            assert_eq!(Bound::None.sum(bound), Bound::None);
+            assert_eq!(Bound::None.tighter(bound), Test::Known(false));
+        }
+        assert_eq!(at(a, false).tighter(Bound::None), Test::Known(true));
     }
 }

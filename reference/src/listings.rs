@@ -5,12 +5,12 @@
 //!
 //! The sheets of the paper are not among them. They stand in the folder `sheets`, beside their texts.
 
-use crate::cuttings::{self, arrivals, drawn, edges, firsts};
+use crate::cuttings::{self, arrivals, drawn, edges, firsts, numbers};
 use crate::family::Family;
 use crate::listing::listing;
 use crate::random::Random;
-use crate::samples::{along, at_most, biggest_sheet, range};
-use crate::sheet::{Sheet, MOST_ROUTE};
+use crate::samples::{at_most, biggest_sheet, range};
+use crate::sheet::Sheet;
 use crate::vectors::limits;
 use crate::writer;
 use std::collections::HashSet;
@@ -35,6 +35,7 @@ pub fn cases() -> Vec<Case> {
     list.extend(some_of_each());
     list.extend(built(firsts::cases()));
     list.extend(built(arrivals::cases()));
+    list.extend(built(numbers::cases()));
     let mut seen = HashSet::new();
     list.retain(|case| seen.insert(case.file.clone()));
     list
@@ -92,8 +93,8 @@ fn far_places() -> Vec<Case> {
 }
 
 /// Sheets that are built for Windows' vectors: those that end at a limit or past it (refusals 7 and
-/// 8, 32 zones and none), those that are built for a first valuation, and those with standing
-/// limits on arrival.
+/// 8, 32 zones and none), those that are built for a first valuation, those with standing limits on
+/// arrival, and those with the largest numbers.
 fn built(cases: Vec<cuttings::Case>) -> Vec<Case> {
     let one = |case: cuttings::Case| Case {
         name: case.name,
@@ -105,10 +106,9 @@ fn built(cases: Vec<cuttings::Case>) -> Vec<Case> {
 /// A clock that is never reset beside one that each of 32 moves resets, with bounds as far from zero as they
 /// go, or nearly: those of the first clock are the sums of 33 above and of 32 below.
 fn largest_numbers() -> Case {
-    let stay = vec![at_most(2, 0, 1000, [1000; 3])];
-    let leave = vec![at_most(0, 2, -999, [-999; 3])];
-    let moves = vec![(0b10, leave); MOST_ROUTE];
-    let sheet = along(&[range(0, 1); 3], 2, &[stay], &[0; MOST_ROUTE + 1], &moves);
+    let stay = at_most(2, 0, 1000, [1000; 3]);
+    let leave = at_most(0, 2, -999, [-999; 3]);
+    let sheet = numbers::chain(&[range(0, 1); 3], stay, &[leave]);
     Case {
         name: "the largest numbers".to_string(),
         file: writer::file(&sheet),

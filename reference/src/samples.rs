@@ -27,7 +27,7 @@ pub const fn below(a: u8, b: u8, constant: i16, coefficients: [i16; 3]) -> Guard
 }
 
 /// The parameter with that range.
-pub fn range(lowest: i16, highest: i16) -> Parameter {
+pub const fn range(lowest: i16, highest: i16) -> Parameter {
     Parameter { lowest, highest }
 }
 

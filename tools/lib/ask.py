@@ -138,16 +138,15 @@ def at_setting(given, setting, found, runner):
 
 
 def refused(given, refusal, runner, head, short):
-    """A refusal in words; by 7 to 9 with the limit at which it is met and what to do."""
+    """A refusal in words; by 7 or 8 with the limit at which it is met and what to do."""
     sheet, names = given.sheet, given.names
     lines, data = [f"{given.name}: {report.refusal_line(refusal)}"], jsonform.refusal_data(refusal)
-    if refusal.number in (7, 8, 9) and refusal.place <= len(sheet.route):
+    if refusal.number in (7, 8) and refusal.place <= len(sheet.route):
         part = beginnings.first_refused(runner, sheet, refusal)
         lines.append(f"met at {report.limit_line(part, sheet, names)}" if part else report.visit_line(refusal.place, sheet, names))
         data["met"] = part and jsonform.limit_data(part, sheet, names)
         if not short:
-            ranges = beginnings.accepted_ranges(runner, sheet) if refusal.number != 9 else []
-            lines += report.help_lines(refusal, ranges, sheet, names)
+            lines += report.help_lines(beginnings.accepted_ranges(runner, sheet), sheet, names)
     return Answer(REFUSED, lines, {**head, "refused": data})
 
 
@@ -158,10 +157,7 @@ def scheduled(given, setting, runner, head):
     """When each move can be made. Windows must agree that there is a run, and on the bounds at its end."""
     sheet, names = given.sheet, given.names
     steps = schedule.schedule(sheet, setting)
-    found = runner.at(sheet, setting)
-    if isinstance(found, listing.Refusal):  # by 9: its numbers are too big for Windows
-        return refused(given, found, runner, head, True)
-    agree(schedule.end_matrix(sheet, setting), put_in(found, setting), "the schedule and Windows", setting, names)
+    agree(schedule.end_matrix(sheet, setting), put_in(runner.at(sheet, setting), setting), "the schedule and Windows", setting, names)
     head["setting"] = jsonform.setting_data(setting, names)
     if steps is None:
         more, head["lost"] = lost_setting(setting, sheet, names, runner)
@@ -198,10 +194,6 @@ def sweep(given, at):
     refusal = found if isinstance(found, listing.Refusal) else None
     if refusal:
         found = runner.at(sheet, setting)
-        if isinstance(found, listing.Refusal):
-            refused_lines = refused(given, found, runner, head, True).lines
-            return Answer(ANSWER if run else NO_RUN, [f"Sweep: {'a' if run else 'no'} run follows the route", *refused_lines],
-                          {**head, "run": run, "refused": jsonform.refusal_data(found)})
     number = settings.holder(found.pieces, setting)
     agree(run, number is not None, "Sweep and Windows", setting, names)
     piece = None if number is None else found.pieces[number]

@@ -1,4 +1,4 @@
-"""The refusals of paper 01, "When no piece is given", in words."""
+"""The refusals in words: those of paper 01, "When no piece is given", but 9, which no sheet meets (docs/requests/n.md)."""
 
 GROUNDS = {
     1: "the table lent for the pieces has under 32 places",
@@ -9,13 +9,12 @@ GROUNDS = {
     6: "the setting lies outside a range, or is not 0 where the sheet has no such allowance",
     7: "one limit would list a 33rd piece",
     8: "a split would give its parts a 25th inequality",
-    9: "a constant or coefficient in a sum or test leaves -1,000,000 to 1,000,000",
 }
 
 
 def meaning(number, place):
     """What a refusal says, and what its place counts."""
-    ground = GROUNDS.get(number, "a refusal that is not in the paper's table")
+    ground = GROUNDS.get(number, "a refusal that is not in the table of docs/FORMAT.md")
     return f"{ground}{place_words(number, place)}"
 
 
@@ -24,6 +23,6 @@ def place_words(number, place):
         return f" (byte {place} of the file, counted from 0)"
     if number == 6:
         return f" (allowance {place}, counted from 0)"
-    if number in (7, 8, 9):
+    if number in (7, 8):
         return f" (after {place} {'move' if place == 1 else 'moves'} of the route)"
     return ""

@@ -160,10 +160,8 @@ def early_lines(beginning, sheet, names):
     return [f"standing limits hold {why}", *ways]
 
 
-def help_lines(refusal, ranges, sheet, names):
-    """What to do about a refusal by 7, 8 or 9."""
-    if refusal.number == 9:
-        return ["what helps: smaller coefficients, or smaller numbers in the limits up to there"]
+def help_lines(ranges, sheet, names):
+    """What to do about a refusal by 7 or 8, with the ranges that are taken."""
     lines = ["what helps"]
     for k, (low, high) in ranges:
         name, (_, highest) = names.allowance[k], sheet.ranges[k]
@@ -173,7 +171,7 @@ def help_lines(refusal, ranges, sheet, names):
         lines.append("    narrow or fix two allowances: of a single one not even the lowest value alone is taken")
     count = settings.count_all(sheet.ranges)
     return lines + [f"    or --by-sweep: one Sweep for each of the {plural(count, 'setting')}, without pieces",
-                    "    or a single setting, which is not refused by 7 or 8: sweep --at, or --schedule"]
+                    "    or a single setting, which is not refused: sweep --at, or --schedule"]
 
 
 # When

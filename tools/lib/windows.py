@@ -42,8 +42,11 @@ class Windows:
 
     def at(self, sheet, setting):
         """The listing with each range narrowed to the setting: one piece, or none. No test splits it, so that it is not
-        refused by 7 or 8."""
-        return self.of_sheet(narrowed(sheet, setting))
+        refused."""
+        found = self.of_sheet(narrowed(sheet, setting))
+        if isinstance(found, listing.Refusal):
+            raise Fault(f"Windows refuses a single setting with {found.number} place {found.place}; expected a listing", FAILED)
+        return found
 
 
 def narrowed(sheet, setting):

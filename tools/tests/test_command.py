@@ -120,7 +120,7 @@ class Answers(Commands):
         self.assertEqual(lines[1:], ["met at the limit v >= -32p - 256 of move 'm3', which leaves stage 's3' after 3 moves",
                                      "what helps", "    narrow p to -20..15 (Windows takes that), and try 16..20 as another sheet",
                                      "    or --by-sweep: one Sweep for each of the 41 settings, without pieces",
-                                     "    or a single setting, which is not refused by 7 or 8: sweep --at, or --schedule"])
+                                     "    or a single setting, which is not refused: sweep --at, or --schedule"])
 
     def test_a_refusal_at_a_standing_limit(self):
         for name, words in (("on arrival", "v >= -32p - 256 of stage 's4', on arrival after 4 moves"),
@@ -360,6 +360,9 @@ class InputAndOutput(Commands):
             program = self.file("program", f"#!/bin/sh\ncat > /dev/null\n{script}\n")
             program.chmod(0o755)
             self.fails(4, words, "windows", SHEETS / "a.txt", env=environment(LISTING=str(program)))
+        program.write_text("#!/bin/sh\ncat > /dev/null\necho refused 7 place 0\n", encoding="utf-8")
+        self.fails(4, "refuses a single setting with 7 place 0", "windows", SHEETS / "a.txt", "--schedule", "p=3",
+                   env=environment(LISTING=str(program)))
         self.fails(4, "none: No such file", "windows", SHEETS / "a.txt", env=environment(LISTING=str(self.folder / "none")))
         self.fails(4, "none.so", "sweep", SHEETS / "a.txt", "--at", "p=3", env=environment(SWEEP=str(self.folder / "none.so")))
 

@@ -11,11 +11,11 @@ use lib.Dec.{ltb, eqb}
 use lib.IntN.{ℤ}
 use lib.ListN.{length, getD, replicate}
 use Rattle.answers.specs.Numbers.{numbered}
-use Rattle.cutting.specs.Cutting.{Listing, listed, refused, startB, zonesOf, SevenToNine}
+use Rattle.cutting.specs.Cutting.{Listing, listed, refused, startB, zonesOf}
 use Rattle.cutting.specs.Cutting as cutting
 use Rattle.coded.specs.CodedRead.{holds-coded}
 use Rattle.cutting.specs.Held.{InRanges, holds}
-use Rattle.cutting.specs.NumberedProof.{zones-numbered}
+use Rattle.cutting.specs.NumberedProof.{some-number, zones-numbered}
 use Rattle.cutting.specs.ShapeProof.{zones-shaped}
 use Rattle.expr.specs.Ranges.{Inside}
 use Rattle.expr.specs.Three.{rangeList}
@@ -37,18 +37,13 @@ pub record Behind (file : List ℕ) (n : ℕ) (zs : List cutting.Zone) : Type 0 
   pub listing : zonesOf (sheetOf file) ≡ listed zs
   pub reply : windowsOf file n ≡ listedReply (sheetOf file) zs
 
-some-number : {n : ℕ} → SevenToNine n → n ≡ 0 → ⊥
-some-number (inl e) h = omega arith
-some-number (inr (inl e)) h = omega arith
-some-number (inr (inr e)) h = omega arith
-
 -- a listing whose reply has the number 0
 listing-behind : (s : Sheet) (o : Listing) → zonesOf s ≡ o → listingReply s o .answer .number ≡ 0
     → (zs : List cutting.Zone) × (o ≡ listed zs)
     × (listingReply s o ≡ listedReply s zs)
 unfolding listingReply
 listing-behind s (listed zs) e g = (zs, refl, refl)
-listing-behind s (refused m visit) e g = absurd (some-number (zones-numbered s m visit e) g)
+listing-behind s (refused m visit) e g = let h = some-number m (zones-numbered s m visit e) in absurd (omega arith)
 
 pub lists-behind : (file : List ℕ) (n : ℕ) → Lists file n → (zs : List cutting.Zone) × Behind file n zs
 unfolding windows.replyOf windows.readReply windows.sheetReply

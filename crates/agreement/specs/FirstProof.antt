@@ -2,28 +2,26 @@
 -- its ranges, and so every zone holds one.
 use mathlib.Core.Path.{_≡_, refl, sym, ap, subst, _∙_}
 use mathlib.Core.List.{List, [], _∷_}
-use mathlib.Core.Bool.{true, false}
 use Prim.Native.Nat.{ℕ, zero, suc, _≤_, _<_}
 use native.Mathlib.Omega.{arith}
 use lib.IntN.{ℤ, pos}
 use lib.ListN.{length, getD}
-use lib.Signed.{_≤ℤ_, ≤ℤ-refl}
 use Rattle.integer.specs.Apart.{apart}
 use Rattle.integer.specs.Order.{≤ℤ-antisym}
 use Rattle.cutting.specs.Cutting as cutting
 use Rattle.cutting.specs.FirstHeld.{firstHeld, StartsFirst}
 use Rattle.cutting.specs.FirstHeldProof.{zones-first}
 use Rattle.cutting.specs.Held.{InRanges}
-use Rattle.expr.specs.Ranges.{In, Inside}
+use Rattle.expr.specs.Ranges.{In}
 use Rattle.expr.specs.Three.{point, rangeList, valuationOf}
-use Rattle.parameters.specs.Parameters.{blankRange}
 use Rattle.parameters.specs.Right.{RangeRight}
 use Rattle.expr.specs.declared.range.Range.{Range}
 use Rattle.reading.specs.Accepted.{read-well-formed}
 use Rattle.reading.specs.File.{Fine, readOf}
-use Rattle.search.specs.First.{Earlier, IsFirst}
+use Rattle.search.specs.First.{Earlier}
 use Rattle.sheet.specs.WellFormed.{WellFormed}
 use Rattle.sheet.specs.declared.Sheet.{Sheet}
+use Rattle.timed.specs.Right.{lowest, lowest-inside}
 use Rattle.sweep.specs.Proofs.{sweep-right}
 use Rattle.sweep.specs.Theorems.{sheetOf}
 use Rattle.windows.specs.declared.table.Piece.{Piece}
@@ -33,16 +31,6 @@ use Rattle.agreement.specs.Words.{pieces, pieceAt, InRange, PieceHolds}
 use Rattle.agreement.specs.First.{firstAt, StartsAt, PiecesStart}
 
 -- ---- an accepted sheet's ranges
--- the lowest of each
-abbrev lowest : Sheet → List ℤ
-lowest s = s .ranges .p .low ∷ s .ranges .q .low ∷ s .ranges .r .low ∷ []
-
-lowest-in : (n k : ℕ) (r : Range) → RangeRight n k r → In (r .low) r
-lowest-in n k r h = record { least = ≤ℤ-refl (r .low); most = h .order }
-
-lowest-inside : (s : Sheet) → WellFormed s → InRanges s (lowest s)
-lowest-inside s f = (lowest-in _ _ _ (f .p), (lowest-in _ _ _ (f .q), (lowest-in _ _ _ (f .r), tt)))
-
 -- a parameter that the sheet lacks is 0
 lacking-zero : (n k : ℕ) (r : Range) (x : ℤ) → RangeRight n k r → n ≤ k → In x r → x ≡ pos 0
 lacking-zero n k r x h l i =

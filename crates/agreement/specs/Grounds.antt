@@ -5,7 +5,7 @@ use mathlib.Core.Logic.{_↔_, _⊎_}
 use mathlib.Core.List.{List}
 use Prim.Native.Nat.{ℕ, _≤_, _<_}
 use Rattle.answers.specs.Numbers.{numbered}
-use Rattle.cutting.specs.Cutting.{Listing, listed, refused, zonesOf, SevenToNine}
+use Rattle.cutting.specs.Cutting.{Listing, listed, refused, zonesOf, SevenOrEight}
 use Rattle.cutting.specs.Cutting as cutting
 use Rattle.reading.specs.File.{Fine, readOf, TwoToFive}
 use Rattle.sweep.specs.Theorems.{sheetOf}
@@ -22,8 +22,8 @@ pub record Grounds (file : List ℕ) (n : ℕ) : Type 0 where
   -- 2 to 5: the file's refusal
   pub file-refused : (m k : ℕ) → TwoToFive m
       → (windowsOf file n .answer ≡ numbered m k) ↔ ((32 ≤ n) × (readOf file .answer ≡ numbered m k))
-  -- 7, 8 or 9 at a visit: the first met in the cutting
-  pub cutting-refused : (m k : ℕ) → SevenToNine m → (windowsOf file n .answer ≡ numbered m k) ↔ CutTo file n (refused m k)
+  -- 7 or 8 at a visit: the first met in the cutting
+  pub cutting-refused : (m k : ℕ) → SevenOrEight m → (windowsOf file n .answer ≡ numbered m k) ↔ CutTo file n (refused m k)
   -- else the zones are listed
   pub zones-listed :
       (zs : List cutting.Zone)
@@ -31,4 +31,4 @@ pub record Grounds (file : List ℕ) (n : ℕ) : Type 0 where
   -- there are no other answers
   pub only :
       (windowsOf file n .answer .number ≡ 0) ⊎ (windowsOf file n .answer ≡ numbered 1 0)
-      ⊎ TwoToFive (windowsOf file n .answer .number) ⊎ SevenToNine (windowsOf file n .answer .number)
+      ⊎ TwoToFive (windowsOf file n .answer .number) ⊎ SevenOrEight (windowsOf file n .answer .number)

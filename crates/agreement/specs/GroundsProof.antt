@@ -10,7 +10,7 @@ use lib.Dec.{ltb, eqb}
 use Rattle.integer.specs.Apart.{apart}
 use Rattle.answers.specs.Numbers.{numbered}
 use Rattle.answers.specs.declared.Numbered.{Numbered}
-use Rattle.cutting.specs.Cutting.{Listing, listed, refused, zonesOf, SevenToNine}
+use Rattle.cutting.specs.Cutting.{Listing, listed, refused, zonesOf, SevenOrEight}
 use Rattle.cutting.specs.Cutting as cutting
 use Rattle.cutting.specs.NumberedProof.{zones-numbered}
 use Rattle.reading.specs.File.{Fine, readOf, TwoToFive}
@@ -32,10 +32,9 @@ two-to-five (inr (inl e)) = (omega arith, omega arith)
 two-to-five (inr (inr (inl e))) = (omega arith, omega arith)
 two-to-five (inr (inr (inr e))) = (omega arith, omega arith)
 
-seven-to-nine : {m : ℕ} → SevenToNine m → (7 ≤ m) × (m ≤ 9)
-seven-to-nine (inl e) = (omega arith, omega arith)
-seven-to-nine (inr (inl e)) = (omega arith, omega arith)
-seven-to-nine (inr (inr e)) = (omega arith, omega arith)
+seven-or-eight : {m : ℕ} → SevenOrEight m → (7 ≤ m) × (m ≤ 8)
+seven-or-eight (inl e) = (omega arith, omega arith)
+seven-or-eight (inr e) = (omega arith, omega arith)
 
 listed-one : {zs ys : List cutting.Zone} → listed zs ≡ listed ys → zs ≡ ys
 listed-one e = cc
@@ -115,14 +114,14 @@ module _ (file : List ℕ) (n : ℕ) where
   from-small (is-refused h f) e =
       let t = two-to-five (read-two f) in let g = number-of (sym (answer-refused h f) ∙ e) in absurd (omega (arith, t .0))
   from-small (is-cut h f m k q) e =
-      let t = seven-to-nine (zones-numbered s m k q) in let g = number-of (sym (cut-refused h f m k q) ∙ e) in absurd (omega (arith, t .0))
+      let t = seven-or-eight (zones-numbered s m k q) in let g = number-of (sym (cut-refused h f m k q) ∙ e) in absurd (omega (arith, t .0))
   from-small (is-listed h f zs q) e = let g = number-of (sym (answer-listed h f zs q) ∙ e) in absurd (omega arith)
 
   from-file : (m k : ℕ) → TwoToFive m → Case → windowsOf file n .answer ≡ numbered m k → (32 ≤ n) × (readOf file .answer ≡ numbered m k)
   from-file m k t (is-small h) e = let u = two-to-five t in let g = number-of (sym (answer-small h) ∙ e) in absurd (omega (arith, u .0))
   from-file m k t (is-refused h f) e = (h, sym (answer-refused h f) ∙ e)
   from-file m k t (is-cut h f a b q) e =
-      let u = two-to-five t in let w = seven-to-nine (zones-numbered s a b q) in let g = number-of (sym (cut-refused h f a b q) ∙ e) in
+      let u = two-to-five t in let w = seven-or-eight (zones-numbered s a b q) in let g = number-of (sym (cut-refused h f a b q) ∙ e) in
       absurd (omega (arith, u .1, w .0))
   from-file m k t (is-listed h f zs q) e =
       let u = two-to-five t in let g = number-of (sym (answer-listed h f zs q) ∙ e) in absurd (omega (arith, u .0))
@@ -132,15 +131,15 @@ module _ (file : List ℕ) (n : ℕ) where
       let u = two-to-five t in
       answer-refused h (λ f. let g = number-of e in omega (arith, u .0)) ∙ e
 
-  from-cut : (m k : ℕ) → SevenToNine m → Case → windowsOf file n .answer ≡ numbered m k → CutTo file n (refused m k)
-  from-cut m k t (is-small h) e = let u = seven-to-nine t in let g = number-of (sym (answer-small h) ∙ e) in absurd (omega (arith, u .0))
+  from-cut : (m k : ℕ) → SevenOrEight m → Case → windowsOf file n .answer ≡ numbered m k → CutTo file n (refused m k)
+  from-cut m k t (is-small h) e = let u = seven-or-eight t in let g = number-of (sym (answer-small h) ∙ e) in absurd (omega (arith, u .0))
   from-cut m k t (is-refused h f) e =
-      let u = seven-to-nine t in
+      let u = seven-or-eight t in
       let w = two-to-five (read-two f) in let g = number-of (sym (answer-refused h f) ∙ e) in absurd (omega (arith, u .0, w .1))
   from-cut m k t (is-cut h f a b q) e =
       (h, f, q ∙ ap (λ (x : Numbered). refused (x .number) (x .place)) (sym (cut-refused h f a b q) ∙ e))
   from-cut m k t (is-listed h f zs q) e =
-      let u = seven-to-nine t in let g = number-of (sym (answer-listed h f zs q) ∙ e) in absurd (omega (arith, u .0))
+      let u = seven-or-eight t in let g = number-of (sym (answer-listed h f zs q) ∙ e) in absurd (omega (arith, u .0))
 
   from-listed : (zs : List cutting.Zone) → windowsOf file n ≡ listedReply s zs
       → CutTo file n (listed zs)
@@ -152,10 +151,10 @@ module _ (file : List ℕ) (n : ℕ) where
 
   only-case : Case
       → (windowsOf file n .answer .number ≡ 0) ⊎ (windowsOf file n .answer ≡ numbered 1 0)
-      ⊎ TwoToFive (windowsOf file n .answer .number) ⊎ SevenToNine (windowsOf file n .answer .number)
+      ⊎ TwoToFive (windowsOf file n .answer .number) ⊎ SevenOrEight (windowsOf file n .answer .number)
   only-case (is-small h) = inr (inl (answer-small h))
   only-case (is-refused h f) = inr (inr (inl (subst TwoToFive (number-of (sym (answer-refused h f))) (read-two f))))
-  only-case (is-cut h f m k q) = inr (inr (inr (subst SevenToNine (number-of (sym (cut-refused h f m k q))) (zones-numbered s m k q))))
+  only-case (is-cut h f m k q) = inr (inr (inr (subst SevenOrEight (number-of (sym (cut-refused h f m k q))) (zones-numbered s m k q))))
   only-case (is-listed h f zs q) = inl (number-of (answer-listed h f zs q))
 
 pub grounds : (file : List ℕ) (n : ℕ) → Grounds file n

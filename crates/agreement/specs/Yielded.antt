@@ -9,15 +9,15 @@ use lib.IntN.{ℤ, pos, _+ℤ_, _*ℤ_}
 use lib.Signed.{_≤ℤ_}
 use Rattle.cutting.specs.FirstHeld.{firstHeld}
 use Rattle.cutting.specs.Kept.{keptOf}
-use Rattle.cutting.specs.Cutting.{startB, summed, tested, putEntry, rowFrom, rowsFrom, places, pushed, guardTree, never, listZone}
+use Rattle.cutting.specs.Cutting.{startB, tested, putEntry, rowFrom, rowsFrom, places, pushed, guardTree, never, listZone}
 use Rattle.cutting.specs.Cutting.{worked, guardZones, onBounds, stepZones, cutSteps, zonesAlong, zonesOf}
 use Rattle.dbm.specs.Matrix.{start, delayed, resetM, resetsM, limitedM, guarded}
-use Rattle.expr.specs.Affine.{dot, value, plusL, minusL, plus, minus, lessOne, opposite, judge}
+use Rattle.expr.specs.Affine.{dot, value, plusL, minusL, plus, minus, lessOne, opposite}
 use Rattle.search.specs.Interval.{interval}
 use Rattle.expr.specs.Ranges.{In}
 use Rattle.search.specs.IntervalLaws.{interval-exact}
 use Rattle.weight.specs.Upper.{Upper, none, upper, sumW, tighterW}
-use Rattle.expr.specs.Bounds.{atV, marked, sumB, asked, tighterB}
+use Rattle.expr.specs.Bounds.{atV, sumB, tighterB}
 use Rattle.search.specs.Valuations.{widths, span, width, before, valuations, satisfies, firstIn, countIn, first, count}
 use Rattle.expr.specs.Three.{point}
 use Rattle.expr.specs.declared.number.Valuation.{Valuation}
@@ -103,9 +103,9 @@ bytes-of-A = refl
 
 -- ---- every row
 pub listed-cases : ListedCases
-unfolding startB summed tested putEntry rowFrom rowsFrom places pushed guardTree never listZone worked guardZones onBounds stepZones
+unfolding startB tested putEntry rowFrom rowsFrom places pushed guardTree never listZone worked guardZones onBounds stepZones
     cutSteps zonesAlong zonesOf keptOf firstHeld widths start delayed resetM resetsM limitedM guarded dot value plusL minusL plus minus
-    lessOne opposite judge atV sumW marked sumB tighterW asked tighterB span width before valuations satisfies firstIn countIn first count p
+    lessOne opposite atV sumW sumB tighterW tighterB span width before valuations satisfies firstIn countIn first count p
     n sized entryField headOf oneOf firstOf twoOf secondOf threeOf thirdOf fourOf contentsOf shifted judged byteTaken wordTaken
     signedTaken byteField wordField signedField finished iterate rangeOf highestRight highestField rangeAt parametersAt blankLocation
     blankLocations locationStep locationsRead locationsAt belowField resetsRight resetsField transitionAt blankTransition

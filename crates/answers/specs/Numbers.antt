@@ -34,14 +34,14 @@ sweepAs sweep.Void = numbered 1 0
 sweepAs (sweep.Refused r) = refusalAs r
 sweepAs (sweep.Outside k) = numbered 6 k
 
--- Windows: 0 where the zones are listed, else the refusal; 7, 8 and 9 have the visit (moves made)
+-- Windows: 0 where the zones are listed, else the refusal; 7 and 8 have the visit (moves made). 9 (paper 01: a number leaves its range) is
+-- met by no sheet (paper 02, request (n): crate sizes), and its number is not used again
 abbrev pub windowsAs : WindowsAnswer → Numbered
 windowsAs (windows.Listed c) = numbered 0 0
 windowsAs windows.Small = numbered 1 0
 windowsAs (windows.Refused r) = refusalAs r
 windowsAs (windows.Zones visit) = numbered 7 visit
 windowsAs (windows.Inequalities visit) = numbered 8 visit
-windowsAs (windows.Numbers visit) = numbered 9 visit
 
 abbrev pub noCounts : Counts
 noCounts = record { pieces = 0; kept = 0; cut = 0 }
@@ -53,4 +53,3 @@ countsOf windows.Small = noCounts
 countsOf (windows.Refused r) = noCounts
 countsOf (windows.Zones visit) = noCounts
 countsOf (windows.Inequalities visit) = noCounts
-countsOf (windows.Numbers visit) = noCounts

@@ -12,15 +12,14 @@ pub struct Counts {
     pub cut: usize,
 }
 
-// The zones are listed; the table is too small (1); the file is refused (2 to 5); or at a visit a guard would list a 33rd zone (7), a split
-// would give its parts a 25th inequality (8), or a number leaves its range (9).
+// The zones are listed; the table is too small (1); the file is refused (2 to 5); or at a visit a guard would list a 33rd zone (7), or a
+// split would give its parts a 25th inequality (8). 9 was a number that leaves its range; no sheet meets it, and it is not used again.
 pub enum Answer {
     Listed(Counts),
     Small,
     Refused(Refusal),
     Zones(usize),
     Inequalities(usize),
-    Numbers(usize),
 }
 
 // The answer's number, 0 where the zones are listed, else the refusal; and the refusal's place, 0 where the zones are listed.
@@ -43,10 +42,6 @@ pub fn numbered(answer: Answer) -> Numbered
         },
         Answer::Inequalities(visit) => Numbered {
             number: 8,
-            place: visit,
-        },
-        Answer::Numbers(visit) => Numbered {
-            number: 9,
             place: visit,
         },
     }

@@ -1,44 +1,48 @@
 -- What the code does to zones in order under one guard (Guarded) is what the cutting does: the tree of tests is worked to the same ways,
 -- test for test, and a refusal sticks on both sides.
-use mathlib.Core.Path.{_≡_, refl, sym, ap, subst, _∙_}
+use mathlib.Core.Path.{_≡_, refl, sym, ap, _∙_}
 use mathlib.Core.List.{List, [], _∷_, _++_, map}
 use mathlib.Core.Bool.{Bool, true, false, cond}
 use Prim.Native.Nat.{ℕ, suc, _-_, _≤_, _<_}
 use native.Mathlib.Omega.{arith}
-use borrow.Author.Tests.{ltb-true, le-ltb, lt-ltb, eqb-false}
+use borrow.Author.Tests.{ltb-true, le-ltb, lt-ltb}
 use lib.Dec.{eqb, ltb}
 use lib.ListN.{length, set, replicate}
-use Rattle.cutting.specs.Cutting.{Bounds, Tree, cut, keep, wideTree, asks, guardTree, Listing, listed, refused, INEQS, ZONES, never}
-use Rattle.cutting.specs.Cutting.{listZone, worked, guardZones, andThen}
+use Rattle.cutting.specs.Cutting.{Bounds, Tree, cut, keep, asks, guardTree, Listing, listed, refused, INEQS, ZONES, never, guardZones}
+use Rattle.cutting.specs.Cutting.{andThen}
 use Rattle.cutting.specs.Cutting as cutting
+use Rattle.cutting.specs.Every.{Right}
 use Rattle.cutting.specs.Ways.{Way, Outcome, leads, refuses, listWay, counting, withoutCounts}
 use Rattle.cutting.specs.CeilingProof.{zones-more, zones-length, counting-without}
+use Rattle.cutting.specs.NumberedProof.{some-number}
 use Rattle.expr.specs.Affine.{Affine, opposite}
 use Rattle.expr.specs.Three.{affine, exprOf, boundAs, rangeList, zeroExpr}
 use Rattle.search.specs.Valuations.{first}
 use Rattle.expr.specs.declared.number.Expr.{Expr}
 use Rattle.expr.specs.declared.range.Ranges.{Ranges}
 use Rattle.guards.specs.declared.Guard.{Guard}
+use Rattle.sizes.specs.Sizes.{AtMostE, AtMostM, AsksAtMost, ENTRY, TEST, SmallGuard}
+use Rattle.sizes.specs.SizesProof.{numbers-small}
 use Rattle.timed.specs.Lists.{AllOf}
 use Rattle.coded.specs.Records.{boundsOf, zoneOf, zonesIn, coded}
-use Rattle.coded.specs.Counts.{NarrowM, NarrowZone, countsIn, codedWays}
+use Rattle.coded.specs.Counts.{countsIn, codedWays}
 use Rattle.coded.specs.Coded.{one-more, length-more, taken}
 use Rattle.coded.specs.CodedTests.{pad-first, opposite-coded, never-is}
-use Rattle.coded.specs.CodedTree.{treeOf, Good, Same, guard-same}
+use Rattle.coded.specs.CodedTree.{treeOf, guard-same}
 use Rattle.split.specs.Guarded.{ruleC, cutC, cutAll, guardedC}
 use Rattle.split.specs.Listed.{noneAt, refusedC, addedC, listC}
 use Rattle.split.specs.declared.list.Counted.{Counted}
 use Rattle.zones.specs.Zone.{blankZone, plusC}
 use Rattle.parts.specs.Parts.{withBounds}
-use Rattle.split.specs.Trees.{TreeC, cutT, keepT, wideT, askT, treeAt, workedC}
+use Rattle.split.specs.Trees.{TreeC, cutT, keepT, askT, workedC}
 use Rattle.zones.specs.Settled.{oppositeC, neverC, isNone}
 use Rattle.zones.specs.declared.zone.Zone.{Zone}
 use Rattle.zones.specs.declared.zone.Zones.{Zones}
 
--- the zones' matrices are narrow, or the refusal has a number
-abbrev pub Sound : Listing → Type 0
-Sound (listed zs) = AllOf NarrowZone zs
-Sound (refused n k) = eqb n 0 ≡ false
+-- a refusal has a number
+abbrev pub Told : Outcome → Type 0
+Told (leads ws) = Unit {0}
+Told (refuses n v) = eqb n 0 ≡ false
 
 abbrev with-ineqs : List Affine → Bounds → cutting.Zone
 with-ineqs is m = record { ineqs = is; bounds = m }
@@ -127,7 +131,6 @@ sticks : (b : Ranges) (t : TreeC) (k : ℕ) (z : Zone) (out : Counted) → eqb (
 unfolding workedC listC
 sticks b cutT k z out h = refl
 sticks b (keepT m) k z out h = rw h (refused-stays 7 out h)
-sticks b wideT k z out h = refused-stays 9 out h
 sticks b (askT e f) k z out h =
     cond-all (neverC b z e) (workedC b (f false) (suc k) z out) _ out (sticks b (f false) (suc k) z out h)
     (cond-all (neverC b z (oppositeC e)) (workedC b (f true) (suc k) z out) _ out (sticks b (f true) (suc k) z out h)
@@ -138,61 +141,37 @@ sticks b (askT e f) k z out h =
     (refused-stays 8 out h)))
 
 -- ---- a tree worked
-all-more : (zs : List cutting.Zone) (z : cutting.Zone) → AllOf NarrowZone zs → NarrowZone z → AllOf NarrowZone (zs ++ (z ∷ []))
-all-more [] z a h = (h, tt)
-all-more (y ∷ zs) z a h = (a .0, all-more zs z (a .1) h)
-
 module _ (b : Ranges) (visit : ℕ) where
-  abbrev works : Tree → List Affine → Listing → Listing
-  works t is o = worked (rangeList b) visit t is o
-
-  abbrev StaysSound : Tree → Type 0
-  StaysSound t = (is : List Affine) (o : Listing) → Sound o → Sound (works t is o)
-
-  pick-sound : (x : Bool) (o u : Listing) → Sound o → Sound u → Sound (cond x o u)
-  pick-sound true o u h k = h
-  pick-sound false o u h k = k
-
-  keep-sound : (m : Bounds) → NarrowM m → (is : List Affine) (zs : List cutting.Zone) → AllOf NarrowZone zs
-      → Sound (listZone visit (with-ineqs is m) zs)
-  unfolding listZone
-  keep-sound m h is zs s =
-      pick-sound (ltb (length zs) ZONES) (listed (zs ++ (with-ineqs is m ∷ []))) (refused 7 visit)
-      (all-more zs (with-ineqs is m) s (record { bounds = h })) refl
-
-  pub worked-sound : (t : Tree) → Good t → StaysSound t
-  unfolding worked
-  worked-sound cut g is (listed zs) s = s
-  worked-sound cut g is (refused n k) s = s
-  worked-sound (keep m) g is (listed zs) s = keep-sound m g is zs s
-  worked-sound (keep m) g is (refused n k) s = s
-  worked-sound wideTree g is (listed zs) s = refl
-  worked-sound wideTree g is (refused n k) s = s
-  worked-sound (asks e f) g is (listed zs) s =
-      pick-sound (never (rangeList b) is e) _ _ (worked-sound (f false) (g .1 false) is (listed zs) s)
-      (pick-sound (never (rangeList b) is (opposite e)) _ _ (worked-sound (f true) (g .1 true) is (listed zs) s)
-      (pick-sound (ltb (length is) INEQS) _ _
-      (worked-sound (f false) (g .1 false) (is ++ (opposite e ∷ [])) (works (f true) (is ++ (e ∷ [])) (listed zs))
-      (worked-sound (f true) (g .1 true) (is ++ (e ∷ [])) (listed zs) s)) refl))
-  worked-sound (asks e f) g is (refused n k) s = s
-
   abbrev counts : Tree → ℕ → List Affine → Outcome → Outcome
   counts t k is o = counting (rangeList b) visit t k is o
 
-  -- what a tree leads to is sound
-  counted-sound : (t : Tree) → Good t → (k : ℕ) (is : List Affine) (o : Outcome) → Sound (withoutCounts o)
-      → Sound (withoutCounts (counts t k is o))
-  counted-sound t g k is o s =
-      subst Sound (sym (counting-without (rangeList b) visit t k is o)) (worked-sound t g is (withoutCounts o) s)
+  -- a tree is refused by a number
+  pick-told : (x : Bool) (o u : Outcome) → Told o → Told u → Told (cond x o u)
+  pick-told true o u h k = h
+  pick-told false o u h k = k
+
+  counted-told : (t : Tree) (k : ℕ) (is : List Affine) (o : Outcome) → Told o → Told (counts t k is o)
+  unfolding counting listWay
+  counted-told cut k is (leads ws) s = tt
+  counted-told cut k is (refuses n v) s = s
+  counted-told (keep m) k is (leads ws) s = pick-told (ltb (length ws) ZONES) _ (refuses 7 visit) tt refl
+  counted-told (keep m) k is (refuses n v) s = s
+  counted-told (asks e f) k is (leads ws) s =
+      pick-told (never (rangeList b) is e) _ _ (counted-told (f false) (suc k) is (leads ws) s)
+      (pick-told (never (rangeList b) is (opposite e)) _ _ (counted-told (f true) (suc k) is (leads ws) s)
+      (pick-told (ltb (length is) INEQS) _ (refuses 8 visit)
+      (counted-told (f false) (suc k) (is ++ (opposite e ∷ [])) (counts (f true) (suc k) (is ++ (e ∷ [])) (leads ws))
+      (counted-told (f true) (suc k) (is ++ (e ∷ [])) (leads ws) s)) refl))
+  counted-told (asks e f) k is (refuses n v) s = s
 
   module _ (m₀ : Bounds) where
     abbrev Coded : Tree → Type 0
     Coded t =
-        (k : ℕ) (is : List Affine) (o : Outcome) → Sound (withoutCounts o)
+        (k : ℕ) (is : List Affine) (o : Outcome) → Told o
         → workedC b (treeOf t) k (zoneOf (with-ineqs is m₀)) (codedWays visit o) ≡ codedWays visit (counts t k is o)
 
-    module _ (e : Affine) (f : Bool → Tree) (g : Good (asks e f)) (ih : (x : Bool) → Coded (f x)) (k : ℕ) (is : List Affine)
-        (ws : List Way) (s : Sound (withoutCounts (leads ws))) where
+    module _ (e : Affine) (f : Bool → Tree) (small : AtMostE TEST e) (ih : (x : Bool) → Coded (f x)) (k : ℕ) (is : List Affine)
+        (ws : List Way) where
       abbrev zone : Zone
       zone = zoneOf (with-ineqs is m₀)
 
@@ -218,9 +197,9 @@ module _ (b : Ranges) (visit : ℕ) where
       split-coded h =
           ap (λ (z : Zone). goes false z (goes true (plusC zone (exprOf e)) out)) (plus-coded is m₀ (opposite e) h)
           ∙ ap (λ (z : Zone). goes false (zoneOf (with-ineqs (is ++ (opposite e ∷ [])) m₀)) (goes true z out)) (plus-coded is m₀ e h)
-          ∙ ap (goes false (zoneOf (with-ineqs (is ++ (opposite e ∷ [])) m₀))) (ih true (suc k) (is ++ (e ∷ [])) (leads ws) s)
+          ∙ ap (goes false (zoneOf (with-ineqs (is ++ (opposite e ∷ [])) m₀))) (ih true (suc k) (is ++ (e ∷ [])) (leads ws) tt)
           ∙ ih false (suc k) (is ++ (opposite e ∷ [])) (leadsOn true (is ++ (e ∷ [])) (leads ws))
-          (counted-sound (f true) (g .1 true) (suc k) (is ++ (e ∷ [])) (leads ws) s)
+          (counted-told (f true) (suc k) (is ++ (e ∷ [])) (leads ws) tt)
 
       room-coded : (x : Bool) → ltb (length is) 24 ≡ x
           → cond x halvesC (refusedC 8 out) ≡ codedWays visit (cond x halves (refuses 8 visit))
@@ -231,7 +210,7 @@ module _ (b : Ranges) (visit : ℕ) where
       all-coded : (x : Bool)
           → cond x (goes true zone out) (cond (ltb (length is) 24) halvesC (refusedC 8 out))
           ≡ codedWays visit (cond x (leadsOn true is (leads ws)) (cond (ltb (length is) INEQS) halves (refuses 8 visit)))
-      all-coded true = ih true (suc k) is (leads ws) s
+      all-coded true = ih true (suc k) is (leads ws) tt
       all-coded false = room-coded (ltb (length is) 24) refl
 
       none-coded : (x : Bool)
@@ -240,20 +219,19 @@ module _ (b : Ranges) (visit : ℕ) where
           ≡ codedWays visit (cond x (leadsOn false is (leads ws))
           (cond (never (rangeList b) is (opposite e)) (leadsOn true is (leads ws))
           (cond (ltb (length is) INEQS) halves (refuses 8 visit))))
-      none-coded true = ih false (suc k) is (leads ws) s
+      none-coded true = ih false (suc k) is (leads ws) tt
       none-coded false = all-coded (never (rangeList b) is (opposite e))
 
       asks-coded : workedC b (treeOf (asks e f)) k zone out ≡ codedWays visit (counts (asks e f) k is (leads ws))
       unfolding workedC counting zoneOf
       asks-coded =
-          rw (opposite-coded e (g .0))
+          rw (opposite-coded e small)
           (rw (never-coded b is m₀ e, never-coded b is m₀ (opposite e)) (none-coded (never (rangeList b) is e)))
 
     counting-refused : (t : Tree) (k : ℕ) (is : List Affine) (n v : ℕ) → counts t k is (refuses n v) ≡ refuses n v
     unfolding counting
     counting-refused cut k is n v = refl
     counting-refused (keep m) k is n v = refl
-    counting-refused wideTree k is n v = refl
     counting-refused (asks e f) k is n v = refl
 
     stuck : (t : Tree) (k : ℕ) (is : List Affine) (n v : ℕ) → eqb n 0 ≡ false
@@ -263,55 +241,47 @@ module _ (b : Ranges) (visit : ℕ) where
         sticks b (treeOf t) k (zoneOf (with-ineqs is m₀)) (codedWays visit (refuses n v)) s
         ∙ ap (codedWays visit) (sym (counting-refused t k is n v))
 
-    pub worked-coded : (t : Tree) → Good t → Coded t
+    worked-coded : (t : Tree) → AsksAtMost TEST t → Coded t
     unfolding workedC counting coded codedWays refusedC
     worked-coded cut g k is (leads ws) s = refl
     worked-coded cut g k is (refuses n v) s = stuck cut k is n v s
     worked-coded (keep m) g k is (leads ws) s = rw (other-bounds is m₀ m) (list-coded visit (with-ineqs is m) k ws)
     worked-coded (keep m) g k is (refuses n v) s = stuck (keep m) k is n v s
-    worked-coded wideTree g k is (leads ws) s = refl
-    worked-coded wideTree g k is (refuses n v) s = stuck wideTree k is n v s
-    worked-coded (asks e f) g k is (leads ws) s = asks-coded e f g (λ x. worked-coded (f x) (g .1 x)) k is ws s
+    worked-coded (asks e f) g k is (leads ws) s = asks-coded e f (g .0) (λ x. worked-coded (f x) (g .1 x)) k is ws
     worked-coded (asks e f) g k is (refuses n v) s = stuck (asks e f) k is n v s
 
 -- ---- one guard
-module _ (b : Ranges) (visit w : ℕ) (g : Guard) (four : w ≤ 4) (left : g .left ≤ 4) (right : g .right ≤ 4) where
+module _ (b : Ranges) (visit w : ℕ) (g : Guard) (four : w ≤ 4) (small : SmallGuard w g) where
+  -- a zone whose entries are small
+  abbrev pub Small : cutting.Zone → Type 0
+  Small z = AtMostM ENTRY w (z .bounds)
+
   abbrev tree : cutting.Zone → Tree
   tree z = guardTree w (g .left) (g .right) (boundAs (g .bound)) (z .bounds)
-
-  trees-same : (z : cutting.Zone) → NarrowZone z → Same (treeAt (ruleC w g (zoneOf z)) 0 (boundsOf (z .bounds))) (tree z)
-  unfolding zoneOf
-  trees-same z n = guard-same w (g .left) (g .right) (g .bound) (z .bounds) four left right (n .bounds)
 
   -- one zone, after what was listed before
   abbrev one : cutting.Zone → Outcome → Outcome
   one z o = counting (rangeList b) visit (tree z) 0 (z .ineqs) o
 
-  pub zone-coded : (z : cutting.Zone) → NarrowZone z → (o : Outcome) → Sound (withoutCounts o)
+  pub zone-coded : (z : cutting.Zone) → Small z → (o : Outcome) → Told o
       → cutC b (ruleC w g (zoneOf z)) (zoneOf z) (codedWays visit o) ≡ codedWays visit (one z o)
   unfolding cutC zoneOf
-  zone-coded z n o s =
-      ap (λ (t : TreeC). workedC b t 0 (zoneOf z) (codedWays visit o)) (trees-same z n .same)
-      ∙ worked-coded b visit (z .bounds) (tree z) (trees-same z n .good) 0 (z .ineqs) o s
-
-  zone-sound : (z : cutting.Zone) → NarrowZone z → (o : Outcome) → Sound (withoutCounts o) → Sound (withoutCounts (one z o))
-  zone-sound z n o s = counted-sound b visit (tree z) (trees-same z n .good) 0 (z .ineqs) o s
+  zone-coded z h o s =
+      ap (λ (t : TreeC). workedC b t 0 (zoneOf z) (codedWays visit o)) (guard-same w g (z .bounds) four small h)
+      ∙ worked-coded b visit (z .bounds) (tree z) (numbers-small .rules w g small (z .bounds) h .tests) 0 (z .ineqs) o s
 
   -- zones in order
   abbrev each : List cutting.Zone → Outcome → Outcome
   each [] o = o
   each (z ∷ zs) o = each zs (one z o)
 
-  each-sound : (zs : List cutting.Zone) → AllOf NarrowZone zs → (o : Outcome) → Sound (withoutCounts o) → Sound (withoutCounts (each zs o))
-  each-sound [] a o s = s
-  each-sound (z ∷ zs) a o s = each-sound zs (a .1) (one z o) (zone-sound z (a .0) o s)
-
-  each-coded : (zs : List cutting.Zone) → AllOf NarrowZone zs → (o : Outcome) → Sound (withoutCounts o)
+  each-coded : (zs : List cutting.Zone) → AllOf Small zs → (o : Outcome) → Told o
       → cutAll b w g (map zoneOf zs) (codedWays visit o) ≡ codedWays visit (each zs o)
   unfolding cutAll
   each-coded [] a o s = refl
   each-coded (z ∷ zs) a o s =
-      ap (cutAll b w g (map zoneOf zs)) (zone-coded z (a .0) o s) ∙ each-coded zs (a .1) (one z o) (zone-sound z (a .0) o s)
+      ap (cutAll b w g (map zoneOf zs)) (zone-coded z (a .0) o s)
+      ∙ each-coded zs (a .1) (one z o) (counted-told b visit (tree z) 0 (z .ineqs) o s)
 
   -- without the counts they are the cutting's
   each-without : (zs : List cutting.Zone) (o : Outcome)
@@ -326,21 +296,16 @@ module _ (b : Ranges) (visit w : ℕ) (g : Guard) (four : w ≤ 4) (left : g .le
   abbrev cuts : List cutting.Zone → Listing
   cuts zs = guardZones (rangeList b) visit w g zs (listed [])
 
-  pub guard-sound : (o : Listing) → Sound o → Sound (andThen o cuts)
-  guard-sound (listed zs) s = subst Sound (each-without zs (leads [])) (each-sound zs s (leads []) tt)
-  guard-sound (refused n k) s = s
-
-  zones-coded : (zs : List cutting.Zone) → AllOf NarrowZone zs
+  zones-coded : (zs : List cutting.Zone) → AllOf Small zs
       → cutAll b w g (map zoneOf zs) (codedWays visit (leads [])) .zones ≡ coded visit (cuts zs)
   unfolding codedWays
-  zones-coded zs s =
-      ap (λ (o : Counted). o .zones) (each-coded zs s (leads []) tt) ∙ ap (coded visit) (each-without zs (leads []))
+  zones-coded zs a =
+      ap (λ (o : Counted). o .zones) (each-coded zs a (leads []) tt) ∙ ap (coded visit) (each-without zs (leads []))
 
-  pub guard-coded : (o : Listing) → Sound o → guardedC b w g (coded visit o) ≡ coded visit (andThen o cuts)
+  pub guard-coded : (o : Listing) → Right Small o → guardedC b w g (coded visit o) ≡ coded visit (andThen o cuts)
   unfolding guardedC coded codedWays noneAt zonesIn
-  guard-coded (listed zs) s =
-      rw (le-ltb 4 (g .left) left, le-ltb 4 (g .right) right, taken zoneOf blankZone (32 - length zs) zs) (zones-coded zs s)
-  guard-coded (refused n k) s = rw (lt-ltb 0 n (some n s)) refl
-    where
-      some : (n : ℕ) → eqb n 0 ≡ false → 0 < n
-      some n h = let d = eqb-false n 0 h in omega arith
+  guard-coded (listed zs) r =
+      let left : g .left ≤ 4 = omega (arith, small .left) in
+      let right : g .right ≤ 4 = omega (arith, small .right) in
+      rw (le-ltb 4 (g .left) left, le-ltb 4 (g .right) right, taken zoneOf blankZone (32 - length zs) zs) (zones-coded zs (r .1))
+  guard-coded (refused n k) r = rw (lt-ltb 0 n (some-number n r)) refl

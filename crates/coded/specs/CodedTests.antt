@@ -1,33 +1,32 @@
--- The code's records of expressions lose nothing: an expression has at most three coefficients, and one that is missing is zero. So
+-- The code's records of expressions lose nothing at valuations of three parameters, and numbers that are small are not saturated. So
 -- values, sums, tests and opposites are those of the cutting, and so is what no valuation of a zone satisfies.
 use mathlib.Core.Path.{_≡_, refl, ap, _∙_}
-use mathlib.Core.List.{List, [], _∷_, _++_, map, List·Memᴰ, List·Memᴰ·head, List·Memᴰ·tail}
-use mathlib.Core.Bool.{Bool, true, false, _&&_, _||_, cond}
+use mathlib.Core.List.{List, [], _∷_, _++_, map, List·Memᴰ}
+use mathlib.Core.Bool.{Bool, true, false, _||_, cond}
 use mathlib.Core.Option.{Option}
 use mathlib.Core.Option as option
-use Prim.Native.Nat.{ℕ, zero, suc, _≤_}
+use Prim.Native.Nat.{ℕ, zero, suc, _+_, _≤_}
 use native.Mathlib.Omega.{arith}
-use lib.IntN.{ℤ, pos, negsuc, negℤ, _+ℤ_, _-ℤ_, _*ℤ_, zero-*ℤ, +ℤ-idl}
-use lib.ListN.{length, getD, length-map}
-use lib.Signed.{leZ, _≤ℤ_}
-use Rattle.cutting.specs.Cutting.{Bounds, never}
-use Rattle.expr.specs.Bounds.{zeroB, atV, marked, sumB, Question, yes′, no′, ask, wide′, asked, slackE, tighterB}
-use Rattle.expr.specs.Affine.{Affine, dot, value, plusL, minusL, plus, minus, lessOne, opposite, within, allWithin, Judged, fine, wide}
-use Rattle.expr.specs.Affine.{judge, WIDEST, OPPOSITE}
-use Rattle.weight.specs.Upper.{Upper, none, upper}
+use lib.IntN.{ℤ, pos, negℤ, _+ℤ_, _-ℤ_, _*ℤ_, zero-*ℤ, +ℤ-idl, natAbs}
+use lib.ListN.{length, getD}
+use Rattle.cutting.specs.Cutting.{never}
+use Rattle.expr.specs.Bounds.{atV, sumB, ask, slackE, tighterB, saturatedB}
+use Rattle.expr.specs.Affine.{Affine, dot, value, plusL, minusL, plus, minus, lessOne, opposite, LARGEST, saturatedE}
+use Rattle.weight.specs.Upper.{Upper, none, upper, saturate}
+use Rattle.weight.specs.Laws.{saturate-small}
 use Rattle.expr.specs.Ranges.{Inside}
-use Rattle.integer.specs.Bools.{and-left, and-right, and-both}
 use Rattle.search.specs.SearchLaws.{valuations-inside, first-same, count-same}
-use Rattle.expr.specs.Three.{affine, exprOf, boundAs, boundOf, boundSum, test, rangeList}
-use Rattle.search.specs.Valuations.{valuations, satisfies, firstIn, countIn, first, count}
+use Rattle.expr.specs.Three.{affine, exprOf, boundAs, boundOf, test, rangeList}
+use Rattle.search.specs.Valuations.{valuations, satisfies, first, count}
 use Rattle.expr.specs.declared.bound.Bound.{Bound}
-use Rattle.expr.specs.declared.number.Expr.{Expr}
 use Rattle.expr.specs.declared.range.Range.{Range}
 use Rattle.expr.specs.declared.range.Ranges.{Ranges}
-use Rattle.integer.specs.Order.{leZ-true}
+use Rattle.integer.specs.Parts.{natAbs-parts, pos-parts}
 use Rattle.integer.specs.Split.{split, split-all}
+use Rattle.sizes.specs.Sizes.{AtMostE, AtMostB, TEST}
+use Rattle.timed.specs.Lists.{AllOf}
+use Rattle.constrain.specs.Rules.{sumC, tighterC}
 use Rattle.zones.specs.Settled.{oppositeC, isNone}
-use Rattle.coded.specs.Counts.{Narrow, NarrowB}
 
 -- the expression that the code's record stands for
 abbrev pub pad : Affine → Affine
@@ -154,106 +153,18 @@ pad-slack true true a b = ap lessOne (pad-minus b a) ∙ pad-less (minus b a)
 pad-slack true false a b = pad-minus b a
 pad-slack false t a b = ap lessOne (pad-minus b a) ∙ pad-less (minus b a)
 
--- ---- at most three coefficients
-abbrev pub NarrowJ : Judged (Upper Affine) → Type 0
-NarrowJ (fine b) = NarrowB b
-NarrowJ wide = Unit {0}
-
-plus-length : (cs ds : List ℤ) (n : ℕ) → length cs ≤ n → length ds ≤ n → length (plusL cs ds) ≤ n
-unfolding plusL
-plus-length [] ds n h k = k
-plus-length (c ∷ cs) [] n h k = h
-plus-length (c ∷ cs) (d ∷ ds) zero h k = absurd (omega arith)
-plus-length (c ∷ cs) (d ∷ ds) (suc n) h k = let a = plus-length cs ds n (omega arith) (omega arith) in omega arith
-
-minus-length : (cs ds : List ℤ) (n : ℕ) → length cs ≤ n → length ds ≤ n → length (minusL cs ds) ≤ n
-unfolding minusL
-minus-length [] ds n h k = let a = length-map ds negℤ in omega arith
-minus-length (c ∷ cs) [] n h k = h
-minus-length (c ∷ cs) (d ∷ ds) zero h k = absurd (omega arith)
-minus-length (c ∷ cs) (d ∷ ds) (suc n) h k = let a = minus-length cs ds n (omega arith) (omega arith) in omega arith
-
-plus-narrow : (a b : Affine) → Narrow a → Narrow b → Narrow (plus a b)
-unfolding plus
-plus-narrow a b h k = record { three = plus-length (a .coefs) (b .coefs) 3 (h .three) (k .three) }
-
-minus-narrow : (a b : Affine) → Narrow a → Narrow b → Narrow (minus a b)
-unfolding minus
-minus-narrow a b h k = record { three = minus-length (a .coefs) (b .coefs) 3 (h .three) (k .three) }
-
-less-narrow : (e : Affine) → Narrow e → Narrow (lessOne e)
-unfolding lessOne
-less-narrow e h = record { three = h .three }
-
-slack-narrow : (s t : Bool) (a b : Affine) → Narrow a → Narrow b → Narrow (slackE s t a b)
-slack-narrow true true a b h k = less-narrow (minus b a) (minus-narrow b a k h)
-slack-narrow true false a b h k = minus-narrow b a k h
-slack-narrow false t a b h k = less-narrow (minus b a) (minus-narrow b a k h)
-
-pub pad-narrow : (x : Expr) → Narrow (affine x)
-pad-narrow x = record { three = omega arith }
-
--- a bound of the code has three
-pub limit-narrow : (x : Bound) → NarrowB (boundAs x)
-limit-narrow x = by (x .none)
-  where
-    by : (b : Bool) → NarrowB (cond b none (upper (x .strict) (affine (x .expr))))
-    by true = tt
-    by false = pad-narrow (x .expr)
-
-pub zero-narrow : NarrowB zeroB
-zero-narrow = record { three = omega arith }
-
-pub sum-narrow : (a b : Upper Affine) → NarrowB a → NarrowB b → NarrowJ (sumB a b)
-unfolding sumB marked judge
-sum-narrow none b h k = tt
-sum-narrow (upper s a) none h k = tt
-sum-narrow (upper s a) (upper t b) h k = by (allWithin WIDEST (plus a b .constant ∷ plus a b .coefs))
-  where
-    by : (x : Bool) → NarrowJ (marked (s || t) (cond x (fine (plus a b)) wide))
-    by true = plus-narrow a b h k
-    by false = tt
-
--- ---- judging sees the same
-within-pad : (cs : List ℤ) → length cs ≤ 3
-    → allWithin WIDEST (getD cs 0 (pos 0) ∷ getD cs 1 (pos 0) ∷ getD cs 2 (pos 0) ∷ []) ≡ allWithin WIDEST cs
-within-pad [] h = refl
-within-pad (c ∷ []) h = refl
-within-pad (c ∷ d ∷ []) h = refl
-within-pad (c ∷ d ∷ e ∷ []) h = refl
-within-pad (c ∷ d ∷ e ∷ f ∷ cs) h = absurd (omega arith)
-
-pad-within : (e : Affine) → Narrow e → allWithin WIDEST (pad e .constant ∷ pad e .coefs) ≡ allWithin WIDEST (e .constant ∷ e .coefs)
-pad-within e h = ap (λ (b : Bool). within WIDEST (e .constant) && b) (within-pad (e .coefs) (h .three))
-
-pad-marked : (s : Bool) (e : Affine) → Narrow e → boundSum (marked s (judge WIDEST (pad e))) ≡ boundSum (marked s (judge WIDEST e))
-unfolding marked judge
-pad-marked s e h = rw (pad-within e h) (by (allWithin WIDEST (e .constant ∷ e .coefs)))
-  where
-    by : (x : Bool) → boundSum (marked s (cond x (fine (pad e)) wide)) ≡ boundSum (marked s (cond x (fine e) wide))
-    by true = refl
-    by false = refl
-
-pad-asked : (e : Affine) → Narrow e → test (asked (judge WIDEST (pad e))) ≡ test (asked (judge WIDEST e))
-unfolding asked judge
-pad-asked e h = rw (pad-within e h) (by (allWithin WIDEST (e .constant ∷ e .coefs)))
-  where
-    by : (x : Bool) → test (asked (cond x (fine (pad e)) wide)) ≡ test (asked (cond x (fine e) wide))
-    by true = refl
-    by false = refl
-
 -- ---- sums and tests of bounds
-pub pad-sum : (a b : Upper Affine) → NarrowB a → NarrowB b → boundSum (sumB (padB a) (padB b)) ≡ boundSum (sumB a b)
+pad-sum : (a b : Upper Affine) → boundOf (sumB (padB a) (padB b)) ≡ boundOf (sumB a b)
 unfolding sumB
-pad-sum none b h k = refl
-pad-sum (upper s a) none h k = refl
-pad-sum (upper s a) (upper t b) h k = rw (pad-plus a b) (pad-marked (s || t) (plus a b) (plus-narrow a b h k))
+pad-sum none b = refl
+pad-sum (upper s a) none = refl
+pad-sum (upper s a) (upper t b) = ap (λ (e : Affine). boundOf (upper (s || t) e)) (pad-plus a b)
 
-pub pad-test : (a b : Upper Affine) → NarrowB a → NarrowB b → test (tighterB (padB a) (padB b)) ≡ test (tighterB a b)
+pad-test : (a b : Upper Affine) → test (tighterB (padB a) (padB b)) ≡ test (tighterB a b)
 unfolding tighterB
-pad-test none b h k = refl
-pad-test (upper s a) none h k = refl
-pad-test (upper s a) (upper t b) h k = rw (pad-slack s t a b) (pad-asked (slackE s t a b) (slack-narrow s t a b h k))
+pad-test none b = refl
+pad-test (upper s a) none = refl
+pad-test (upper s a) (upper t b) = ap (λ (e : Affine). test (ask e)) (pad-slack s t a b)
 
 -- a bound of the code stands for itself
 pub limit-pad : (x : Bound) → padB (boundAs x) ≡ boundAs x
@@ -263,69 +174,50 @@ limit-pad x = by (x .none)
     by true = refl
     by false = refl
 
--- ---- opposites
--- all numbers of an expression lie from -1,000,000 to 1,000,000
-pub record InLimit (e : Affine) : Type 0 where
-  pub all : allWithin WIDEST (e .constant ∷ e .coefs) ≡ true
+-- ---- numbers that are small are not saturated
+number-same : (x : ℤ) → natAbs x ≤ TEST → saturate LARGEST x ≡ x
+number-same x h = saturate-small LARGEST x 1073741823 refl (omega arith)
 
-abbrev pub Asked : Question → Type 0
-Asked yes′ = Unit {0}
-Asked no′ = Unit {0}
-Asked (ask e) = InLimit e
-Asked wide′ = Unit {0}
+each-at : (B : ℕ) (cs : List ℤ) (k : ℕ) → AllOf (λ (c : ℤ). natAbs c ≤ B) cs → natAbs (getD cs k (pos 0)) ≤ B
+each-at B [] k h = rw natAbs-parts (omega (arith, pos-parts 0))
+each-at B (c ∷ cs) zero h = h .0
+each-at B (c ∷ cs) (suc k) h = each-at B cs k (h .1)
 
--- what a test asks was judged
-pub tighter-asked : (a b : Upper Affine) → Asked (tighterB a b)
-unfolding tighterB asked judge
-tighter-asked none b = tt
-tighter-asked (upper s a) none = tt
-tighter-asked (upper s a) (upper t b) = by (slackE s t a b) (allWithin WIDEST (slackE s t a b .constant ∷ slackE s t a b .coefs)) refl
-  where
-    by : (e : Affine) (x : Bool) → allWithin WIDEST (e .constant ∷ e .coefs) ≡ x → Asked (asked (cond x (fine e) wide))
-    by e true h = record { all = h }
-    by e false h = tt
+pub pad-size : (B : ℕ) (x : Upper Affine) → AtMostB B x → AtMostB B (padB x)
+pad-size B none h = tt
+pad-size B (upper s e) h =
+    record {
+      constant = h .constant;
+      coefs = (each-at B (e .coefs) 0 (h .coefs), (each-at B (e .coefs) 1 (h .coefs), (each-at B (e .coefs) 2 (h .coefs), tt)));
+    }
 
-within-at : (cs : List ℤ) (k : ℕ) → allWithin WIDEST cs ≡ true → within WIDEST (getD cs k (pos 0)) ≡ true
-within-at [] k h = refl
-within-at (c ∷ cs) zero h = and-left (within WIDEST c) (allWithin WIDEST cs) h
-within-at (c ∷ cs) (suc k) h = within-at cs k (and-right (within WIDEST c) (allWithin WIDEST cs) h)
-
-turn-low : (x : ℤ) → leZ x WIDEST ≡ true → leZ (negℤ OPPOSITE) (negsuc 0 -ℤ x) ≡ true
-turn-low x = rw (split x) (simp split-all (omega arith))
-
-turn-high : (x : ℤ) → negℤ WIDEST ≤ℤ x → leZ (negsuc 0 -ℤ x) OPPOSITE ≡ true
-turn-high x = rw (split x) (simp split-all (omega arith))
-
-neg-low : (x : ℤ) → leZ x WIDEST ≡ true → leZ (negℤ OPPOSITE) (negℤ x) ≡ true
-neg-low x = rw (split x) (simp split-all (omega arith))
-
-neg-high : (x : ℤ) → negℤ WIDEST ≤ℤ x → leZ (negℤ x) OPPOSITE ≡ true
-neg-high x = rw (split x) (simp split-all (omega arith))
-
-turn-within : (x : ℤ) → within WIDEST x ≡ true → within OPPOSITE (negsuc 0 -ℤ x) ≡ true
-turn-within x h = and-both (leZ (negℤ OPPOSITE) (negsuc 0 -ℤ x)) (leZ (negsuc 0 -ℤ x) OPPOSITE)
-    (turn-low x (and-right (leZ (negℤ WIDEST) x) (leZ x WIDEST) h))
-    (turn-high x (leZ-true (and-left (leZ (negℤ WIDEST) x) (leZ x WIDEST) h)))
-
-neg-within : (x : ℤ) → within WIDEST x ≡ true → within OPPOSITE (negℤ x) ≡ true
-neg-within x h = and-both (leZ (negℤ OPPOSITE) (negℤ x)) (leZ (negℤ x) OPPOSITE)
-    (neg-low x (and-right (leZ (negℤ WIDEST) x) (leZ x WIDEST) h))
-    (neg-high x (leZ-true (and-left (leZ (negℤ WIDEST) x) (leZ x WIDEST) h)))
-
--- the code's opposite of what was asked
-pub opposite-coded : (e : Affine) → InLimit e → oppositeC (exprOf e) ≡ exprOf (opposite e)
-unfolding oppositeC judge opposite
-opposite-coded e h =
-    let w = and-right (within WIDEST (e .constant)) (allWithin WIDEST (e .coefs)) (h .all) in
+pad-same : (e : Affine) → AtMostE TEST e → saturatedE (pad e) ≡ pad e
+unfolding saturatedE
+pad-same e h =
     rw (
-      turn-within (e .constant) (and-left (within WIDEST (e .constant)) (allWithin WIDEST (e .coefs)) (h .all)),
-      neg-within (getD (e .coefs) 0 (pos 0)) (within-at (e .coefs) 0 w),
-      neg-within (getD (e .coefs) 1 (pos 0)) (within-at (e .coefs) 1 w),
-      neg-within (getD (e .coefs) 2 (pos 0)) (within-at (e .coefs) 2 w),
-      neg-at (e .coefs) 0,
-      neg-at (e .coefs) 1,
-      neg-at (e .coefs) 2,
+      number-same (e .constant) (h .constant),
+      number-same (getD (e .coefs) 0 (pos 0)) (each-at TEST (e .coefs) 0 (h .coefs)),
+      number-same (getD (e .coefs) 1 (pos 0)) (each-at TEST (e .coefs) 1 (h .coefs)),
+      number-same (getD (e .coefs) 2 (pos 0)) (each-at TEST (e .coefs) 2 (h .coefs)),
     ) refl
+
+padB-same : (b : Upper Affine) → AtMostB TEST b → saturatedB (padB b) ≡ padB b
+unfolding saturatedB
+padB-same none h = refl
+padB-same (upper s e) h = ap (upper s) (pad-same e h)
+
+-- so the code's sums and tests are exact
+module _ (a b : Upper Affine) (h : AtMostB TEST a) (k : AtMostB TEST b) where
+  pub sum-coded : sumC (boundOf a) (boundOf b) ≡ boundOf (sumB a b)
+  sum-coded = rw (padB-same a h, padB-same b k) (pad-sum a b)
+
+  pub test-coded : tighterC (boundOf a) (boundOf b) ≡ test (tighterB a b)
+  test-coded = rw (padB-same a h, padB-same b k) (pad-test a b)
+
+-- ---- opposites
+pub opposite-coded : (e : Affine) → AtMostE TEST e → oppositeC (exprOf e) ≡ exprOf (opposite e)
+unfolding oppositeC opposite
+opposite-coded e h = rw (pad-same e h) (rw (neg-at (e .coefs) 0, neg-at (e .coefs) 1, neg-at (e .coefs) 2) refl)
 
 -- ---- what no valuation satisfies
 pub never-is : (b : Ranges) (es : List Affine) (e : Affine) → isNone (first (rangeList b) (es ++ (e ∷ []))) ≡ never (rangeList b) es e

@@ -1,19 +1,20 @@
 -- What the code does along the whole route (Walked) is the cutting, for every accepted sheet: `zones-coded`.
-use mathlib.Core.Path.{_≡_, refl, sym, ap, subst, _∙_}
+use mathlib.Core.Path.{_≡_, refl, sym, ap, _∙_}
 use mathlib.Core.List.{List, [], _∷_, _++_, map}
-use mathlib.Core.Bool.{Bool, true, false, _&&_, cond}
-use Prim.Native.Nat.{ℕ, zero, suc, _+_, _-_, _/_, _%_, _^_, _≤_, _<_}
+use mathlib.Core.Bool.{Bool, true, false, cond}
+use Prim.Native.Nat.{ℕ, suc, _+_, _-_, _/_, _%_, _≤_, _<_}
 use native.Mathlib.Omega.{arith}
 use lib.Dec.{eqb, ltb, leb}
 use lib.ListN.{length, replicate, length-take}
 use Rattle.cutting.specs.Cutting.{Bounds, startB, startZone, Listing, listed, refused, onBounds, stepZones, andThen, cutSteps}
 use Rattle.cutting.specs.Cutting.{zonesAlong, zonesOf}
 use Rattle.cutting.specs.Cutting as cutting
+use Rattle.cutting.specs.Every.{Right, GuardIs, step-right}
 use Rattle.cutting.specs.Listings.{on-length}
-use Rattle.dbm.specs.Entries.{up-to-4, resetBit, bits-resets}
-use Rattle.dbm.specs.Matrix.{inside, delayed, resetAt, resetM, resetsM}
-use Rattle.expr.specs.Affine.{Affine}
-use Rattle.weight.specs.Upper.{Upper, none}
+use Rattle.cutting.specs.NumberedProof.{some-number}
+use Rattle.dbm.specs.Entries.{up-to-4, eqb-no, resetBit, bits-resets}
+use Rattle.dbm.specs.Matrix.{delayed, resetM, resetsM}
+use Rattle.weight.specs.Upper.{none}
 use Rattle.expr.specs.Three.{rangeList}
 use Rattle.expr.specs.declared.bound.Bound.{Bound}
 use Rattle.expr.specs.declared.range.Ranges.{Ranges}
@@ -21,17 +22,17 @@ use Rattle.guards.specs.declared.Guard.{Guard}
 use Rattle.sheet.specs.declared.Sheet.{Sheet}
 use Rattle.automaton.specs.declared.Transition.{Transition}
 use Rattle.sheet.specs.WellFormed.{WellFormed}
+use Rattle.sizes.specs.Sizes.{AtMostM, ENTRY, SmallGuard}
+use Rattle.sizes.specs.SizesProof.{ZoneTraced, lasting, start-right, zone-small, guard-small}
 use Rattle.timed.specs.Automaton.{invariants, guardsOf, routeOf, transitionAt}
 use Rattle.sheet.specs.Lookup.{locationC, transitionC}
 use Rattle.timed.specs.Indexed.{location-in, transition-in}
 use Rattle.timed.specs.Lists.{AllOf}
-use Rattle.timed.specs.Right.{StepRight, filled-all, steps-right}
-use Rattle.timed.specs.Steps.{Step, delay, guard, resets, arrivalSteps, staySteps, moveSteps, stepsFrom, stepsOf, moves}
-use Rattle.timed.specs.Visits.{Visits, resetsThen, move-joined, steps-visits, steps-moves}
+use Rattle.timed.specs.Right.{StepRight, filled-all, steps-right, route-delays, lowest, lowest-inside}
+use Rattle.timed.specs.Steps.{Step, delay, guard, resets, arrivalSteps, staySteps, moveSteps, stepsFrom, stepsOf, moves, delays}
+use Rattle.timed.specs.Visits.{Visits, resetsThen, move-joined, steps-visits, steps-moves, after, after-delays}
 use Rattle.coded.specs.Records.{rowOf, boundsOf, zoneOf, zonesIn, coded}
-use Rattle.coded.specs.Counts.{NarrowB, NarrowM, NarrowZone}
-use Rattle.coded.specs.CodedGuard.{Sound, guard-sound, guard-coded}
-use Rattle.coded.specs.CodedTests.{zero-narrow}
+use Rattle.coded.specs.CodedGuard.{guard-coded}
 use Rattle.split.specs.Guarded.{guardedC}
 use Rattle.zones.specs.Zone.{blankZone}
 use Rattle.delay.specs.Delayed.{delayedB, resetPair, resetB, resetIfB, resetsB, onFirst, delayedZone, resetsZone, delayedAll}
@@ -44,14 +45,6 @@ use Rattle.zones.specs.declared.zone.Zones.{Zones}
 delayed-coded : (m : Bounds) (w : ℕ) → w ≤ 4 → delayedB w (boundsOf m) ≡ boundsOf (delayed w none m)
 unfolding delayedB boundsOf rowOf delayed
 delayed-coded m = up-to-4 (λ w. delayedB w (boundsOf m) ≡ boundsOf (delayed w none m)) refl refl refl refl refl
-
-cond-narrow : (b : Bool) (x y : Upper Affine) → NarrowB x → NarrowB y → NarrowB (cond b x y)
-cond-narrow true x y h k = h
-cond-narrow false x y h k = k
-
-delayed-narrow : (w : ℕ) (m : Bounds) → NarrowM m → NarrowM (delayed w none m)
-unfolding delayed
-delayed-narrow w m n = record { entry = λ i j. cond-narrow (ltb 0 i && (leb i w && eqb j 0)) none (m i j) tt (n .entry i j) }
 
 -- ---- resets
 -- clock r, if there is such a clock
@@ -99,28 +92,6 @@ resets-coded w bits m four =
     ∙ ap (λ (l : List Bound). resetIfB w 4 (bits / 8 % 2) l) (reset-if w 3 (bits / 4 % 2) m₂ (reset-3 m₂ w four))
     ∙ reset-if w 4 (bits / 8 % 2) m₃ (reset-4 m₃ w four))
 
-resetAt-narrow : (m : Bounds) (a b : Bool) (i j : ℕ) → NarrowM m → NarrowB (resetAt m a b i j)
-resetAt-narrow m true true i j n = n .entry i j
-resetAt-narrow m true false i j n = n .entry 0 j
-resetAt-narrow m false true i j n = n .entry i 0
-resetAt-narrow m false false i j n = n .entry i j
-
-reset-narrow : (w r : ℕ) (m : Bounds) → NarrowM m → NarrowM (resetM w r m)
-unfolding resetM
-reset-narrow w r m n = record {
-  entry = λ i j. cond-narrow (inside w i j) (resetAt m (eqb i r) (eqb j r) i j) (m i j)
-      (resetAt-narrow m (eqb i r) (eqb j r) i j n) (n .entry i j);
-}
-
-resets-narrow : (w bits k : ℕ) (m : Bounds) → NarrowM m → NarrowM (resetsM w bits k m)
-unfolding resetsM
-resets-narrow w bits zero m n = n
-resets-narrow w bits (suc k) m n = by (eqb (bits / 2 ^ k % 2) 1) (resets-narrow w bits k m n)
-  where
-    by : (b : Bool) → NarrowM (resetsM w bits k m) → NarrowM (cond b (resetM w (suc k) (resetsM w bits k m)) (resetsM w bits k m))
-    by true ih = reset-narrow w (suc k) (resetsM w bits k m) ih
-    by false ih = ih
-
 -- ---- a step on every zone's matrix
 module _ (f : Zone → Zone) (h : Bounds → Bounds) where
   on-first : ((z : cutting.Zone) → f (zoneOf z) ≡ zoneOf (record { ineqs = z .ineqs; bounds = h (z .bounds) }))
@@ -129,12 +100,6 @@ module _ (f : Zone → Zone) (h : Bounds → Bounds) where
   unfolding onFirst onBounds
   on-first e [] rest = refl
   on-first e (z ∷ zs) rest = rw (e z, on-first e zs rest) refl
-
-  on-narrow : ((m : Bounds) → NarrowM m → NarrowM (h m)) → (zs : List cutting.Zone) → AllOf NarrowZone zs
-      → AllOf NarrowZone (onBounds h zs)
-  unfolding onBounds
-  on-narrow e [] a = tt
-  on-narrow e (z ∷ zs) a = (record { bounds = e (z .bounds) (a .0 .bounds) }, on-narrow e zs (a .1))
 
   on-list : ((z : cutting.Zone) → f (zoneOf z) ≡ zoneOf (record { ineqs = z .ineqs; bounds = h (z .bounds) }))
       → (visit : ℕ) (zs : List cutting.Zone)
@@ -155,10 +120,6 @@ module _ (f : Zone → Zone) (h : Bounds → Bounds) where
 abbrev steps : (Bounds → Bounds) → Listing → Listing
 steps h o = andThen o (λ zs. listed (onBounds h zs))
 
-steps-sound : (h : Bounds → Bounds) → ((m : Bounds) → NarrowM m → NarrowM (h m)) → (o : Listing) → Sound o → Sound (steps h o)
-steps-sound h e (listed zs) s = on-narrow (λ z. z) h e zs s
-steps-sound h e (refused n k) s = s
-
 delayed-all : (w visit : ℕ) → w ≤ 4 → (o : Listing) → delayedAll w (coded visit o) ≡ coded visit (steps (delayed w none) o)
 unfolding delayedAll coded onFirst zoneOf
 delayed-all w visit four (listed zs) = on-list (delayedZone w) (delayed w none) one visit zs
@@ -176,10 +137,10 @@ resets-all w bits visit four (listed zs) = on-list (resetsZone w bits) (resetsM 
 resets-all w bits visit four (refused n k) = refl
 
 -- ---- the next visit
-next-visit : (visit k : ℕ) (o : Listing) → Sound o → atVisit k (coded visit o) ≡ coded k o
+next-visit : (P : cutting.Zone → Type 0) (visit k : ℕ) (o : Listing) → Right P o → atVisit k (coded visit o) ≡ coded k o
 unfolding atVisit coded
-next-visit visit k (listed zs) s = refl
-next-visit visit k (refused n j) s = rw s refl
+next-visit P visit k (listed zs) r = refl
+next-visit P visit k (refused n j) r = rw (eqb-no n 0 (λ e. let h = some-number n r in omega arith)) refl
 
 -- ---- any list of steps
 -- a step of the code on its zones after k moves, and steps in order
@@ -214,8 +175,9 @@ first-visit k (guard visit g) steps h = ((h .0, tt), h .1)
 first-visit k (resets bits) steps h = (tt, h)
 
 module _ (parameters : ℕ) (b : Ranges) {w : ℕ} (four : w ≤ 4) where
-  small : {i : ℕ} → i ≤ w → i ≤ 4
-  small h = omega arith
+  -- a zone after n delays
+  abbrev Reached : ℕ → cutting.Zone → Type 0
+  Reached = ZoneTraced (rangeList b) w
 
   abbrev cutBy : Step → Listing → Listing
   cutBy s o = andThen o (stepZones (rangeList b) w s)
@@ -223,20 +185,34 @@ module _ (parameters : ℕ) (b : Ranges) {w : ℕ} (four : w ≤ 4) where
   abbrev cuts : List Step → Listing → Listing
   cuts steps o = andThen o (cutSteps (rangeList b) w steps)
 
-  step-sound : (s : Step) → StepRight parameters w s → (o : Listing) → Sound o → Sound (cutBy s o)
-  unfolding stepZones
-  step-sound delay r o n = steps-sound (delayed w none) (delayed-narrow w) o n
-  step-sound (guard visit g) r o n = guard-sound b visit w g four (small (r .left)) (small (r .right)) o n
-  step-sound (resets bits) r o n = steps-sound (resetsM w bits w) (resets-narrow w bits w) o n
+  guard-is : (s : Step) → StepRight parameters w s → GuardIs (SmallGuard w) s
+  guard-is delay r = tt
+  guard-is (guard visit g) r = guard-small parameters w g r
+  guard-is (resets bits) r = tt
 
-  step-coded : (k : ℕ) (s : Step) → Visits k (s ∷ []) → StepRight parameters w s → (o : Listing) → Sound o
+  step-reached : (s : Step) → StepRight parameters w s → (n : ℕ) (o : Listing) → Right (Reached n) o
+      → Right (Reached (after n s)) (cutBy s o)
+  step-reached s h n (listed zs) r =
+      step-right (rangeList b) w (SmallGuard w) Reached (lasting (rangeList b) w) s (guard-is s h) n zs r
+  step-reached s h n (refused m k) r = r
+
+  all-small : (n : ℕ) → n ≤ 33 → (zs : List cutting.Zone) → AllOf (Reached n) zs → AllOf (λ z. AtMostM ENTRY w (z .bounds)) zs
+  all-small n few [] a = tt
+  all-small n few (z ∷ zs) a = (zone-small (rangeList b) w n z few (a .0), all-small n few zs (a .1))
+
+  reached-small : (n : ℕ) → n ≤ 33 → (o : Listing) → Right (Reached n) o → Right (λ z. AtMostM ENTRY w (z .bounds)) o
+  reached-small n few (listed zs) r = (r .0, all-small n few zs (r .1))
+  reached-small n few (refused m k) r = r
+
+  step-coded : (k n : ℕ) → n ≤ 33 → (s : Step) → Visits k (s ∷ []) → StepRight parameters w s → (o : Listing) → Right (Reached n) o
       → stepAll b w k s (coded k o) ≡ coded (made k s) (cutBy s o)
   unfolding stepAll stepZones
-  step-coded k delay a r o n = delayed-all w k four o
-  step-coded k (guard visit g) a r o n = rw (← a .0) (guard-coded b visit w g four (small (r .left)) (small (r .right)) o n)
-  step-coded k (resets bits) a r o n =
+  step-coded k n few delay a r o h = delayed-all w k four o
+  step-coded k n few (guard visit g) a r o h =
+      rw (← a .0) (guard-coded b visit w g four (guard-small parameters w g r) o (reached-small n few o h))
+  step-coded k n few (resets bits) a r o h =
       ap (atVisit (suc k)) (resets-all w bits k four o)
-      ∙ next-visit k (suc k) (steps (resetsM w bits w) o) (steps-sound (resetsM w bits w) (resets-narrow w bits w) o n)
+      ∙ next-visit (Reached n) k (suc k) (steps (resetsM w bits w) o) (step-reached (resets bits) r n o h)
 
   none-is : (o : Listing) → o ≡ cuts [] o
   unfolding cutSteps
@@ -248,20 +224,17 @@ module _ (parameters : ℕ) (b : Ranges) {w : ℕ} (four : w ≤ 4) where
   next-is s steps (listed zs) = refl
   next-is s steps (refused n k) = refl
 
-  pub all-coded : (steps : List Step) (k : ℕ) → Visits k steps → AllOf (StepRight parameters w) steps → (o : Listing) → Sound o
-      → stepsAll b w k steps (coded k o) ≡ coded (k + moves steps) (cuts steps o)
+  pub all-coded : (steps : List Step) (k n : ℕ) → Visits k steps → AllOf (StepRight parameters w) steps → n + delays steps ≤ 33
+      → (o : Listing) → Right (Reached n) o → stepsAll b w k steps (coded k o) ≡ coded (k + moves steps) (cuts steps o)
   unfolding stepsAll
-  all-coded [] k a r o n = ap (coded k) (none-is o) ∙ ap (λ (j : ℕ). coded j (cuts [] o)) (none-made k)
-  all-coded (s ∷ steps) k a r o n =
+  all-coded [] k n a r few o h = ap (coded k) (none-is o) ∙ ap (λ (j : ℕ). coded j (cuts [] o)) (none-made k)
+  all-coded (s ∷ steps) k n a r few o h =
       let (here, then) = first-visit k s steps a in
-      ap (stepsAll b w (made k s) steps) (step-coded k s here (r .0) o n)
-      ∙ all-coded steps (made k s) then (r .1) (cutBy s o) (step-sound s (r .0) o n)
+      let count = after-delays n s steps in
+      ap (stepsAll b w (made k s) steps) (step-coded k n (omega arith) s here (r .0) o h)
+      ∙ all-coded steps (made k s) (after n s) then (r .1) (omega arith) (cutBy s o) (step-reached s (r .0) n o h)
       ∙ ap (coded (made k s + moves steps)) (next-is s steps o)
       ∙ ap (λ (j : ℕ). coded j (cuts (s ∷ steps) o)) (made-moves k s steps)
-
-  pub all-sound : (steps : List Step) → AllOf (StepRight parameters w) steps → (o : Listing) → Sound o → Sound (cuts steps o)
-  all-sound [] r o n = subst Sound (none-is o) n
-  all-sound (s ∷ steps) r o n = subst Sound (next-is s steps o) (all-sound steps (r .1) (cutBy s o) (step-sound s (r .0) o n))
 
 -- ---- the code's walk makes the steps along the route
 guards-then : (b : Ranges) (w k : ℕ) (rest : List Step) (gs : List Guard) (zs : Zones)
@@ -344,25 +317,12 @@ start-coded : startAll ≡ coded 0 (listed (startZone ∷ []))
 unfolding startAll coded zonesIn zoneOf boundsOf rowOf startB
 start-coded = refl
 
-start-narrow : NarrowM startB
-unfolding startB
-start-narrow = record { entry = λ i j. zero-narrow }
-
 route-length : {s : Sheet} → WellFormed s → 0 + length (routeOf s) ≡ s .moves
 unfolding routeOf
 route-length {s} f =
     let few = f .route .few in
     let long = f .route .long in
     simp length-take (omega arith)
-
-start-sound : Sound (listed (startZone ∷ []))
-start-sound = (record { bounds = start-narrow }, tt)
-
--- what the cutting lists is narrow
-pub zones-narrow : (s : Sheet) → WellFormed s → (route : List ℕ) → Sound (zonesAlong s route)
-unfolding zonesAlong
-zones-narrow s f route =
-    all-sound (s .parameters) (s .ranges) (f .clocks) (stepsOf s route) (steps-right f route) (listed (startZone ∷ [])) start-sound
 
 -- what the code lists is what the cutting lists, or both are refused alike
 pub zones-coded : (s : Sheet) → WellFormed s → zonesAll s ≡ coded (s .moves) (zonesOf s)
@@ -371,6 +331,7 @@ zones-coded s f =
     let steps = stepsOf s (routeOf s) in
     route-is f
     ∙ ap (stepsAll (s .ranges) (s .clocks) 0 steps) start-coded
-    ∙ all-coded (s .parameters) (s .ranges) (f .clocks) steps 0 (steps-visits s (routeOf s)) (steps-right f (routeOf s))
-    (listed (startZone ∷ [])) start-sound
+    ∙ all-coded (s .parameters) (s .ranges) (f .clocks) steps 0 0 (steps-visits s (routeOf s)) (steps-right f (routeOf s))
+    (omega (arith, route-delays f)) (listed (startZone ∷ []))
+    (start-right (rangeList (s .ranges)) (s .clocks) (lowest s) (lowest-inside s f))
     ∙ ap (λ (k : ℕ). coded k (zonesOf s)) (ap (λ (k : ℕ). 0 + k) (steps-moves s (routeOf s)) ∙ route-length f)

@@ -1,7 +1,7 @@
 -- The proof of OneGuard: the reply by CodedGuard, its counts by the ceiling of the cutting; and for any records at all, since the code goes
 -- through 27 phases, each with one test at most.
-use mathlib.Core.Path.{_≡_, refl, ap, sym, subst, _∙_}
-use mathlib.Core.List.{List, [], _∷_, _++_, map, List·Memᴰ, List·Memᴰ·head, List·Memᴰ·tail}
+use mathlib.Core.Path.{_≡_, refl, sym, subst}
+use mathlib.Core.List.{List, [], _∷_, map, append-nil, List·Memᴰ, List·Memᴰ·head, List·Memᴰ·tail}
 use mathlib.Core.Bool.{Bool, true, false, cond}
 use Prim.Native.Nat.{ℕ, zero, suc, _+_, _-_, _≤_}
 use native.Mathlib.Omega.{arith}
@@ -11,36 +11,37 @@ use Rattle.cutting.specs.Cutting as cutting
 use Rattle.cutting.specs.Ways.{Way, Outcome, leads, refuses, guardWays}
 use Rattle.cutting.specs.Ceiling.{CEILING}
 use Rattle.cutting.specs.CeilingProof.{ceiling-holds}
-use Rattle.cutting.specs.Every.{one-of}
 use Rattle.expr.specs.declared.bound.Bound.{Bound}
 use Rattle.expr.specs.declared.bound.Test.{Test}
-use Rattle.expr.specs.declared.bound.Test.the-variants.{Yes, No, Ask, Wide as TestWide}
+use Rattle.expr.specs.declared.bound.Test.the-variants.{Yes, No, Ask}
 use Rattle.expr.specs.declared.range.Ranges.{Ranges}
+use Rattle.guards.specs.Right.{GuardRight}
 use Rattle.guards.specs.declared.Guard.{Guard}
 use Rattle.sheet.specs.WellFormed.{WellFormed}
 use Rattle.sheet.specs.declared.Sheet.{Sheet}
+use Rattle.sizes.specs.SizesProof.{numbers-small, guard-small}
 use Rattle.timed.specs.Lists.{AllOf}
 use Rattle.timed.specs.Right.{all-append}
+use Rattle.timed.specs.Steps.{stepsOf}
 use Rattle.constrain.specs.Rules.{voidTest, tightTest, pushTest}
 use Rattle.constrain.specs.declared.rule.Rule.{Rule}
 use Rattle.split.specs.Guarded.{ruleC, cutC, oneC}
 use Rattle.split.specs.Listed.{nothingAt, noneAt, refusedC, listC}
-use Rattle.split.specs.Trees.{TreeC, cutT, keepT, wideT, askT, testedC, pushC, tightC, treeAt, workedC}
+use Rattle.split.specs.Trees.{TreeC, cutT, keepT, askT, testedC, pushC, tightC, treeAt, workedC}
 use Rattle.split.specs.declared.list.Counted.{Counted}
 use Rattle.zones.specs.Settled.{oppositeC, neverC}
 use Rattle.zones.specs.Zone.{plusC}
 use Rattle.zones.specs.declared.zone.Zone.{Zone}
 use Rattle.coded.specs.Records.{zoneOf, zonesIn, coded}
-use Rattle.coded.specs.Counts.{NarrowZone, countsIn, codedWays}
-use Rattle.coded.specs.CodedGuard.{Sound, zone-coded}
-use Rattle.coded.specs.CodedWalk.{zones-narrow}
+use Rattle.coded.specs.Counts.{countsIn, codedWays}
+use Rattle.coded.specs.CodedGuard.{zone-coded}
 use Rattle.coded.specs.OneGuard.{Fits, ruled, OneGuard}
 
 -- ---- the reply
 module _ (b : Ranges) (w : ℕ) (g : Guard) (visit : ℕ) (z : cutting.Zone) (f : Fits w g z) where
   reply-is : oneC b w g visit (zoneOf z) ≡ codedWays visit (ruled b w g visit z)
   unfolding oneC guardWays noneAt codedWays coded zonesIn
-  reply-is = zone-coded b visit w g (f .four) (f .left) (f .right) z (f .narrow) (leads []) tt
+  reply-is = zone-coded b visit w g (f .four) (f .guard) z (f .entries) (leads []) tt
 
 zeros-low : (top n : ℕ) → AllOf (λ k. k ≤ top) (replicate n 0)
 zeros-low top zero = tt
@@ -68,13 +69,11 @@ module _ (b : Ranges) (w : ℕ) (g : Guard) (visit : ℕ) (z : cutting.Zone) whe
 abbrev Within : TreeC → ℕ → Type 0
 Within cutT n = Unit {0}
 Within (keepT m) n = Unit {0}
-Within wideT n = Unit {0}
 Within (askT e f) n = (k : ℕ) × (n ≡ suc k) × ((b : Bool) → Within (f b) k)
 
 within-more : (t : TreeC) (n : ℕ) → Within t n → Within t (suc n)
 within-more cutT n h = tt
 within-more (keepT m) n h = tt
-within-more wideT n h = tt
 within-more (askT e f) n h = (n, refl, λ b. subst (Within (f b)) (sym (h .1)) (within-more (f b) (h .0) (h .2 b)))
 
 tested-within : (t : Test) (f : Bool → TreeC) (n : ℕ) → ((b : Bool) → Within (f b) n) → Within (testedC t f) (suc n)
@@ -82,7 +81,6 @@ unfolding testedC
 tested-within Yes f n h = within-more (f true) n (h true)
 tested-within No f n h = within-more (f false) n (h false)
 tested-within (Ask e) f n h = (n, refl, h)
-tested-within TestWide f n h = tt
 
 push-within : (r : Rule) (k x : ℕ) (new : List Bound) → Within (pushC r k x new) k
 unfolding pushC
@@ -128,7 +126,6 @@ worked-few : (b : Ranges) (t : TreeC) (n k : ℕ) → Within t n → k + n ≤ 2
 unfolding workedC
 worked-few b cutT n k h l z out f = f
 worked-few b (keepT m) n k h l z out f = list-few _ k out (omega arith) f
-worked-few b wideT n k h l z out f = refused-few 9 out f
 worked-few b (askT e t) n k h l z out f =
     let more : n ≡ suc (h .0) = h .1 in
     let next : suc k + h .0 ≤ 27 = omega arith in
@@ -145,10 +142,17 @@ reply-few b clocks g visit z =
     worked-few b (treeAt (ruleC clocks g z) 0 (z .bounds)) 27 0 (tree-within (ruleC clocks g z) (z .bounds)) (omega arith) z
     (nothingAt 0 visit) (zeros-low 27 32)
 
--- ---- what the cutting lists has three coefficients at most
-all-narrow : (s : Sheet) → WellFormed s → (route : List ℕ) (zs : List cutting.Zone) → cutting.zonesAlong s route ≡ cutting.listed zs
-    → (z : cutting.Zone) → List·Memᴰ z zs → NarrowZone z
-all-narrow s f route zs e z m = one-of NarrowZone zs (subst Sound e (zones-narrow s f route)) z m
+-- ---- a readable sheet
+all-fit : (s : Sheet) → WellFormed s → (route : List ℕ) → length route ≤ 32 → (zs : List cutting.Zone)
+    → cutting.zonesAlong s route ≡ cutting.listed zs → (z : cutting.Zone) → List·Memᴰ z zs
+    → (g : Guard) → GuardRight (s .parameters) (s .clocks) g → Fits (s .clocks) g z
+unfolding cutting.zonesAlong
+all-fit s f route short zs e z m g r =
+    record {
+      four = f .clocks;
+      guard = guard-small (s .parameters) (s .clocks) g r;
+      entries = numbers-small .sheets s f route short (stepsOf s route) [] (sym (append-nil (stepsOf s route))) zs e z m;
+    }
 
 pub one-guard : OneGuard
-one-guard = record { narrow = all-narrow; reply = reply-is; low = reply-low; few = reply-few }
+one-guard = record { fits = all-fit; reply = reply-is; low = reply-low; few = reply-few }

@@ -10,15 +10,15 @@ use lib.Dec.{eqb}
 use lib.IntN.{ℤ, natAbs, _*ℤ_}
 use lib.ListN.{length}
 use Rattle.integer.specs.Parts.{p, n, pos-parts, natAbs-parts}
-use Rattle.integer.specs.Product.{size-in, size-low, size-high, sum-size, product-size}
+use Rattle.integer.specs.Product.{size-in, sum-size, product-size}
 use Rattle.dbm.specs.Matrix.{Matrix, start, delayed, resetM, resetsM, guarded, Outcome, void, kept}
 use Rattle.dbm.specs.State.{start-closed}
 use Rattle.dbm.specs.Size.{AtMost, Small, Visit, atMost-more, atMost-sum, small-visit, delayed-visit, visit-small, guarded-visit}
 use Rattle.dbm.specs.Size.{reset-visit}
 use Rattle.expr.specs.Affine.{dot, value}
-use Rattle.weight.specs.Upper.{Upper, none, upper, zeroW, sumW, tighterW, saturated}
+use Rattle.weight.specs.Upper.{Upper, none, upper, zeroW, sumW, tighterW, MOST, saturated}
 use Rattle.expr.specs.Bounds.{atV}
-use Rattle.weight.specs.Laws.{saturate-same}
+use Rattle.weight.specs.Laws.{saturate-small}
 use Rattle.expr.specs.Three.{affine, boundAs}
 use Rattle.expr.specs.declared.number.Expr.{Expr}
 use Rattle.guards.specs.declared.Guard.{Guard}
@@ -30,6 +30,7 @@ use Rattle.timed.specs.Automaton.{routeOf}
 use Rattle.timed.specs.Lists.{AllOf}
 use Rattle.timed.specs.Right.{StepRight, steps-right, route-delays}
 use Rattle.timed.specs.Steps.{Step, delay, guard, resets, stepsOf, delays}
+use Rattle.timed.specs.Visits.{after, after-delays, none-more}
 use Rattle.concrete.specs.Walk.{andThen, step, walk, sweepAlong, sweepAt}
 
 -- every parameter lies from -1,000 to 1,000
@@ -117,22 +118,6 @@ resets-visit bits zero h a = a
 resets-visit bits (suc k) h a = reset-cond (suc k) (eqb (bits / 2 ^ k % 2) 1) h (resets-visit bits k (omega arith) a)
 
 -- ---- any list of steps
--- the number of delays after a step
-abbrev pub after : ℕ → Step → ℕ
-after k delay = suc k
-after k (guard visit g) = k
-after k (resets bits) = k
-
-pub after-delays : (k : ℕ) (s : Step) (steps : List Step) → after k s + delays steps ≡ k + delays (s ∷ steps)
-unfolding delays
-after-delays k delay steps = omega arith
-after-delays k (guard visit g) steps = omega arith
-after-delays k (resets bits) steps = omega arith
-
-none-more : (k : ℕ) → k ≡ k + delays []
-unfolding delays
-none-more k = omega arith
-
 module _ (parameters : ℕ) {w : ℕ} (v : List ℤ) (h : Thousands v) where
   step-if : (s : Step) → StepRight parameters w s → (k : ℕ) (m : Matrix (Upper ℤ)) → Visited w k m
       → IfKept (Visited w (after k s)) (step w v s m)
@@ -195,8 +180,7 @@ pub saturated-same : (a : Upper ℤ) {B : ℕ} → B < 2 ^ 62 → AtMost B a →
 unfolding saturated
 saturated-same none g h = refl
 saturated-same (upper t x) {B} g h =
-    let l : p x + n x ≤ 4611686018427387903 = omega (arith, natAbs-parts x, h .size) in
-    ap (upper t) (saturate-same x (size-low l) (size-high l))
+    ap (upper t) (saturate-small MOST x 4611686018427387903 refl (omega (arith, h .size)))
 
 test-same : {a b : Upper ℤ} {A B : ℕ} → A < 2 ^ 62 → AtMost A a → B < 2 ^ 62 → AtMost B b
     → tighterW (saturated a) (saturated b) ≡ tighterW a b

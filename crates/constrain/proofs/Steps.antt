@@ -5,11 +5,10 @@ use native.Mathlib.Omega.{arith}
 use borrow.Author.Tests.{lt-ltb, le-ltb}
 use lib.ListN.{getD}
 use Rattle.expr.specs.declared.bound.Bound.{Bound}
-use Rattle.expr.specs.declared.bound.BoundSum.{BoundSum}
 use Rattle.expr.specs.declared.bound.Test.{Test}
 use Rattle.expr.specs.declared.bound.Test.the-variants.{No}
 use Rattle.expr.specs.Three.{zeroBound}
-use Rattle.constrain.specs.Rules.{testSum, voidTest, tightTest, viaC, pushTest, askC}
+use Rattle.constrain.specs.Rules.{tighterC, voidTest, tightTest, viaC, pushTest, askC}
 use Rattle.constrain.specs.declared.rule.Rule.{Rule}
 
 -- ---- the tests
@@ -22,13 +21,13 @@ module _ (r : Rule) (x : ℕ) where
   unfolding pushTest
   push-column h k = rw (le-ltb (r .clocks) (x / 5) h, lt-ltb (r .clocks) (x % 5) k) refl
 
-  pub push-in : x / 5 ≤ r .clocks → x % 5 ≤ r .clocks → (t : Test) (s : BoundSum) (b : Bound) → t ≡ testSum s b → s ≡ viaC r x
+  pub push-in : x / 5 ≤ r .clocks → x % 5 ≤ r .clocks → (t : Test) (s b : Bound) → t ≡ tighterC s b → s ≡ viaC r x
       → b ≡ getD (r .old) x zeroBound
       → t ≡ pushTest r x
   unfolding pushTest
   push-in h k t s b e f g =
       rw (le-ltb (r .clocks) (x / 5) h, le-ltb (r .clocks) (x % 5) k)
-      (e ∙ ap (λ (y : BoundSum). testSum y b) f ∙ ap (λ (y : Bound). testSum (viaC r x) y) g)
+      (e ∙ ap (λ (y : Bound). tighterC y b) f ∙ ap (λ (y : Bound). tighterC (viaC r x) y) g)
 
 pub asks-first : (r : Rule) (k : ℕ) → k < 1 → voidTest r ≡ askC r k
 unfolding askC

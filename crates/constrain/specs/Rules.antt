@@ -4,13 +4,11 @@ use mathlib.Core.Bool.{cond}
 use Prim.Native.Nat.{ℕ, zero, suc, _+_, _*_, _/_, _%_}
 use lib.Dec.{ltb}
 use lib.ListN.{getD}
-use Rattle.expr.specs.Bounds.{sumB, tighterB}
-use Rattle.expr.specs.Three.{boundAs, boundSum, test, zeroBound}
+use Rattle.expr.specs.Bounds.{sumB, tighterB, saturatedB}
+use Rattle.expr.specs.Three.{boundAs, boundOf, test, zeroBound}
 use Rattle.expr.specs.declared.bound.Bound.{Bound}
-use Rattle.expr.specs.declared.bound.BoundSum.{BoundSum}
-use Rattle.expr.specs.declared.bound.BoundSum.the-variants.{Sum, Wide as BoundWide}
 use Rattle.expr.specs.declared.bound.Test.{Test}
-use Rattle.expr.specs.declared.bound.Test.the-variants.{No, Wide as TestWide}
+use Rattle.expr.specs.declared.bound.Test.the-variants.{No}
 use Rattle.constrain.specs.declared.rule.Rule.{Rule}
 
 -- entry (k, l) of a matrix, five rows of five
@@ -18,39 +16,27 @@ abbrev pub entryC : List Bound → ℕ → ℕ → Bound
 entryC m k l = getD m (5 * k + l) zeroBound
 
 -- the code's sum and test of bounds
-abbrev pub sumC : Bound → Bound → BoundSum
-sumC a b = boundSum (sumB (boundAs a) (boundAs b))
+abbrev pub sumC : Bound → Bound → Bound
+sumC a b = boundOf (sumB (saturatedB (boundAs a)) (saturatedB (boundAs b)))
 
 abbrev pub tighterC : Bound → Bound → Test
-tighterC a b = test (tighterB (boundAs a) (boundAs b))
-
-abbrev pub testSum : BoundSum → Bound → Test
-testSum (Sum a) b = tighterC a b
-testSum BoundWide b = TestWide
-
-abbrev pub sumSum : BoundSum → Bound → BoundSum
-sumSum (Sum a) b = sumC a b
-sumSum BoundWide b = BoundWide
-
-abbrev pub viaBound : BoundSum → Bound
-viaBound (Sum a) = a
-viaBound BoundWide = zeroBound
+tighterC a b = test (tighterB (saturatedB (boundAs a)) (saturatedB (boundAs b)))
 
 -- rule (1): e + (j, i) against zero, not strict
 unfoldable pub voidTest : Rule → Test
-voidTest r = testSum (sumC (r .bound) (entryC (r .old) (r .right) (r .left))) zeroBound
+voidTest r = tighterC (sumC (r .bound) (entryC (r .old) (r .right) (r .left))) zeroBound
 
 -- rule (2): e against (i, j)
 unfoldable pub tightTest : Rule → Test
 tightTest r = tighterC (r .bound) (entryC (r .old) (r .left) (r .right))
 
 -- rule (3): (k, i) + e + (j, l) for the entry x = 5k + l
-unfoldable pub viaC : Rule → ℕ → BoundSum
-viaC r x = sumSum (sumC (entryC (r .old) (x / 5) (r .left)) (r .bound)) (entryC (r .old) (r .right) (x % 5))
+unfoldable pub viaC : Rule → ℕ → Bound
+viaC r x = sumC (sumC (entryC (r .old) (x / 5) (r .left)) (r .bound)) (entryC (r .old) (r .right) (x % 5))
 
 -- against the entry; no, past the clocks
 unfoldable pub pushTest : Rule → ℕ → Test
-pushTest r x = cond (ltb (r .clocks) (x / 5)) No (cond (ltb (r .clocks) (x % 5)) No (testSum (viaC r x) (getD (r .old) x zeroBound)))
+pushTest r x = cond (ltb (r .clocks) (x / 5)) No (cond (ltb (r .clocks) (x % 5)) No (tighterC (viaC r x) (getD (r .old) x zeroBound)))
 
 -- the test of a phase
 unfoldable pub askC : Rule → ℕ → Test

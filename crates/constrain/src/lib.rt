@@ -3,4 +3,4 @@ mod rule;
 
 pub use rule::Rule;
 pub use rule::asked;
-pub use rule::via_bound;
+pub use rule::via;

@@ -1,11 +1,10 @@
 // What a guard asks of a matrix (paper: limit, the three rules), test by test.
 use expr::Bound;
-use expr::BoundSum;
 use expr::Test;
 ghost use mathlib.Core.Path.{_≡_};
 ghost use lib.ListN.{getD};
 ghost use Rattle.expr.specs.Three.{zeroBound};
-ghost use Rattle.constrain.specs.Rules.{entryC, testSum, sumSum, voidTest, tightTest, viaC, viaBound, pushTest, askC};
+ghost use Rattle.constrain.specs.Rules.{entryC, voidTest, tightTest, viaC, pushTest, askC};
 
 // A guard left - right with a bound, for a sheet's clocks, and the matrix that it finds.
 pub struct Rule {
@@ -38,43 +37,13 @@ fn entry(r: Rule, k: usize, l: usize) -> Bound
     Bound::ZERO
 }
 
-// Whether a sum is tighter than a bound; a wide sum is a wide test.
-fn tested(s: BoundSum, b: Bound) -> Test
-    ensures { λ t. ⌜ t ≡ testSum s b ⌝ }
-{
-    match s {
-        BoundSum::Sum(a) => a.tighter(b),
-        BoundSum::Wide => Test::Wide,
-    }
-}
-
-// A sum and a bound added.
-fn added(s: BoundSum, b: Bound) -> BoundSum
-    ensures { λ t. ⌜ t ≡ sumSum s b ⌝ }
-{
-    match s {
-        BoundSum::Sum(a) => a.sum(b),
-        BoundSum::Wide => BoundSum::Wide,
-    }
-}
-
-// A sum's bound; zero, not strict, for a wide one.
-fn bound_of(s: BoundSum) -> Bound
-    ensures { λ b. ⌜ b ≡ viaBound s ⌝ }
-{
-    match s {
-        BoundSum::Sum(a) => a,
-        BoundSum::Wide => Bound::ZERO,
-    }
-}
-
 // Rule (1): whether e + (j, i) is tighter than zero, not strict.
 fn void_test(r: Rule) -> Test
     ensures { λ t. ⌜ t ≡ voidTest r ⌝ }
 {
     let bound = r.bound;
     let back = entry(r, r.right, r.left);
-    tested(bound.sum(back), Bound::ZERO)
+    bound.sum(back).tighter(Bound::ZERO)
 }
 
 // Rule (2): whether e is tighter than (i, j).
@@ -86,21 +55,14 @@ fn tight_test(r: Rule) -> Test
     bound.tighter(was)
 }
 
-// (k, i) + e + (j, l), two sums from the left, for the entry x = 5k + l.
-fn via(r: Rule, x: usize) -> BoundSum
-    ensures { λ s. ⌜ s ≡ viaC r x ⌝ }
+// (k, i) + e + (j, l), two sums from the left: what the entry x = 5k + l takes where it is tighter.
+pub fn via(r: Rule, x: usize) -> Bound
+    ensures { λ b. ⌜ b ≡ viaC r x ⌝ }
 {
     let bound = r.bound;
     let first = entry(r, x / 5, r.left);
     let last = entry(r, r.right, x % 5);
-    added(first.sum(bound), last)
-}
-
-// What the entry x = 5k + l takes where it is tighter.
-pub fn via_bound(r: Rule, x: usize) -> Bound
-    ensures { λ b. ⌜ b ≡ viaBound (viaC r x) ⌝ }
-{
-    bound_of(via(r, x))
+    first.sum(bound).sum(last)
 }
 
 // Rule (3): whether (k, i) + e + (j, l) is tighter than the entry x = 5k + l; no, past the clocks.
@@ -113,7 +75,7 @@ fn push_test(r: Rule, x: usize) -> Test
     if r.clocks < x % 5 {
         return Test::No;
     }
-    tested(via(r, x), place(r, x))
+    via(r, x).tighter(place(r, x))
 }
 
 // The test of a phase: 0 is rule (1), 1 is rule (2), and from 2 on come the entries in row order.

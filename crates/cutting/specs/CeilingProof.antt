@@ -8,15 +8,15 @@ use native.Mathlib.Omega.{arith}
 use lib.Dec.{ltb}
 use lib.ListN.{length, length-append}
 use Rattle.integer.specs.Parts.{p}
-use Rattle.expr.specs.Affine.{Affine, dot, value, plusL, minusL, plus, minus, lessOne, opposite, judge, Judged, fine, wide}
-use Rattle.expr.specs.Bounds.{zeroB, marked, sumB, asked, tighterB, Question, yes′, no′, ask, wide′}
+use Rattle.expr.specs.Affine.{Affine, dot, value, plusL, minusL, plus, minus, lessOne, opposite}
+use Rattle.expr.specs.Bounds.{sumB, tighterB, Question, yes′, no′, ask}
 use Rattle.weight.specs.Upper.{Upper}
 use Rattle.search.specs.Valuations.{span, width, before, valuations, satisfies, firstIn, first}
 use Rattle.expr.specs.declared.range.Range.{Range}
 use Rattle.timed.specs.Lists.{AllOf}
 use Rattle.timed.specs.Right.{all-append}
 use Rattle.cutting.specs.Every.{one-of}
-use Rattle.cutting.specs.Cutting.{Bounds, Zone, Tree, cut, keep, wideTree, asks, summed, tested, Place, putEntry, rowFrom, rowsFrom}
+use Rattle.cutting.specs.Cutting.{Bounds, Zone, Tree, cut, keep, asks, tested, Place, putEntry, rowFrom, rowsFrom}
 use Rattle.cutting.specs.Cutting.{places, pushed, guardTree, Listing, listed, refused, INEQS, ZONES, never, listZone, worked}
 use Rattle.cutting.specs.Ways.{Way, Outcome, leads, refuses, listWay, counting, guardWays, withoutCounts}
 use Rattle.cutting.specs.Ceiling.{CEILING, Adds, Low, met, counts, CeilingHolds}
@@ -25,28 +25,24 @@ use Rattle.cutting.specs.Ceiling.{CEILING, Adds, Low, met, counts, Ceili
 unfoldable Within : Tree → ℕ → Type 0
 Within cut n = Unit {0}
 Within (keep m) n = Unit {0}
-Within wideTree n = Unit {0}
 Within (asks e f) n = (k : ℕ) × (n ≡ suc k) × ((b : Bool) → Within (f b) k)
 
 within-more : (t : Tree) (n : ℕ) → Within t n → Within t (suc n)
 unfolding Within
 within-more cut n h = tt
 within-more (keep m) n h = tt
-within-more wideTree n h = tt
 within-more (asks e f) n h = (n, refl, λ b. subst (Within (f b)) (sym (h .1)) (within-more (f b) (h .0) (h .2 b)))
 
 -- a tree that asks nothing
 abbrev Leaf : Tree → Type 0
 Leaf cut = Unit {0}
 Leaf (keep m) = Unit {0}
-Leaf wideTree = Unit {0}
 Leaf (asks e f) = ⊥
 
 leaf-within : (t : Tree) (n : ℕ) → Leaf t → Within t n
 unfolding Within
 leaf-within cut n h = tt
 leaf-within (keep m) n h = tt
-leaf-within wideTree n h = tt
 leaf-within (asks e f) n h = absurd h
 
 tested-within : (q : Question) (f : Bool → Tree) (n : ℕ) → ((b : Bool) → Within (f b) n) → Within (tested q f) (suc n)
@@ -54,21 +50,12 @@ unfolding tested Within
 tested-within yes′ f n h = within-more (f true) n (h true)
 tested-within no′ f n h = within-more (f false) n (h false)
 tested-within (ask e) f n h = (n, refl, h)
-tested-within wide′ f n h = tt
-
-summed-within : (s : Judged (Upper Affine)) (f : Upper Affine → Tree) (n : ℕ) → ((b : Upper Affine) → Within (f b) n)
-    → Within (summed s f) n
-unfolding summed Within
-summed-within (fine b) f n h = h b
-summed-within wide f n h = tt
 
 pushed-within : (i j : ℕ) (e : Upper Affine) (old : Bounds) (ps : List Place) (new : Bounds)
     → Within (pushed i j e old ps new) (length ps)
 unfolding pushed
 pushed-within i j e old [] new = leaf-within _ 0 tt
-pushed-within i j e old (p ∷ ps) new =
-    summed-within _ _ (suc (length ps)) (λ s.
-    summed-within _ _ (suc (length ps)) (λ t. tested-within _ _ (length ps) (λ b. pushed-within i j e old ps _)))
+pushed-within i j e old (p ∷ ps) new = tested-within _ _ (length ps) (λ b. pushed-within i j e old ps _)
 
 -- there are (w + 1)² entries
 row-length : (k l n : ℕ) → length (rowFrom k l n) ≡ n
@@ -97,10 +84,9 @@ guard-within : (w i j : ℕ) (e : Upper Affine) (m : Bounds) → Within (guardTr
 unfolding guardTree
 guard-within w i j e m =
     let entries = subst (Within (pushed i j e m (places w) m)) (places-length w) (pushed-within i j e m (places w) m) in
-    summed-within _ _ (suc (suc (suc w * suc w))) (λ back.
     tested-within _ _ (suc (suc w * suc w)) (λ void.
     cond-within void _ _ (suc (suc w * suc w)) (leaf-within _ _ tt)
-    (tested-within _ _ (suc w * suc w) (λ tight. cond-within tight _ _ (suc w * suc w) entries (leaf-within _ _ tt)))))
+    (tested-within _ _ (suc w * suc w) (λ tight. cond-within tight _ _ (suc w * suc w) entries (leaf-within _ _ tt))))
 
 -- ---- a tree worked: every way is below the top, and adds an inequality for each test at most
 adds-later : {before is : List Affine} {k : ℕ} → Adds before is k → Adds before is (suc k)
@@ -139,8 +125,6 @@ module _ (rs : List Range) (visit top : ℕ) (before : List Affine) where
   counting-fine (keep m) n k h l is a (leads ws) g =
       list-fine (record { zone = record { ineqs = is; bounds = m }; tests = k }) ws (omega arith, a) g
   counting-fine (keep m) n k h l is a (refuses i v) g = g
-  counting-fine wideTree n k h l is a (leads ws) g = tt
-  counting-fine wideTree n k h l is a (refuses m v) g = g
   counting-fine (asks e f) n k h l is a (leads ws) g =
       let more : n ≡ suc (h .0) = h .1 in
       let next : suc k + h .0 ≤ top = omega arith in
@@ -180,8 +164,6 @@ counting-without rs visit cut k is (leads ws) = refl
 counting-without rs visit cut k is (refuses n v) = refl
 counting-without rs visit (keep m) k is (leads ws) = list-without visit (record { zone = record { ineqs = is; bounds = m }; tests = k }) ws
 counting-without rs visit (keep m) k is (refuses n v) = refl
-counting-without rs visit wideTree k is (leads ws) = refl
-counting-without rs visit wideTree k is (refuses n v) = refl
 counting-without rs visit (asks e f) k is (leads ws) =
     without-cond (never rs is e) _ _ _ _ (counting-without rs visit (f false) (suc k) is (leads ws))
     (without-cond (never rs is (opposite e)) _ _ _ _ (counting-without rs visit (f true) (suc k) is (leads ws))
@@ -207,8 +189,8 @@ module _ (rs : List Range) (visit w i j : ℕ) (e : Upper Affine) (z : Zone) whe
 
 -- the ceiling is met, by computing
 met-counts : counts met ≡ CEILING 1 ∷ 2 ∷ []
-unfolding guardWays counting guardTree pushed places rowsFrom rowFrom summed tested putEntry listWay never
-    sumB tighterB marked asked judge plus minus lessOne opposite plusL minusL dot value
+unfolding guardWays counting guardTree pushed places rowsFrom rowFrom tested putEntry listWay never
+    sumB tighterB plus minus lessOne opposite plusL minusL dot value
     first firstIn satisfies valuations before span width p
 met-counts = refl
 

@@ -11,47 +11,33 @@ use lib.IntN.{ℤ, pos}
 use lib.Signed.{leZ}
 use Rattle.integer.specs.Apart.{apart}
 use Rattle.dbm.specs.Matrix.{Matrix, inside, tighterOf, limitedM, Outcome, void, kept, guarded}
-use Rattle.expr.specs.Affine.{Affine, value, dot, Judged, fine, wide}
+use Rattle.expr.specs.Affine.{Affine, value, dot}
 use Rattle.weight.specs.Upper.{Upper, sumW, tighterW, zeroW}
-use Rattle.expr.specs.Bounds.{atV, sumB, tighterB, Question, yes′, no′, ask, wide′, zeroB}
+use Rattle.expr.specs.Bounds.{atV, sumB, tighterB, Question, yes′, no′, ask, zeroB}
 use Rattle.integer.specs.Bools.{and-left, and-right}
 use Rattle.integer.specs.Bools.{same-test}
 use Rattle.expr.specs.Laws.{answer, sum-at, tighter-at}
-use Rattle.cutting.specs.Cutting.{Bounds, Tree, cut, keep, wideTree, asks, summed, tested, Place, putEntry, rowFrom, rowsFrom}
+use Rattle.cutting.specs.Cutting.{Bounds, Tree, cut, keep, asks, tested, Place, putEntry, rowFrom, rowsFrom}
 use Rattle.cutting.specs.Cutting.{places, pushed, guardTree}
 use Rattle.cutting.specs.Held.{at}
 
--- the path of v down the tree ends in r, unless it ends where a number leaves the range
+-- the path of v down the tree ends in r
 abbrev pub Comes : List ℤ → Tree → Outcome → Type 0
 Comes v cut r = r ≡ void
 Comes v (keep m) r = r ≡ kept (at v m)
-Comes v wideTree r = Unit
 Comes v (asks e f) r = Comes v (f (leZ (pos 0) (value e v))) r
 
--- ---- sums and tests
+-- ---- tests
 module _ (v : List ℤ) where
-  summed-comes : (a b : Upper Affine) (f : Upper Affine → Tree) (r : Outcome)
-      → ((c : Upper Affine) → atV v c ≡ sumW (atV v a) (atV v b) → Comes v (f c) r) → Comes v (summed (sumB a b) f) r
-  unfolding summed
-  summed-comes a b f r h = by (sumB a b) refl
-    where
-      by : (j : Judged (Upper Affine)) → sumB a b ≡ j → Comes v (summed j f) r
-      by (fine c) e = h c (sum-at a b c v e)
-      by wide e = tt
-
   tested-comes : (a b : Upper Affine) (f : Bool → Tree) (r : Outcome) → Comes v (f (tighterW (atV v a) (atV v b))) r
       → Comes v (tested (tighterB a b) f) r
   unfolding tested answer
-  tested-comes a b f r h = by (tighterB a b) refl
+  tested-comes a b f r h = by (tighterB a b) (tighter-at a b v)
     where
-      told : (q : Question) → tighterB a b ≡ q → (q ≡ wide′ → ⊥) → answer q v ≡ tighterW (atV v a) (atV v b)
-      told q e n = subst (λ (k : Question). answer k v ≡ tighterW (atV v a) (atV v b)) e (tighter-at a b v (λ k. n (sym e ∙ k)))
-
-      by : (q : Question) → tighterB a b ≡ q → Comes v (tested q f) r
-      by yes′ e = subst (λ (b : Bool). Comes v (f b) r) (sym (told yes′ e (λ k. apart cc))) h
-      by no′ e = subst (λ (b : Bool). Comes v (f b) r) (sym (told no′ e (λ k. apart cc))) h
-      by (ask x) e = subst (λ (b : Bool). Comes v (f b) r) (sym (told (ask x) e (λ k. apart cc))) h
-      by wide′ e = tt
+      by : (q : Question) → answer q v ≡ tighterW (atV v a) (atV v b) → Comes v (tested q f) r
+      by yes′ e = subst (λ (b : Bool). Comes v (f b) r) (sym e) h
+      by no′ e = subst (λ (b : Bool). Comes v (f b) r) (sym e) h
+      by (ask x) e = subst (λ (b : Bool). Comes v (f b) r) (sym e) h
 
 -- ---- rule 3 at one valuation, place by place
 -- whether (k, l) is the place, or one of the places
@@ -94,10 +80,11 @@ pushed-comes : (v : List ℤ) (i j : ℕ) (e : Upper Affine) (old : Bounds) (ps 
 unfolding pushed pushW at
 pushed-comes v i j e old [] new = refl
 pushed-comes v i j e old (p ∷ ps) new =
-    summed-comes v (old (p .row) i) e _ end (λ s hs.
-    summed-comes v s (old j (p .column)) _ end (λ t ht.
+    let s = sumB (old (p .row) i) e in
+    let t = sumB s (old j (p .column)) in
     tested-comes v t (old (p .row) (p .column)) _ end
-    (go t (ht ∙ ap (λ (x : Upper ℤ). sumW x (atV v (old j (p .column)))) hs) (pushed-comes v i j e old ps))))
+    (go t (sum-at s (old j (p .column)) v ∙ ap (λ (x : Upper ℤ). sumW x (atV v (old j (p .column)))) (sum-at (old (p .row) i) e v))
+    (pushed-comes v i j e old ps))
   where
     end : Outcome
     end = kept (pushW i j (atV v e) (at v old) (p ∷ ps) (at v new))
@@ -284,15 +271,19 @@ module _ (i j : ℕ) (e : Upper ℤ) (old : Matrix (Upper ℤ)) where
       ∙ ap (λ (b : Bool). cond b (taken k l) (old k l)) (places-hit w k l)))
 
 -- ---- the three rules
-zero-at : (v : List ℤ) → atV v zeroB ≡ zeroW
+pub zero-at : (v : List ℤ) → atV v zeroB ≡ zeroW
 unfolding atV value dot
 zero-at v = refl
 
-stays-comes : (v : List ℤ) (w i j : ℕ) (e : Upper Affine) (m : Bounds) (b : Bool)
-    → Comes v (cond b (pushed i j e m (places w) m) (keep m)) (kept (cond b (limitedM w i j (atV v e) (at v m)) (at v m)))
-stays-comes v w i j e m true =
+pub pushed-limited : (v : List ℤ) (w i j : ℕ) (e : Upper Affine) (m : Bounds)
+    → Comes v (pushed i j e m (places w) m) (kept (limitedM w i j (atV v e) (at v m)))
+pushed-limited v w i j e m =
     subst (λ (x : Matrix (Upper ℤ)). Comes v (pushed i j e m (places w) m) (kept x)) (push-all i j (atV v e) (at v m) w)
     (pushed-comes v i j e m (places w) m)
+
+stays-comes : (v : List ℤ) (w i j : ℕ) (e : Upper Affine) (m : Bounds) (b : Bool)
+    → Comes v (cond b (pushed i j e m (places w) m) (keep m)) (kept (cond b (limitedM w i j (atV v e) (at v m)) (at v m)))
+stays-comes v w i j e m true = pushed-limited v w i j e m
 stays-comes v w i j e m false = refl
 
 -- a guard's tree comes to what the guard does to the matrix with v put in
@@ -300,8 +291,8 @@ pub guard-comes : (v : List ℤ) (w i j : ℕ) (e : Upper Affine) (m : Bounds)
     → Comes v (guardTree w i j e m) (guarded w i j (atV v e) (at v m))
 unfolding guardTree guarded at
 guard-comes v w i j e m =
-    summed-comes v e (m j i) _ end (λ back h.
-    tested-comes v back zeroB _ end (by back (tighterW (atV v back) (atV v zeroB)) (rw (h, zero-at v) refl)))
+    let back = sumB e (m j i) in
+    tested-comes v back zeroB _ end (by (tighterW (atV v back) (atV v zeroB)) (rw (sum-at e (m j i) v, zero-at v) refl))
   where
     stays : Outcome
     stays = kept (cond (tighterW (atV v e) (at v m i j)) (limitedM w i j (atV v e) (at v m)) (at v m))
@@ -309,10 +300,10 @@ guard-comes v w i j e m =
     end : Outcome
     end = guarded w i j (atV v e) (at v m)
 
-    by : (back : Upper Affine) (b : Bool) → tighterW (sumW (atV v e) (at v m j i)) zeroW ≡ b
+    by : (b : Bool) → tighterW (sumW (atV v e) (at v m j i)) zeroW ≡ b
         → Comes v (cond b cut (tested (tighterB e (m i j)) (λ tight. cond tight (pushed i j e m (places w) m) (keep m)))) end
-    by back true q = ap (λ (b : Bool). cond b void stays) q
-    by back false q =
+    by true q = ap (λ (b : Bool). cond b void stays) q
+    by false q =
         subst (λ (r : Outcome). Comes v (tested (tighterB e (m i j)) (λ tight. cond tight (pushed i j e m (places w) m) (keep m))) r)
         (sym (ap (λ (b : Bool). cond b void stays) q))
         (tested-comes v e (m i j) (λ tight. cond tight (pushed i j e m (places w) m) (keep m)) stays

@@ -10,9 +10,9 @@ use lib.Dec.{eqb, ltb}
 use lib.IntN.{ℤ}
 use lib.ListN.{length}
 use Rattle.dbm.specs.Matrix.{Matrix, delayed, resetsM}
-use Rattle.expr.specs.Affine.{Affine, opposite, Judged, fine, wide}
+use Rattle.expr.specs.Affine.{Affine, opposite}
 use Rattle.weight.specs.Upper.{Upper, none}
-use Rattle.expr.specs.Bounds.{zeroB, sumB, tighterB, Question, yes′, no′, ask, wide′}
+use Rattle.expr.specs.Bounds.{zeroB, sumB, tighterB, Question, yes′, no′, ask}
 use Rattle.expr.specs.Three.{boundAs, rangeList}
 use Rattle.search.specs.Valuations.{first}
 use Rattle.expr.specs.declared.range.Range.{Range}
@@ -36,26 +36,19 @@ pub record Zone : Type 0 where
 
 -- ---- one guard (paper: limit) on one matrix: what the rules ask, in order, knowing nothing of inequalities
 
--- the part is cut; it stays, with a matrix; a number leaves the range (refusal 9); or an expression is asked ≥ 0 Example: 1 - 0 ≤ p on
--- the start's matrix after a wait asks -p - 1 (is p + (0, 1) tighter than zero?). If yes, it is `cut`; if no, p beats the none at (1, 0)
--- with no test, and the entries follow: -p - 1 is asked again for (0, 0), and so on to `keep`.
+-- the part is cut; it stays, with a matrix; or an expression is asked ≥ 0. Example: 1 - 0 ≤ p on the start's matrix after a wait asks
+-- -p - 1 (is p + (0, 1) tighter than zero?). If yes, it is `cut`; if no, p beats the none at (1, 0) with no test, and the entries follow:
+-- -p - 1 is asked again for (0, 0), and so on to `keep`.
 pub data Tree : Type 0 where
   cut : Tree
   keep : Bounds → Tree
-  wideTree : Tree
   asks : Affine → (Bool → Tree) → Tree
-
--- a sum, then what follows
-unfoldable pub summed : Judged (Upper Affine) → (Upper Affine → Tree) → Tree
-summed (fine b) f = f b
-summed wide f = wideTree
 
 -- a test of "tighter", then what follows
 unfoldable pub tested : Question → (Bool → Tree) → Tree
 tested yes′ f = f true
 tested no′ f = f false
 tested (ask e) f = asks e f
-tested wide′ f = wideTree
 
 -- a place in a matrix
 pub record Place : Type 0 where
@@ -84,31 +77,29 @@ places w = rowsFrom w 0 (suc w)
 unfoldable pub pushed : ℕ → ℕ → Upper Affine → Bounds → List Place → Bounds → Tree
 pushed i j e old [] new = keep new
 pushed i j e old (p ∷ ps) new =
-    summed (sumB (old (p .row) i) e) (λ s.
-    summed (sumB s (old j (p .column))) (λ t.
+    let t = sumB (sumB (old (p .row) i) e) (old j (p .column)) in
     tested (tighterB t (old (p .row) (p .column))) (λ b.
-    pushed i j e old ps (cond b (putEntry p t new) new))))
+    pushed i j e old ps (cond b (putEntry p t new) new))
 
 -- the three rules for a guard i - j with the bound e: (1) cut if e + (j, i) is tighter than zero, not strict; (2) the part stays if e
 -- isn't tighter than (i, j); (3) else pushed
 unfoldable pub guardTree : ℕ → ℕ → ℕ → Upper Affine → Bounds → Tree
 guardTree w i j e m =
-    summed (sumB e (m j i)) (λ back.
-    tested (tighterB back zeroB) (λ void.
+    tested (tighterB (sumB e (m j i)) zeroB) (λ void.
     cond void cut
     (tested (tighterB e (m i j)) (λ tight.
-    cond tight (pushed i j e m (places w) m) (keep m)))))
+    cond tight (pushed i j e m (places w) m) (keep m))))
 
 -- ---- zones listed in order, or a refusal
 
--- the zones so far; or refusal 7, 8 or 9 at a visit (moves made)
+-- the zones so far; or refusal 7 or 8 at a visit (moves made)
 pub data Listing : Type 0 where
   listed : List Zone → Listing
   refused : ℕ → ℕ → Listing
 
 -- the refusals of the cutting
-abbrev pub SevenToNine : ℕ → Type 0
-SevenToNine m = (m ≡ 7) ⊎ ((m ≡ 8) ⊎ (m ≡ 9))
+abbrev pub SevenOrEight : ℕ → Type 0
+SevenOrEight m = (m ≡ 7) ⊎ (m ≡ 8)
 
 -- how many zones a limit may list, and how many inequalities a zone may have
 abbrev pub ZONES : ℕ
@@ -135,7 +126,6 @@ listZone visit z zs = cond (ltb (length zs) ZONES) (listed (zs ++ (z ∷ []))) (
 unfoldable pub worked : List Range → ℕ → Tree → List Affine → Listing → Listing
 worked rs visit cut is (listed zs) = listed zs
 worked rs visit (keep m) is (listed zs) = listZone visit (record { ineqs = is; bounds = m }) zs
-worked rs visit wideTree is (listed zs) = refused 9 visit
 worked rs visit (asks e f) is (listed zs) =
     cond (never rs is e) (worked rs visit (f false) is (listed zs))
     (cond (never rs is (opposite e)) (worked rs visit (f true) is (listed zs))
@@ -144,7 +134,6 @@ worked rs visit (asks e f) is (listed zs) =
     (refused 8 visit)))
 worked rs visit cut is (refused n k) = refused n k
 worked rs visit (keep m) is (refused n k) = refused n k
-worked rs visit wideTree is (refused n k) = refused n k
 worked rs visit (asks e f) is (refused n k) = refused n k
 
 -- ---- the steps along a route
@@ -179,7 +168,7 @@ cutSteps rs w (s ∷ steps) zs = andThen (stepZones rs w s zs) (cutSteps rs w st
 abbrev pub startZone : Zone
 startZone = record { ineqs = []; bounds = startB }
 
--- the zones along a route in order, or refusal 7, 8 or 9, the first met
+-- the zones along a route in order, or refusal 7 or 8, the first met
 unfoldable pub zonesAlong : Sheet → List ℕ → Listing
 zonesAlong s route = cutSteps (rangeList (s .ranges)) (s .clocks) (stepsOf s route) (startZone ∷ [])
 

@@ -1,8 +1,8 @@
 -- The proof of FirstHeld: the start holds every valuation of the ranges, a test that is settled changes nothing, and one that splits has
 -- a valuation on each side.
 use mathlib.Core.Path.{_≡_, refl, sym, subst}
-use mathlib.Core.List.{List, [], _∷_, _++_, List·Memᴰ}
-use mathlib.Core.Bool.{Bool, true, false}
+use mathlib.Core.List.{List, [], _∷_, _++_}
+use mathlib.Core.Bool.{true, false}
 use mathlib.Core.Option.{Option}
 use mathlib.Core.Option as option
 use native.Mathlib.Omega.{arith}
@@ -19,14 +19,14 @@ use Rattle.expr.specs.declared.range.Range.{Range}
 use Rattle.timed.specs.Automaton.{routeOf}
 use Rattle.timed.specs.Steps.{stepsOf}
 use Rattle.cutting.specs.Cutting.{Zone, startZone, listed, never, zonesAlong, zonesOf}
-use Rattle.cutting.specs.Every.{Splits, Has, Right, one-of, AnyMatrix, any-lasting, steps-right}
+use Rattle.cutting.specs.Every.{Splits, Has, Right, one-of, AnyMatrix, any-lasting, parts-right}
 use Rattle.cutting.specs.FirstHeld.{firstHeld, AlongFirst, ZonesFirst}
 
 -- the search finds a valuation that meets the inequalities
-abbrev Met : List Range → List Affine → Type 0
+abbrev pub Met : List Range → List Affine → Type 0
 Met rs is = (v : List ℤ) × (first rs is ≡ option.some v)
 
-never-met : (rs : List Range) (is : List Affine) (e : Affine) → never rs is e ≡ false → Met rs (is ++ (e ∷ []))
+pub never-met : (rs : List Range) (is : List Affine) (e : Affine) → never rs is e ≡ false → Met rs (is ++ (e ∷ []))
 unfolding never
 never-met rs is e h = by (first rs (is ++ (e ∷ []))) refl
   where
@@ -55,9 +55,9 @@ pub along-first : AlongFirst
 unfolding zonesAlong
 along-first s v inside route zs q z i =
     let rs = rangeList (s .ranges) in
-    let start : Right (Met rs) AnyMatrix (listed (startZone ∷ [])) = (omega arith, ((start-met rs v inside, tt), tt)) in
-    let r = subst (Right (Met rs) AnyMatrix) q
-    (steps-right rs (Met rs) AnyMatrix (met-splits rs) (s .clocks) (any-lasting (s .clocks)) (stepsOf s route) (startZone ∷ []) start) in
+    let start : Right (Has (Met rs) AnyMatrix) (listed (startZone ∷ [])) = (omega arith, ((start-met rs v inside, tt), tt)) in
+    let r = subst (Right (Has (Met rs) AnyMatrix)) q
+    (parts-right rs (Met rs) AnyMatrix (met-splits rs) (s .clocks) (any-lasting (s .clocks)) (stepsOf s route) (startZone ∷ []) start) in
     met-first rs z (one-of (Has (Met rs) AnyMatrix) zs (r .1) z i .0)
 
 pub zones-first : ZonesFirst

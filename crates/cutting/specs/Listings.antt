@@ -9,7 +9,7 @@ use Rattle.expr.specs.Three.{boundAs}
 use Rattle.expr.specs.declared.range.Range.{Range}
 use Rattle.guards.specs.declared.Guard.{Guard}
 use Rattle.timed.specs.Steps.{Step}
-use Rattle.cutting.specs.Cutting.{Bounds, Zone, Tree, cut, keep, wideTree, asks, guardTree, Listing, listed, refused, worked}
+use Rattle.cutting.specs.Cutting.{Bounds, Zone, Tree, cut, keep, asks, guardTree, Listing, listed, refused, worked}
 use Rattle.cutting.specs.Cutting.{guardZones, onBounds, stepZones, andThen, cutSteps}
 
 pub listed-same : {xs ys : List Zone} → listed xs ≡ listed ys → xs ≡ ys
@@ -23,7 +23,6 @@ pub worked-refused : (rs : List Range) (visit : ℕ) (t : Tree) (is : List Affin
 unfolding worked
 worked-refused rs visit cut is n k = refl
 worked-refused rs visit (keep m) is n k = refl
-worked-refused rs visit wideTree is n k = refl
 worked-refused rs visit (asks e f) is n k = refl
 
 pub guards-refused : (rs : List Range) (visit w : ℕ) (g : Guard) (zs : List Zone) (n k : ℕ)

@@ -11,35 +11,27 @@ use lib.Dec.{eqb}
 use lib.ListN.{length, length-append}
 use Rattle.dbm.specs.Matrix.{Outside}
 use Rattle.dbm.specs.Entries.{delayed-outside, resets-outside}
-use Rattle.expr.specs.Affine.{Affine, opposite, Judged, fine, wide}
+use Rattle.expr.specs.Affine.{Affine, opposite}
 use Rattle.weight.specs.Upper.{Upper, none}
-use Rattle.expr.specs.Bounds.{sumB, tighterB, Question, yes′, no′, ask, wide′, zeroB}
+use Rattle.expr.specs.Bounds.{sumB, tighterB, Question, yes′, no′, ask, zeroB}
 use Rattle.expr.specs.Three.{rangeList}
 use Rattle.expr.specs.declared.range.Range.{Range}
-use Rattle.sheet.specs.declared.Sheet.{Sheet}
 use Rattle.timed.specs.Automaton.{routeOf}
 use Rattle.timed.specs.Steps.{Step, stepsOf}
-use Rattle.cutting.specs.Every.{Leaves, Lasting, Splits, Right, one-of, Has, steps-right}
-use Rattle.cutting.specs.Cutting.{Bounds, startB, startZone, Zone, Tree, cut, keep, summed, tested, Place, putEntry, rowFrom}
+use Rattle.cutting.specs.Every.{Leaves, LastingM, Splits, Right, one-of, Has, parts-right}
+use Rattle.cutting.specs.Cutting.{Bounds, startB, startZone, Zone, Tree, cut, keep, tested, Place, putEntry, rowFrom}
 use Rattle.cutting.specs.Cutting.{rowsFrom, places, pushed, guardTree, listed, INEQS, ZONES, cutSteps, zonesAlong, zonesOf}
 use Rattle.cutting.specs.Shape.{Blank, Shaped, AlongShaped, ZonesShaped}
 
 -- ---- trees
-summed-leaves : (w : ℕ) (j : Judged (Upper Affine)) (f : Upper Affine → Tree) → ((c : Upper Affine) → Leaves (Blank w) (f c))
-    → Leaves (Blank w) (summed j f)
-unfolding summed
-summed-leaves w (fine c) f h = h c
-summed-leaves w wide f h = tt
-
 tested-leaves : (w : ℕ) (q : Question) (f : Bool → Tree) → ((b : Bool) → Leaves (Blank w) (f b)) → Leaves (Blank w) (tested q f)
 unfolding tested
 tested-leaves w yes′ f h = h true
 tested-leaves w no′ f h = h false
 tested-leaves w (ask e) f h = h
-tested-leaves w wide′ f h = tt
 
 -- the places are of clock 0 and the clocks
-abbrev Placed : ℕ → List Place → Type 0
+abbrev pub Placed : ℕ → List Place → Type 0
 Placed w [] = Unit {0}
 Placed w (p ∷ ps) = (p .row ≤ w) × (p .column ≤ w) × Placed w ps
 
@@ -57,6 +49,10 @@ unfolding rowsFrom
 rows-placed w k zero a = tt
 rows-placed w k (suc n) a = placed-append w (rowFrom k 0 (suc w)) (rowsFrom w (suc k) n)
     (row-placed w k 0 (suc w) (omega arith) (omega arith)) (rows-placed w (suc k) n (omega arith))
+
+pub places-placed : (w : ℕ) → Placed w (places w)
+unfolding places
+places-placed w = rows-placed w 0 (suc w) (omega arith)
 
 put-blank : (w : ℕ) (p : Place) (t : Upper Affine) (m : Bounds) → p .row ≤ w → p .column ≤ w → Blank w m → Blank w (putEntry p t m)
 unfolding putEntry
@@ -77,29 +73,27 @@ pushed-leaves : (w i j : ℕ) (e : Upper Affine) (old : Bounds) (ps : List Place
 unfolding pushed
 pushed-leaves w i j e old [] new h k = k
 pushed-leaves w i j e old (p ∷ ps) new h k =
-    summed-leaves w (sumB (old (p .row) i) e) _ (λ s.
-    summed-leaves w (sumB s (old j (p .column))) _ (λ t.
+    let t = sumB (sumB (old (p .row) i) e) (old j (p .column)) in
     tested-leaves w (tighterB t (old (p .row) (p .column))) _ (λ b.
     pushed-leaves w i j e old ps (cond b (putEntry p t new) new) (h .2)
-    (cond-blank w b (putEntry p t new) new (put-blank w p t new (h .0) (h .1) k) k))))
+    (cond-blank w b (putEntry p t new) new (put-blank w p t new (h .0) (h .1) k) k))
 
 guard-leaves : (w i j : ℕ) (e : Upper Affine) (m : Bounds) → Blank w m → Leaves (Blank w) (guardTree w i j e m)
-unfolding guardTree places
+unfolding guardTree
 guard-leaves w i j e m h =
-    summed-leaves w (sumB e (m j i)) _ (λ back.
-    tested-leaves w (tighterB back zeroB) _ (λ b. void-or b))
+    tested-leaves w (tighterB (sumB e (m j i)) zeroB) _ void-or
   where
-    stay-or : (b : Bool) → Leaves (Blank w) (cond b (pushed i j e m (rowsFrom w 0 (suc w)) m) (keep m))
-    stay-or true = pushed-leaves w i j e m (rowsFrom w 0 (suc w)) m (rows-placed w 0 (suc w) (omega arith)) h
+    stay-or : (b : Bool) → Leaves (Blank w) (cond b (pushed i j e m (places w) m) (keep m))
+    stay-or true = pushed-leaves w i j e m (places w) m (places-placed w) h
     stay-or false = h
 
     void-or : (b : Bool) → Leaves (Blank w)
-        (cond b cut (tested (tighterB e (m i j)) (λ tight. cond tight (pushed i j e m (rowsFrom w 0 (suc w)) m) (keep m))))
+        (cond b cut (tested (tighterB e (m i j)) (λ tight. cond tight (pushed i j e m (places w) m) (keep m))))
     void-or true = tt
     void-or false = tested-leaves w (tighterB e (m i j)) _ stay-or
 
 -- ---- any list of steps
-blank-lasting : (w : ℕ) → Lasting w (Blank w)
+blank-lasting : (w : ℕ) → LastingM w (Blank w)
 blank-lasting w =
     record {
       guards = guard-leaves w;
@@ -118,8 +112,9 @@ steps-shaped : (rs : List Range) (w : ℕ) (steps : List Step) (zs : List Zone) 
     → (length zs ≤ ZONES) × ((z : Zone) → List·Memᴰ z zs → Shaped w z)
 unfolding startB
 steps-shaped rs w steps zs q =
-    let start : Right Few (Blank w) (listed (startZone ∷ [])) = (omega arith, ((omega arith, λ i j o. refl), tt)) in
-    let r = subst (Right Few (Blank w)) q (steps-right rs Few (Blank w) (few-splits rs) w (blank-lasting w) steps (startZone ∷ []) start) in
+    let start : Right (Has Few (Blank w)) (listed (startZone ∷ [])) = (omega arith, ((omega arith, λ i j o. refl), tt)) in
+    let r = subst (Right (Has Few (Blank w))) q
+    (parts-right rs Few (Blank w) (few-splits rs) w (blank-lasting w) steps (startZone ∷ []) start) in
     (r .0, λ z i. let h = one-of (Has Few (Blank w)) zs (r .1) z i in record { few = h .0; blank = h .1 })
 
 pub along-shaped : AlongShaped

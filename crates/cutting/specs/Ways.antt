@@ -9,14 +9,14 @@ use lib.ListN.{length}
 use Rattle.expr.specs.Affine.{Affine, opposite}
 use Rattle.weight.specs.Upper.{Upper}
 use Rattle.expr.specs.declared.range.Range.{Range}
-use Rattle.cutting.specs.Cutting.{Zone, Tree, cut, keep, wideTree, asks, guardTree, Listing, listed, refused, INEQS, ZONES, never}
+use Rattle.cutting.specs.Cutting.{Zone, Tree, cut, keep, asks, guardTree, Listing, listed, refused, INEQS, ZONES, never}
 
 -- the end of a way: the zone that is listed, and how many tests were asked on the way to it
 pub record Way : Type 0 where
   pub zone : Zone
   pub tests : ℕ
 
--- the ways so far in order; or refusal 7, 8 or 9 at a visit
+-- the ways so far in order; or refusal 7 or 8 at a visit
 pub data Outcome : Type 0 where
   leads : List Way → Outcome
   refuses : ℕ → ℕ → Outcome
@@ -30,7 +30,6 @@ listWay visit w ws = cond (ltb (length ws) ZONES) (leads (ws ++ (w ∷ []))) (re
 unfoldable pub counting : List Range → ℕ → Tree → ℕ → List Affine → Outcome → Outcome
 counting rs visit cut k is (leads ws) = leads ws
 counting rs visit (keep m) k is (leads ws) = listWay visit (record { zone = record { ineqs = is; bounds = m }; tests = k }) ws
-counting rs visit wideTree k is (leads ws) = refuses 9 visit
 counting rs visit (asks e f) k is (leads ws) =
     cond (never rs is e) (counting rs visit (f false) (suc k) is (leads ws))
     (cond (never rs is (opposite e)) (counting rs visit (f true) (suc k) is (leads ws))
@@ -39,7 +38,6 @@ counting rs visit (asks e f) k is (leads ws) =
     (refuses 8 visit)))
 counting rs visit cut k is (refuses n v) = refuses n v
 counting rs visit (keep m) k is (refuses n v) = refuses n v
-counting rs visit wideTree k is (refuses n v) = refuses n v
 counting rs visit (asks e f) k is (refuses n v) = refuses n v
 
 -- one guard i - j with the bound e on one zone, for w clocks: no test has been asked before its first

@@ -24,7 +24,7 @@ use Rattle.search.specs.Valuations.{satisfies, first}
 use Rattle.expr.specs.declared.range.Range.{Range}
 use Rattle.guards.specs.declared.Guard.{Guard}
 use Rattle.timed.specs.Steps.{delay, guard, resets}
-use Rattle.cutting.specs.Cutting.{Bounds, startB, Zone, Tree, cut, keep, wideTree, asks, guardTree, Listing, listed, refused}
+use Rattle.cutting.specs.Cutting.{Bounds, startB, Zone, Tree, cut, keep, asks, guardTree, Listing, listed, refused}
 use Rattle.cutting.specs.Cutting.{INEQS, ZONES, never, listZone, worked, guardZones, onBounds, stepZones}
 use Rattle.cutting.specs.Held.{holds, at, found, listOf}
 use Rattle.cutting.specs.Listings.{listed-same, not-listed, worked-refused, guards-refused}
@@ -46,7 +46,7 @@ found-append v (z ∷ xs) ys = by (holds v z) (found-append v xs ys)
     by true ih = ap (λ (l : List (Matrix (Upper ℤ))). at v (z .bounds) ∷ l) ih
     by false ih = ih
 
-satisfies-one-more : (is : List Affine) (e : Affine) (v : List ℤ)
+pub satisfies-one-more : (is : List Affine) (e : Affine) (v : List ℤ)
     → satisfies (is ++ (e ∷ [])) v ≡ (satisfies is v && leZ (pos 0) (value e v))
 unfolding satisfies
 satisfies-one-more [] e v = by (leZ (pos 0) (value e v))
@@ -70,8 +70,8 @@ never-none rs is e h = by (first rs (is ++ (e ∷ []))) refl
     by option.none q = q
     by (option.some u) q = let k = rw q at h in apart cc
 
-never-fails : (rs : List Range) (is : List Affine) (e : Affine) (v : List ℤ) → Inside v rs → never rs is e ≡ true → satisfies is v ≡ true
-    → leZ (pos 0) (value e v) ≡ false
+pub never-fails : (rs : List Range) (is : List Affine) (e : Affine) (v : List ℤ) → Inside v rs → never rs is e ≡ true
+    → satisfies is v ≡ true → leZ (pos 0) (value e v) ≡ false
 never-fails rs is e v i h s =
     ap (λ (b : Bool). b && leZ (pos 0) (value e v)) (sym s) ∙ sym (satisfies-one-more is e v)
     ∙ first-none rs (is ++ (e ∷ [])) (never-none rs is e h) v i
@@ -88,11 +88,11 @@ halves true false true xs r h = ap (λ (l : List (Matrix (Upper ℤ))). l ++ lis
 halves true false false xs r h = cc
 halves false b c xs r h = append-nil (xs ++ [])
 
-of-opposite : (a b : Bool) → a ≡ not b → a ≡ true → b ≡ false
+pub of-opposite : (a b : Bool) → a ≡ not b → a ≡ true → b ≡ false
 of-opposite a true x y = cc
 of-opposite a false x y = refl
 
-not-opposite : (a b : Bool) → a ≡ not b → a ≡ false → b ≡ true
+pub not-opposite : (a b : Bool) → a ≡ not b → a ≡ false → b ≡ true
 not-opposite a true x y = refl
 not-opposite a false x y = cc
 
@@ -192,7 +192,6 @@ module _ (rs : List Range) (visit : ℕ) (v : List ℤ) (inside-ranges : Inside 
   unfolding worked
   tree-works cut = cut-works
   tree-works (keep m) = keep-works m
-  tree-works wideTree = λ is zs zs′ r h q. absurd (not-listed q)
   tree-works (asks e f) = asks-works e f (λ b. tree-works (f b))
 
 -- ---- steps on all matrices of a list

@@ -1,4 +1,4 @@
 -- Laws that the proofs of several functions cite.
 pub mod Cases
-pub mod Judge
+pub mod Records
 pub mod Sizes

@@ -1,50 +1,79 @@
--- Sizes: sums and differences of narrow numbers fit the wide width.
-use mathlib.Core.Path.{_≡_, refl, sym, _∙_}
-use mathlib.Core.Bool.{Bool, true, false, _&&_, and-true, cond}
-use mathlib.Core.List.{List, [], _∷_}
-use Prim.{Unit}
-use lib.Signed.{leZ}
-use Rattle.expr.specs.Affine.{within, allWithin}
-use lib.IntN.{ℤ, pos, negℤ, _+ℤ_, _-ℤ_, +ℤ-idr}
+-- Sizes: sums and differences of numbers that were clamped fit the code's width, and so does one more or less; a constant and three
+-- products fit the wide one.
+use mathlib.Core.Path.{_≡_, refl, ap, _∙_}
+use mathlib.Core.Bool.{Bool, true, false, cond}
+use lib.IntN.{ℤ, pos, negsuc, negℤ, _+ℤ_, _-ℤ_, +ℤ-idr}
+use lib.Signed.{leZ-yes}
 use mir.Syntax.{w32, w64}
 use mir.Facts.{sfits-lit}
 use mir.Val.{SFits, toZ, ofZ, boolByte}
 use mir.ValLaws.{toZ-ofZ}
 use native.Mathlib.Omega.{arith}
+use Rattle.integer.specs.Bits.{held, heard, op-fits, op-back}
 use Rattle.integer.specs.Product.{Small}
-use Rattle.integer.specs.Split.{split, split-all}
-use Rattle.integer.specs.Bits.{op-fits, op-back}
-use Rattle.integer.specs.Bools.{and-left, and-right}
+use Rattle.integer.specs.Split.{split, split-all, zero-minus}
+use Rattle.weight.specs.Fits.{Room, Within, saturated-within, sum-fits, difference-fits}
+use Rattle.weight.specs.Laws.{saturate-same}
+use Rattle.weight.specs.Upper.{saturate}
+use Rattle.expr.specs.Affine.{LARGEST}
 
--- a fact of each element
-abbrev pub All : (ℤ → Type 0) → List ℤ → Type 0
-All P [] = Unit {0}
-All P (x ∷ xs) = P x × All P xs
+-- ---- two numbers that were clamped, at 32 bits
+pub room : Room w32 1073741823
+room = record { twice = omega arith }
 
-pub sum-fits : (x y : ℤ) → SFits w32 x → SFits w32 y → SFits w64 (x +ℤ y)
-sum-fits x y = rw (split x, split y) (simp split-all (omega arith))
+pub clamped-in : (x : ℤ) → Within 1073741823 (saturate LARGEST x)
+clamped-in x = saturated-within 1073741823 x
 
-pub difference-fits : (x y : ℤ) → SFits w32 x → SFits w32 y → SFits w64 (x -ℤ y)
-difference-fits x y = rw (split x, split y) (simp split-all (omega arith))
+-- what `clamped` answers on a number that was passed as its bits
+pub told : {r : ℤ} (x : ℤ) → r ≡ saturate LARGEST (toZ w32 (ofZ w32 x)) → SFits w32 x → r ≡ saturate LARGEST x
+told x e f = e ∙ ap (saturate LARGEST) (toZ-ofZ w32 x f)
 
-pub less-one-is : (v : ℤ) → SFits w64 v → SFits w64 (v -ℤ pos 1) → toZ w64 (ofZ w64 (toZ w64 (ofZ w64 v) -ℤ pos 1)) ≡ v -ℤ pos 1
-less-one-is v f g = op-back _-ℤ_ w64 v (pos 1) v (pos 1) refl refl f (sfits-lit tt) g
+-- what `sum` and `difference` answer on numbers that were passed as their bits, once it is stored
+abbrev sumC : ℤ → ℤ → ℤ
+sumC x y = saturate LARGEST x +ℤ saturate LARGEST y
 
--- a Bool as a number is 1 or 0
-zero-more : (v : ℤ) → SFits w64 v → SFits w64 (v +ℤ pos 0)
+abbrev differenceC : ℤ → ℤ → ℤ
+differenceC x y = saturate LARGEST x -ℤ saturate LARGEST y
+
+module _ (r x y : ℤ) (fx : SFits w32 x) (fy : SFits w32 y) where
+  pub sum-stored : r ≡ sumC (toZ w32 (ofZ w32 x)) (toZ w32 (ofZ w32 y)) → toZ w32 (ofZ w32 r) ≡ sumC x y
+  sum-stored e = held w32 r (sumC x y) (heard sumC w32 w32 r x y e fx fy) (sum-fits room _ _ (clamped-in x) (clamped-in y))
+
+  pub difference-stored : r ≡ differenceC (toZ w32 (ofZ w32 x)) (toZ w32 (ofZ w32 y)) → toZ w32 (ofZ w32 r) ≡ differenceC x y
+  difference-stored e =
+      held w32 r (differenceC x y) (heard differenceC w32 w32 r x y e fx fy) (difference-fits room _ _ (clamped-in x) (clamped-in y))
+
+-- the numbers of an opposite: -1 less the constant, and the coefficients turned round
+module _ (r x : ℤ) (fx : SFits w32 x) where
+  pub turned-stored : r ≡ differenceC (toZ w32 (ofZ w32 (negsuc 0))) (toZ w32 (ofZ w32 x))
+      → toZ w32 (ofZ w32 r) ≡ negsuc 0 -ℤ saturate LARGEST x
+  turned-stored e =
+      let k : saturate LARGEST (negsuc 0) ≡ negsuc 0 = saturate-same LARGEST (negsuc 0) (leZ-yes tt) (leZ-yes tt) in
+      rw k at (difference-stored r (negsuc 0) x (sfits-lit tt) fx e)
+
+  pub negated-stored : r ≡ differenceC (toZ w32 (ofZ w32 (pos 0))) (toZ w32 (ofZ w32 x)) → toZ w32 (ofZ w32 r) ≡ negℤ (saturate LARGEST x)
+  negated-stored e =
+      let k : saturate LARGEST (pos 0) ≡ pos 0 = saturate-same LARGEST (pos 0) (leZ-yes tt) (leZ-yes tt) in
+      (rw k at (difference-stored r (pos 0) x (sfits-lit tt) fx e)) ∙ zero-minus (saturate LARGEST x)
+
+-- ---- one less, and one more where a Bool is true: as a number it is 1 or 0
+pub less-fits : (v : ℤ) → SFits w32 v → SFits w32 (v -ℤ pos 1) → SFits w32 (toZ w32 (ofZ w32 v) -ℤ pos 1)
+less-fits v f g = op-fits _-ℤ_ w32 v (pos 1) v (pos 1) refl refl f (sfits-lit tt) g
+
+pub less-is : (v : ℤ) → SFits w32 v → SFits w32 (v -ℤ pos 1) → toZ w32 (ofZ w32 (toZ w32 (ofZ w32 v) -ℤ pos 1)) ≡ v -ℤ pos 1
+less-is v f g = op-back _-ℤ_ w32 v (pos 1) v (pos 1) refl refl f (sfits-lit tt) g
+
+zero-more : (v : ℤ) → SFits w32 v → SFits w32 (v +ℤ pos 0)
 zero-more v = rw (split v) (simp split-all (omega arith))
 
-pub plus-where-fits : (v : ℤ) (b : Bool) → SFits w64 v → SFits w64 (v +ℤ pos 1) → SFits w64 (toZ w64 (ofZ w64 v) +ℤ toZ w64 (boolByte b))
-plus-where-fits v true f g = op-fits _+ℤ_ w64 v (pos 1) v (pos 1) refl refl f (sfits-lit tt) g
-plus-where-fits v false f g = op-fits _+ℤ_ w64 v (pos 0) v (pos 0) refl refl f (sfits-lit tt) (zero-more v f)
+pub plus-where-fits : (v : ℤ) (b : Bool) → SFits w32 v → SFits w32 (v +ℤ pos 1) → SFits w32 (toZ w32 (ofZ w32 v) +ℤ toZ w32 (boolByte b))
+plus-where-fits v true f g = op-fits _+ℤ_ w32 v (pos 1) v (pos 1) refl refl f (sfits-lit tt) g
+plus-where-fits v false f g = op-fits _+ℤ_ w32 v (pos 0) v (pos 0) refl refl f (sfits-lit tt) (zero-more v f)
 
-pub plus-where-is : (v : ℤ) (b : Bool) → SFits w64 v → SFits w64 (v +ℤ pos 1)
-    → toZ w64 (ofZ w64 (toZ w64 (ofZ w64 v) +ℤ toZ w64 (boolByte b))) ≡ v +ℤ cond b (pos 1) (pos 0)
-plus-where-is v true f g = op-back _+ℤ_ w64 v (pos 1) v (pos 1) refl refl f (sfits-lit tt) g
-plus-where-is v false f g = op-back _+ℤ_ w64 v (pos 0) v (pos 0) refl refl f (sfits-lit tt) (zero-more v f)
-
-pub negation-fits : (x : ℤ) → SFits w32 x → SFits w64 (pos 0 -ℤ x)
-negation-fits x = rw (split x) (simp split-all (omega arith))
+pub plus-where-is : (v : ℤ) (b : Bool) → SFits w32 v → SFits w32 (v +ℤ pos 1)
+    → toZ w32 (ofZ w32 (toZ w32 (ofZ w32 v) +ℤ toZ w32 (boolByte b))) ≡ v +ℤ cond b (pos 1) (pos 0)
+plus-where-is v true f g = op-back _+ℤ_ w32 v (pos 1) v (pos 1) refl refl f (sfits-lit tt) g
+plus-where-is v false f g = op-back _+ℤ_ w32 v (pos 0) v (pos 0) refl refl f (sfits-lit tt) (zero-more v f)
 
 -- ---- a constant and three products
 pub two-fit : (x y : ℤ) → Small x → Small y → SFits w64 (x +ℤ y)
@@ -58,46 +87,3 @@ four-fit c x y z = rw (split c, split x, split y, split z) (simp split-all (omeg
 
 pub dot-end : (c x y z : ℤ) → c +ℤ (x +ℤ (y +ℤ z)) ≡ c +ℤ (x +ℤ (y +ℤ (z +ℤ pos 0)))
 dot-end c x y z = rw (+ℤ-idr z) refl
-
--- ---- a test of a range in two steps, at locals that hold the range's ends and the number
-pub within-yes : (l x hb xb low : ℤ) → hb ≡ l → xb ≡ x → low ≡ negℤ l → leZ low xb ≡ true → leZ xb hb ≡ within l x
-within-yes l x hb xb low eh ex el t =
-    let t′ : leZ (negℤ l) x ≡ true = rw (← el, ← ex) t in
-    rw (eh, ex, t′) refl
-
-pub within-no : (l x xb low : ℤ) → xb ≡ x → low ≡ negℤ l → leZ low xb ≡ false → false ≡ within l x
-within-no l x xb low ex el t =
-    let t′ : leZ (negℤ l) x ≡ false = rw (← el, ← ex) t in
-    rw t′ refl
-
--- what `is_within` says of a limit that was passed as its bits, with the branch's test
-pub told : (l x : ℤ) (b t : Bool) → b ≡ within (toZ w32 (ofZ w32 l)) x → SFits w32 l → b ≡ t → within l x ≡ t
-told l x b t e f h = rw (toZ-ofZ w32 l f) at (sym e ∙ h)
-
--- ---- tests one after the other
-pub go-on : (a b r : Bool) → a ≡ true → r ≡ b → r ≡ (a && b)
-go-on a b r t e = rw t e
-
-pub stop : (a b : Bool) → a ≡ false → false ≡ (a && b)
-stop a b t = rw t refl
-
-pub last : (a r : Bool) → a ≡ r → r ≡ (a && true)
-last a r e = sym (and-true a ∙ e)
-
--- ---- what follows from the test of a whole expression
-pub within-fits : (l x : ℤ) → SFits w32 l → leZ (negℤ l) x ≡ true → leZ x l ≡ true → SFits w32 x
-within-fits l x = rw (split l, split x) (simp split-all (omega arith))
-
--- each number of a list that passed the test fits
-pub all-fits : (l : ℤ) (xs : List ℤ) → SFits w32 l → allWithin l xs ≡ true → All (SFits w32) xs
-all-fits l [] f e = tt
-all-fits l (x ∷ xs) f e =
-    let h = and-left (within l x) (allWithin l xs) e in (
-      within-fits l x f (and-left (leZ (negℤ l) x) (leZ x l) h) (and-right (leZ (negℤ l) x) (leZ x l) h),
-      all-fits l xs f
-          (and-right (within l x) (allWithin l xs) e),
-    )
-
--- what `all_within` says of a limit that was passed as its bits, with the branch's test
-pub told-all : (l : ℤ) (xs : List ℤ) (b t : Bool) → b ≡ allWithin (toZ w32 (ofZ w32 l)) xs → SFits w32 l → b ≡ t → allWithin l xs ≡ t
-told-all l xs b t e f h = rw (toZ-ofZ w32 l f) at (sym e ∙ h)

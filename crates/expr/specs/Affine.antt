@@ -1,8 +1,7 @@
 -- Expressions over any number of parameters (paper 01, "Cutting the ranges").
 use mathlib.Core.List.{List, [], _∷_, map}
-use mathlib.Core.Bool.{Bool, true, _&&_, cond}
 use lib.IntN.{ℤ, pos, negsuc, negℤ, _+ℤ_, _-ℤ_, _*ℤ_}
-use lib.Signed.{leZ}
+use Rattle.weight.specs.Upper.{saturate}
 
 -- an expression: a constant, and a coefficient for each parameter (paper: allowance)
 pub record Affine : Type 0 where
@@ -47,26 +46,10 @@ lessOne e = record { constant = e .constant -ℤ pos 1; coefs = e .coefs }
 unfoldable pub opposite : Affine → Affine
 opposite e = record { constant = negsuc 0 -ℤ e .constant; coefs = map negℤ (e .coefs) }
 
--- whether x lies from -most to most
-abbrev pub within : ℤ → ℤ → Bool
-within most x = leZ (negℤ most) x && leZ x most
+-- the code's sums, tests and opposites of expressions never wrap: a number past ±(2^30 - 1) counts as that end. No number that the cutting
+-- of a readable sheet forms is that large (paper 02, request (n): crate sizes)
+abbrev pub LARGEST : ℤ
+LARGEST = pos 1073741823
 
-abbrev pub allWithin : ℤ → List ℤ → Bool
-allWithin most [] = true
-allWithin most (x ∷ xs) = within most x && allWithin most xs
-
--- something judged: fine, or wide (paper: a constant or coefficient leaves the range)
-pub data Judged (A : Type 0) : Type 0 where
-  fine : A → Judged A
-  wide : Judged A
-
--- the expression, if its constant and all coefficients lie from -most to most
-unfoldable pub judge : ℤ → Affine → Judged Affine
-judge most e = cond (allWithin most (e .constant ∷ e .coefs)) (fine e) wide
-
--- refusal 9: a number of a sum or a test is wide past this; an opposite's constant may lie one past it
-abbrev pub WIDEST : ℤ
-WIDEST = pos 1000000
-
-abbrev pub OPPOSITE : ℤ
-OPPOSITE = pos 1000001
+unfoldable pub saturatedE : Affine → Affine
+saturatedE e = record { constant = saturate LARGEST (e .constant); coefs = map (saturate LARGEST) (e .coefs) }

@@ -1,16 +1,14 @@
 -- What sums, tests and opposites mean at a valuation, for any number of parameters.
 use mathlib.Core.Path.{_≡_, refl, sym, ap, _∙_}
 use mathlib.Core.List.{List, [], _∷_, map}
-use mathlib.Core.Bool.{Bool, true, false, not, _||_, cond}
+use mathlib.Core.Bool.{Bool, true, false, not}
 use native.Mathlib.Omega.{arith}
 use lib.IntN.{ℤ, pos, negsuc, negℤ, _+ℤ_, _-ℤ_, _*ℤ_, +ℤ-idl, +ℤ-idr}
 use lib.Signed.{leZ}
-use Rattle.integer.specs.Apart.{apart}
 use Rattle.integer.specs.Split.{split, split-all}
-use Rattle.expr.specs.Affine.{Affine, dot, value, plusL, minusL, plus, minus, lessOne, opposite, allWithin, Judged, fine, wide}
-use Rattle.expr.specs.Affine.{judge, WIDEST}
+use Rattle.expr.specs.Affine.{Affine, dot, value, plusL, minusL, plus, minus, lessOne, opposite}
 use Rattle.weight.specs.Upper.{Upper, none, upper, sumW, slack, tighterW}
-use Rattle.expr.specs.Bounds.{atV, marked, sumB, slackE, Question, yes′, no′, ask, wide′, asked, tighterB}
+use Rattle.expr.specs.Bounds.{atV, sumB, slackE, Question, yes′, no′, ask, tighterB}
 
 -- ---- values
 plus-step : (c d x a b : ℤ) → ((c +ℤ d) *ℤ x) +ℤ (a +ℤ b) ≡ ((c *ℤ x) +ℤ a) +ℤ ((d *ℤ x) +ℤ b)
@@ -91,52 +89,26 @@ turned x false e = not-holds x e
 pub opposite-holds : (e : Affine) (v : List ℤ) → leZ (pos 0) (value (opposite e) v) ≡ not (leZ (pos 0) (value e v))
 opposite-holds e v = rw (opposite-value e v) (turned (value e v) (leZ (pos 0) (value e v)) refl)
 
--- ---- judging changes nothing
-judged-same : (b : Bool) (e x : Affine) → cond b (fine e) wide ≡ fine x → e ≡ x
-judged-same true e x h = cc
-judged-same false e x h = apart cc
-
-pub judge-same : (l : ℤ) (e x : Affine) → judge l e ≡ fine x → e ≡ x
-unfolding judge
-judge-same l e x h = judged-same (allWithin l (e .constant ∷ e .coefs)) e x h
-
--- ---- sums: a sum of bounds that is not wide is, at every valuation, the sum of the weights
-marked-same : (s : Bool) (j : Judged Affine) (e : Affine) (c : Upper Affine) → ((x : Affine) → j ≡ fine x → e ≡ x) → marked s j
-    ≡ fine c → c ≡ upper s e
-unfolding marked
-marked-same s (fine x) e c f h = let g = f x refl in cc
-marked-same s wide e c f h = apart cc
-
-pub sum-at : (a b c : Upper Affine) (v : List ℤ) → sumB a b ≡ fine c → atV v c ≡ sumW (atV v a) (atV v b)
+-- ---- sums: a sum of bounds is, at every valuation, the sum of the weights
+pub sum-at : (a b : Upper Affine) (v : List ℤ) → atV v (sumB a b) ≡ sumW (atV v a) (atV v b)
 unfolding sumB sumW atV
-sum-at none b c v h = let e : c ≡ none = cc in rw e refl
-sum-at (upper s a) none c v h = let e : c ≡ none = cc in rw e refl
-sum-at (upper s a) (upper t b) c v h =
-    let e : c ≡ upper (s || t) (plus a b) = marked-same (s || t) (judge WIDEST (plus a b)) (plus a b) c (judge-same WIDEST (plus a b)) h in
-    rw (e, plus-value a b v) refl
+sum-at none b v = refl
+sum-at (upper s a) none v = refl
+sum-at (upper s a) (upper t b) v = rw (plus-value a b v) refl
 
--- ---- tests: the answer of a test that is not wide is, at every valuation, whether the first weight is tighter
+-- ---- tests: the answer of a test is, at every valuation, whether the first weight is tighter
 unfoldable pub answer : Question → List ℤ → Bool
 answer yes′ v = true
 answer no′ v = false
 answer (ask e) v = leZ (pos 0) (value e v)
-answer wide′ v = false
 
 slack-value : (s t : Bool) (a b : Affine) (v : List ℤ) → value (slackE s t a b) v ≡ slack s t (value a v) (value b v)
 slack-value true true a b v = rw (lessOne-value (minus b a) v, minus-value b a v) refl
 slack-value true false a b v = minus-value b a v
 slack-value false t a b v = rw (lessOne-value (minus b a) v, minus-value b a v) refl
 
-asked-same : (j : Judged Affine) (e : Affine) (v : List ℤ) → ((x : Affine) → j ≡ fine x → e ≡ x) → (asked j ≡ wide′ → ⊥)
-    → answer (asked j) v ≡ leZ (pos 0) (value e v)
-unfolding asked answer
-asked-same (fine x) e v f h = rw (f x refl) refl
-asked-same wide e v f h = absurd (h refl)
-
-pub tighter-at : (a b : Upper Affine) (v : List ℤ) → (tighterB a b ≡ wide′ → ⊥) → answer (tighterB a b) v ≡ tighterW (atV v a) (atV v b)
+pub tighter-at : (a b : Upper Affine) (v : List ℤ) → answer (tighterB a b) v ≡ tighterW (atV v a) (atV v b)
 unfolding tighterB tighterW atV answer
-tighter-at none b v h = refl
-tighter-at (upper s a) none v h = refl
-tighter-at (upper s a) (upper t b) v h =
-    asked-same (judge WIDEST (slackE s t a b)) (slackE s t a b) v (judge-same WIDEST (slackE s t a b)) h
-    ∙ ap (λ (x : ℤ). leZ (pos 0) x) (slack-value s t a b v)
+tighter-at none b v = refl
+tighter-at (upper s a) none v = refl
+tighter-at (upper s a) (upper t b) v = ap (λ (x : ℤ). leZ (pos 0) x) (slack-value s t a b v)

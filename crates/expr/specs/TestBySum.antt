@@ -1,11 +1,11 @@
 -- Request (e) of paper 02, for bounds over any number of parameters: paper 01's test of which bound is tighter is one sum.
 use mathlib.Core.Path.{_≡_, ap}
 use mathlib.Core.Bool.{Bool, true, false, not, _&&_, cond}
-use lib.IntN.{ℤ, pos, _+ℤ_}
+use lib.IntN.{pos, _+ℤ_}
 use Rattle.weight.specs.Upper.{upper}
 use Rattle.weight.specs.TestBySum.{one-back, none-back}
-use Rattle.expr.specs.Affine.{Affine, minus, lessOne, judge, WIDEST}
-use Rattle.expr.specs.Bounds.{slackE, asked, tighterB}
+use Rattle.expr.specs.Affine.{Affine, minus, lessOne}
+use Rattle.expr.specs.Bounds.{slackE, ask, tighterB}
 
 -- e, plus one where b
 unfoldable pub plusOneWhere : Bool → Affine → Affine
@@ -28,7 +28,7 @@ slack-by-sum true true a b = none-backE (lessOne (minus b a))
 slack-by-sum true false a b = one-backE (minus b a)
 slack-by-sum false t a b = none-backE (lessOne (minus b a))
 
--- for any two bounds that are not none, what is asked is that this sum, judged when it is finished, is at least 0
-pub test-by-sum : (s t : Bool) (a b : Affine) → tighterB (upper s a) (upper t b) ≡ asked (judge WIDEST (testSumE s t a b))
+-- for any two bounds that are not none, what is asked is that this sum is at least 0
+pub test-by-sum : (s t : Bool) (a b : Affine) → tighterB (upper s a) (upper t b) ≡ ask (testSumE s t a b)
 unfolding tighterB
-test-by-sum s t a b = ap (λ (e : Affine). asked (judge WIDEST e)) (slack-by-sum s t a b)
+test-by-sum s t a b = ap ask (slack-by-sum s t a b)

@@ -3,28 +3,20 @@ use mathlib.Core.List.{List, [], _∷_}
 use mathlib.Core.Bool.{true, false, cond}
 use lib.IntN.{ℤ, pos}
 use lib.ListN.{getD}
-use Rattle.expr.specs.Affine.{Affine, Judged, fine, wide}
+use Rattle.expr.specs.Affine.{Affine}
 use Rattle.weight.specs.Upper.{Upper, none, upper}
-use Rattle.expr.specs.Bounds.{zeroB, Question, yes′, no′, ask, wide′}
+use Rattle.expr.specs.Bounds.{zeroB, Question, yes′, no′, ask}
 use Rattle.expr.specs.declared.bound.Bound.{Bound}
-use Rattle.expr.specs.declared.bound.BoundSum.{BoundSum}
-use Rattle.expr.specs.declared.bound.BoundSum.the-variants.{Sum, Wide as BoundWide}
 use Rattle.expr.specs.declared.bound.Test.{Test}
-use Rattle.expr.specs.declared.bound.Test.the-variants.{Yes, No, Ask, Wide as TestWide}
+use Rattle.expr.specs.declared.bound.Test.the-variants.{Yes, No, Ask}
 use Rattle.expr.specs.declared.range.Range.{Range}
 use Rattle.expr.specs.declared.range.Ranges.{Ranges}
 use Rattle.expr.specs.declared.number.Expr.{Expr}
-use Rattle.expr.specs.declared.number.Sums.{Sums}
 use Rattle.expr.specs.declared.number.Valuation.{Valuation}
-use Rattle.expr.specs.declared.number.Inequality.{Inequality}
-use Rattle.expr.specs.declared.number.Inequality.the-variants.{Is, Wide}
 
 -- an expression of the code
 abbrev pub affine : Expr → Affine
 affine e = record { constant = e .constant; coefs = e .p ∷ e .q ∷ e .r ∷ [] }
-
-abbrev pub sums : Sums → Affine
-sums e = record { constant = e .constant .value; coefs = e .p .value ∷ e .q .value ∷ e .r .value ∷ [] }
 
 -- a valuation of the code
 abbrev pub point : Valuation → List ℤ
@@ -36,10 +28,6 @@ exprOf e = record { constant = e .constant; p = getD (e .coefs) 0 (pos 0); q = g
 
 abbrev pub zeroExpr : Expr
 zeroExpr = record { constant = pos 0; p = pos 0; q = pos 0; r = pos 0 }
-
-abbrev pub inequality : Judged Affine → Inequality
-inequality (fine e) = Is (exprOf e)
-inequality wide = Wide
 
 -- a bound of the code
 abbrev pub boundAs : Bound → Upper Affine
@@ -57,15 +45,10 @@ noneBound = boundOf none
 abbrev pub zeroBound : Bound
 zeroBound = boundOf zeroB
 
-abbrev pub boundSum : Judged (Upper Affine) → BoundSum
-boundSum (fine b) = Sum (boundOf b)
-boundSum wide = BoundWide
-
 abbrev pub test : Question → Test
 test yes′ = Yes
 test no′ = No
 test (ask e) = Ask (exprOf e)
-test wide′ = TestWide
 
 -- the ranges of the code
 abbrev pub rangeList : Ranges → List Range

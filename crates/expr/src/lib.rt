@@ -4,10 +4,8 @@ mod number;
 mod range;
 
 pub use bound::Bound;
-pub use bound::BoundSum;
 pub use bound::Test;
 pub use number::Expr;
-pub use number::Inequality;
 pub use number::Valuation;
 pub use range::Range;
 pub use range::Ranges;

@@ -7,7 +7,7 @@ use lib.IntN.{ℤ, pos, negsuc, negℤ, _+ℤ_, _-ℤ_, _*ℤ_}
 use lib.Signed.{_≤ℤ_}
 use mir.Syntax.{Width, w16, w32, w64}
 use mir.Val.{SFits, hbits}
-use Rattle.integer.specs.Parts.{p, n, +-parts, *-parts, *-size, neg-parts, pos-parts, ≤-in, nonneg-part, nonpos-part, zs}
+use Rattle.integer.specs.Parts.{p, n, +-parts, -parts, *-parts, *-size, neg-parts, pos-parts, ≤-in, nonneg-part, nonpos-part, zs}
 use Rattle.integer.specs.Split.{split, split-all}
 
 -- ---- a ring (`*ℤ-comm`, `*ℤ-one` and `*ℤ-zero` are the library's)
@@ -74,6 +74,10 @@ size-high {x} {A} h = omega (zs, pos-parts A)
 pub sum-size : (x y : ℤ) {A B : ℕ} → p x + n x ≤ A → p y + n y ≤ B → p (x +ℤ y) + n (x +ℤ y) ≤ A + B
 sum-size x y {A} {B} h k =
     size-in (omega (zs, +-parts x y, neg-parts (pos (A + B)), pos-parts (A + B))) (omega (zs, +-parts x y, pos-parts (A + B)))
+
+pub difference-size : (x y : ℤ) {A B : ℕ} → p x + n x ≤ A → p y + n y ≤ B → p (x -ℤ y) + n (x -ℤ y) ≤ A + B
+difference-size x y {A} {B} h k =
+    size-in (omega (zs, -parts x y, neg-parts (pos (A + B)), pos-parts (A + B))) (omega (zs, -parts x y, pos-parts (A + B)))
 
 -- ±A times ±B is within ±(A * B)
 pub product-size : (x y : ℤ) {A B : ℕ} → p x + n x ≤ A → p y + n y ≤ B → p (x *ℤ y) + n (x *ℤ y) ≤ A * B

@@ -9,10 +9,10 @@ use lib.ListN.{length}
 use lib.Seq.{set-out}
 use Rattle.expr.specs.declared.bound.Bound.{Bound}
 use Rattle.expr.specs.declared.bound.Test.{Test}
-use Rattle.expr.specs.declared.bound.Test.the-variants.{Yes, No, Ask, Wide as TestWide}
+use Rattle.expr.specs.declared.bound.Test.the-variants.{Yes, No, Ask}
 use Rattle.expr.specs.declared.range.Ranges.{Ranges}
 use Rattle.parts.specs.Parts.{pushedC, answeredC, haltedC, testsIn, countedC, forwardC, standing, putC, withBounds}
-use Rattle.constrain.specs.Rules.{viaBound, viaC, askC}
+use Rattle.constrain.specs.Rules.{viaC, askC}
 use Rattle.zones.specs.Settled.{settledC}
 use Rattle.parts.specs.declared.part.Part.{Part}
 use Rattle.constrain.specs.declared.rule.Rule.{Rule}
@@ -27,15 +27,14 @@ put-past p x b h =
     (sym (set-out (p .zone .bounds) x b h))
 
 -- ---- parts
-pub entered-yes : (r : Rule) (p : Part) (x : ℕ) (b : Bool) (via : Bound) (q : Part) → b ≡ true → via ≡ viaBound (viaC r x)
-    → q ≡ putC p x via
-    → q ≡ cond b (putC p x (viaBound (viaC r x))) p
+pub entered-yes : (r : Rule) (p : Part) (x : ℕ) (b : Bool) (via : Bound) (q : Part) → b ≡ true → via ≡ viaC r x
+    → q ≡ putC p x via → q ≡ cond b (putC p x (viaC r x)) p
 entered-yes r p x b via q h e k = rw h (k ∙ ap (λ (v : Bound). putC p x v) e)
 
 pub entered-no : (p a : Part) (b : Bool) → b ≡ false → p ≡ cond b a p
 entered-no p a b h = rw h refl
 
-module _ (r : Rule) (p : Part) (x : ℕ) (b : Bool) (q : Part) (hq : q ≡ cond b (putC p x (viaBound (viaC r x))) p) where
+module _ (r : Rule) (p : Part) (x : ℕ) (b : Bool) (q : Part) (hq : q ≡ cond b (putC p x (viaC r x)) p) where
   pub pushed-on : x < 24 → standing q (x + 3) 0 ≡ pushedC r p x b
   unfolding pushedC
   pushed-on h = rw (lt-ltb x 24 h) (ap (λ (a : Part). standing a (x + 3) 0) hq)
@@ -72,7 +71,6 @@ pub tests-few : (t : Test) → testsIn t ≤ 1
 tests-few Yes = omega arith
 tests-few No = omega arith
 tests-few (Ask e) = omega arith
-tests-few TestWide = omega arith
 
 module _ (b : Ranges) (r : Rule) (p : Part) (t : Test) (ht : t ≡ askC r (p .phase)) (v : Verdict) (hv : v ≡ settledC b (p .zone) t)
     (q : Part) (hq : q ≡ countedC p t) where

@@ -4,11 +4,11 @@ use mathlib.Core.Bool.{Bool, true, false, cond}
 use Prim.Native.Nat.{ℕ, _+_, _-_, min}
 use lib.Dec.{ltb}
 use lib.ListN.{set}
-use Rattle.constrain.specs.Rules.{viaC, viaBound, askC}
+use Rattle.constrain.specs.Rules.{viaC, askC}
 use Rattle.constrain.specs.declared.rule.Rule.{Rule}
 use Rattle.expr.specs.declared.bound.Bound.{Bound}
 use Rattle.expr.specs.declared.bound.Test.{Test}
-use Rattle.expr.specs.declared.bound.Test.the-variants.{Yes, No, Ask, Wide as TestWide}
+use Rattle.expr.specs.declared.bound.Test.the-variants.{Yes, No, Ask}
 use Rattle.expr.specs.declared.number.Expr.{Expr}
 use Rattle.expr.specs.declared.range.Ranges.{Ranges}
 use Rattle.parts.specs.declared.part.Part.{Part}
@@ -35,7 +35,7 @@ putC p x b =
 
 unfoldable pub pushedC : Rule → Part → ℕ → Bool → Part
 pushedC r p x b =
-    let q = cond b (putC p x (viaBound (viaC r x))) p in
+    let q = cond b (putC p x (viaC r x)) p in
     cond (ltb x 24) (standing q (x + 3) 0) (standing q 27 2)
 
 unfoldable pub answeredC : Rule → Part → Bool → Part
@@ -51,7 +51,6 @@ abbrev pub testsIn : Test → ℕ
 testsIn Yes = 0
 testsIn No = 0
 testsIn (Ask e) = 1
-testsIn TestWide = 0
 
 -- the part with its test counted; one that goes on has asked 26 at most
 unfoldable pub countedC : Part → Test → Part

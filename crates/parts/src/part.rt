@@ -8,11 +8,11 @@ use expr::Test;
 use zones::Verdict;
 use zones::Zone;
 ghost use mathlib.Core.Path.{_≡_};
-ghost use Rattle.constrain.specs.Rules.{viaC, viaBound};
+ghost use Rattle.constrain.specs.Rules.{viaC};
 ghost use Rattle.parts.specs.Parts.{standing, putC, pushedC, answeredC, haltedC, testsIn, countedC, forwardC, yesC, noC};
 
 // A part: the test that comes next (27: none); whether it goes on (0), is cut (1), is kept (2), splits by the test (3), or is refused
-// (8, 9); how many tests were asked on its way; and its zone, whose matrix is the new one.
+// (8); how many tests were asked on its way; and its zone, whose matrix is the new one.
 pub struct Part {
     pub phase: usize,
     pub halt: usize,
@@ -57,10 +57,10 @@ fn put(p: Part, x: usize, b: Bound) -> Part
 
 // The part with the entry x put in where it is tighter.
 fn entered(r: Rule, p: Part, x: usize, yes: bool) -> Part
-    ensures { λ q. ⌜ q ≡ cond yes (putC p x (viaBound (viaC r x))) p ⌝ }
+    ensures { λ q. ⌜ q ≡ cond yes (putC p x (viaC r x)) p ⌝ }
 {
     if yes {
-        return put(p, x, constrain::via_bound(r, x));
+        return put(p, x, constrain::via(r, x));
     }
     p
 }
@@ -118,7 +118,6 @@ fn tests_in(test: Test) -> usize
         Test::Yes => 0,
         Test::No => 0,
         Test::Ask(_) => 1,
-        Test::Wide => 0,
     }
 }
 

@@ -10,17 +10,16 @@ use lib.Dec.{ltb, eqb}
 use lib.ListN.{set}
 use Rattle.expr.specs.declared.bound.Bound.{Bound}
 use Rattle.expr.specs.declared.bound.Test.{Test}
-use Rattle.expr.specs.declared.bound.Test.the-variants.{Yes, No, Ask, Wide as TestWide}
+use Rattle.expr.specs.declared.bound.Test.the-variants.{Yes, No, Ask}
 use Rattle.expr.specs.declared.number.Expr.{Expr}
 use Rattle.expr.specs.declared.range.Ranges.{Ranges}
 use Rattle.split.specs.Listed.{refusedC, listC}
-use Rattle.expr.specs.Three.{zeroExpr}
 use Rattle.zones.specs.Zone.{plusC, moreC}
 use Rattle.parts.specs.Parts.{withBounds, standing, putC, pushedC, answeredC, haltedC}
 use Rattle.parts.specs.Parts.{testsIn, countedC, forwardC, withMore, yesC, noC}
-use Rattle.split.specs.Trees.{TreeC, cutT, keepT, wideT, askT, testedC, pushC, tightC, treeAt, workedC, endedC, meant, meantEnd}
+use Rattle.split.specs.Trees.{TreeC, cutT, keepT, askT, testedC, pushC, tightC, treeAt, workedC, endedC, meant, meantEnd}
 use Rattle.split.specs.Trees.{Live, Ran}
-use Rattle.constrain.specs.Rules.{viaC, viaBound, askC}
+use Rattle.constrain.specs.Rules.{viaC, askC}
 use Rattle.zones.specs.Settled.{oppositeC, neverC, onC, settledC}
 use Rattle.parts.specs.declared.part.Part.{Part}
 use Rattle.constrain.specs.declared.rule.Rule.{Rule}
@@ -34,7 +33,6 @@ worked-bounds : (b : Ranges) (t : TreeC) (k : ℕ) (z : Zone) (m : List Bound) (
 unfolding workedC neverC plusC
 worked-bounds b cutT k z m out = refl
 worked-bounds b (keepT n) k z m out = refl
-worked-bounds b wideT k z m out = refl
 worked-bounds b (askT e f) k z m out =
     rw (
       worked-bounds b (f false) (suc k) z m out,
@@ -47,7 +45,7 @@ worked-bounds b (askT e f) k z m out =
 unfoldable cont : Rule → ℕ → List Bound → Bool → TreeC
 cont r zero new b = cond b cutT (tightC r new)
 cont r (suc zero) new b = cond b (pushC r 25 0 new) (keepT new)
-cont r (suc (suc x)) new b = pushC r (24 - x) (suc x) (cond b (set new x (viaBound (viaC r x))) new)
+cont r (suc (suc x)) new b = pushC r (24 - x) (suc x) (cond b (set new x (viaC r x)) new)
 
 tree-at : (r : Rule) (k : ℕ) (new : List Bound) → k < 27 → treeAt r k new ≡ testedC (askC r k) (cont r k new)
 unfolding treeAt cont tightC askC pushC
@@ -88,7 +86,7 @@ module _ (b : Ranges) (r : Rule) where
 
   -- the entry x put in, or not: the same inequalities
   abbrev entered : (p : Part) (x : ℕ) (t : Bool) → Part
-  entered p x t = cond t (putC p x (viaBound (viaC r x))) p
+  entered p x t = cond t (putC p x (viaC r x)) p
 
   entered-count : (p : Part) (x : ℕ) (t : Bool) → entered p x t .zone .count ≡ p .zone .count
   entered-count p x true = refl
@@ -99,7 +97,7 @@ module _ (b : Ranges) (r : Rule) where
   entered-tests p x false = refl
 
   cont-on : (x : ℕ) (new : List Bound) (t : Bool) → x < 24
-      → treeAt r (x + 3) (cond t (set new x (viaBound (viaC r x))) new) ≡ cont r (suc (suc x)) new t
+      → treeAt r (x + 3) (cond t (set new x (viaC r x)) new) ≡ cont r (suc (suc x)) new t
   unfolding treeAt cont
   cont-on x new t l =
       let three : x + 3 ≡ suc (suc (suc x)) = omega arith in
@@ -107,7 +105,7 @@ module _ (b : Ranges) (r : Rule) where
       rw (three, less) refl
 
   cont-last : (x : ℕ) (new : List Bound) (t : Bool) → 24 ≤ x
-      → keepT (cond t (set new x (viaBound (viaC r x))) new) ≡ cont r (suc (suc x)) new t
+      → keepT (cond t (set new x (viaC r x)) new) ≡ cont r (suc (suc x)) new t
   unfolding cont pushC
   cont-last x new t l = let none : 24 - x ≡ 0 = omega arith in rw none refl
 
@@ -118,8 +116,8 @@ module _ (b : Ranges) (r : Rule) where
 
   on-entered : (q : Part) (x : ℕ) (t : Bool) (out : Counted)
       → workedC b (treeAt r (x + 3) (entered q x t .zone .bounds)) (entered q x t .tests) (entered q x t .zone) out
-      ≡ workedC b (treeAt r (x + 3) (cond t (set (q .zone .bounds) x (viaBound (viaC r x))) (q .zone .bounds))) (q .tests) (q .zone) out
-  on-entered q x true out = worked-bounds b _ (q .tests) (q .zone) (set (q .zone .bounds) x (viaBound (viaC r x))) out
+      ≡ workedC b (treeAt r (x + 3) (cond t (set (q .zone .bounds) x (viaC r x)) (q .zone .bounds))) (q .tests) (q .zone) out
+  on-entered q x true out = worked-bounds b _ (q .tests) (q .zone) (set (q .zone .bounds) x (viaC r x)) out
   on-entered q x false out = refl
 
   on-worth : (q : Part) (x : ℕ) (t : Bool) → q .phase ≡ suc (suc x) → x < 24 → (out : Counted)
@@ -131,7 +129,7 @@ module _ (b : Ranges) (r : Rule) where
 
   kept-worth : (q : Part) (x : ℕ) (t : Bool) (out : Counted)
       → listC (entered q x t .zone) (entered q x t .tests) out
-      ≡ workedC b (keepT (cond t (set (q .zone .bounds) x (viaBound (viaC r x))) (q .zone .bounds))) (q .tests) (q .zone) out
+      ≡ workedC b (keepT (cond t (set (q .zone .bounds) x (viaC r x)) (q .zone .bounds))) (q .tests) (q .zone) out
   unfolding workedC
   kept-worth q x true out = refl
   kept-worth q x false out = refl
@@ -489,10 +487,6 @@ module _ (b : Ranges) (r : Rule) where
     by-test Yes a = as-before (λ k. Going b r p (after Yes (at k))) (answered-going (q .tests) few-now true (told Yes a))
     by-test No a = as-before (λ k. Going b r p (after No (at k))) (answered-going (q .tests) few-now false (told No a))
     by-test (Ask e) a = rw (add-one (q .tests)) (by-ask e a)
-    by-test TestWide a =
-        as-before (λ k. Going b r p (after TestWide (at k)))
-        (halted-going (q .tests) few-now (record { kind = 9; test = zeroExpr }) (omega arith) (λ z. absurd (omega arith))
-        (λ out. refused-same (q .tests) few-now (record { kind = 9; test = zeroExpr }) (omega arith) out (told TestWide a out)))
 
     pub goes-on : Going b r p (forwardC b r q)
     unfolding forwardC

@@ -16,7 +16,7 @@ use Rattle.split.specs.Listed.{refusedC, listC}
 use Rattle.expr.specs.Three.{zeroExpr}
 use Rattle.zones.specs.Zone.{plusC}
 use Rattle.parts.specs.Parts.{yesC, noC}
-use Rattle.split.specs.Trees.{TreeC, cutT, keepT, wideT, askT, treeAt, workedC, startC, endedC, meant, Live, Ran}
+use Rattle.split.specs.Trees.{TreeC, cutT, keepT, askT, treeAt, workedC, startC, endedC, meant, Live, Ran}
 use Rattle.zones.specs.Settled.{oppositeC, neverC}
 use Rattle.parts.specs.declared.part.Part.{Part}
 use Rattle.constrain.specs.declared.rule.Rule.{Rule}
@@ -54,7 +54,6 @@ pub worked-sticks : (b : Ranges) (t : TreeC) (k : ℕ) (z : Zone) (out : Counted
 unfolding workedC
 worked-sticks b cutT k z out h = refl
 worked-sticks b (keepT m) k z out h = list-sticks _ k out h
-worked-sticks b wideT k z out h = refused-sticks 9 out h
 worked-sticks b (askT e f) k z out h =
     same-pick (neverC b z e) _ _ out (worked-sticks b (f false) (suc k) z out h)
     (same-pick (neverC b z (oppositeC e)) _ _ out (worked-sticks b (f true) (suc k) z out h)

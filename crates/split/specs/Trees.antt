@@ -5,11 +5,11 @@ use mathlib.Core.Bool.{Bool, true, false, cond}
 use Prim.Native.Nat.{ℕ, zero, suc, _-_, _≤_, _<_}
 use lib.Dec.{ltb, eqb}
 use lib.ListN.{set}
-use Rattle.constrain.specs.Rules.{viaC, viaBound, voidTest, tightTest, pushTest}
+use Rattle.constrain.specs.Rules.{viaC, voidTest, tightTest, pushTest}
 use Rattle.constrain.specs.declared.rule.Rule.{Rule}
 use Rattle.expr.specs.declared.bound.Bound.{Bound}
 use Rattle.expr.specs.declared.bound.Test.{Test}
-use Rattle.expr.specs.declared.bound.Test.the-variants.{Yes, No, Ask, Wide as TestWide}
+use Rattle.expr.specs.declared.bound.Test.the-variants.{Yes, No, Ask}
 use Rattle.expr.specs.declared.number.Expr.{Expr}
 use Rattle.expr.specs.declared.range.Ranges.{Ranges}
 use Rattle.parts.specs.Parts.{withBounds, yesC, noC}
@@ -25,19 +25,17 @@ use Rattle.split.specs.declared.list.Counted.{Counted}
 pub data TreeC : Type 0 where
   cutT : TreeC
   keepT : List Bound → TreeC
-  wideT : TreeC
   askT : Expr → (Bool → TreeC) → TreeC
 
 unfoldable pub testedC : Test → (Bool → TreeC) → TreeC
 testedC Yes f = f true
 testedC No f = f false
 testedC (Ask e) f = askT e f
-testedC TestWide f = wideT
 
 -- rule (3): k entries are left, the next one is x
 unfoldable pub pushC : Rule → ℕ → ℕ → List Bound → TreeC
 pushC r zero x new = keepT new
-pushC r (suc k) x new = testedC (pushTest r x) (λ b. pushC r k (suc x) (cond b (set new x (viaBound (viaC r x))) new))
+pushC r (suc k) x new = testedC (pushTest r x) (λ b. pushC r k (suc x) (cond b (set new x (viaC r x)) new))
 
 -- from rule (2) on
 unfoldable pub tightC : Rule → List Bound → TreeC
@@ -54,7 +52,6 @@ treeAt r (suc (suc x)) new = pushC r (25 - x) x new
 unfoldable pub workedC : Ranges → TreeC → ℕ → Zone → Counted → Counted
 workedC b cutT k z out = out
 workedC b (keepT m) k z out = listC (withBounds z m) k out
-workedC b wideT k z out = refusedC 9 out
 workedC b (askT e f) k z out =
     cond (neverC b z e) (workedC b (f false) (suc k) z out)
     (cond (neverC b z (oppositeC e)) (workedC b (f true) (suc k) z out)
@@ -67,7 +64,7 @@ workedC b (askT e f) k z out =
 abbrev pub startC : Zone → Part
 startC z = record { phase = 0; halt = 0; tests = 0; test = zeroExpr; zone = z }
 
--- what was listed, after a part that is cut (1), kept (2) or refused (8, 9); a split leaves it
+-- what was listed, after a part that is cut (1), kept (2) or refused (8); a split leaves it
 unfoldable pub endedC : Part → Counted → Counted
 endedC p out =
     cond (ltb (p .halt) 2) out

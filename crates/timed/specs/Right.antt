@@ -8,6 +8,12 @@ use native.Mathlib.Omega.{arith}
 use lib.Dec.{ltb}
 use lib.ListN.{length, getD, take, length-take, List·getD-eq-default}
 use borrow.Author.Tests.{ltb-true, ltb-false}
+use lib.IntN.{ℤ}
+use lib.Signed.{≤ℤ-refl}
+use Rattle.expr.specs.Ranges.{In, Inside}
+use Rattle.expr.specs.Three.{rangeList}
+use Rattle.expr.specs.declared.range.Range.{Range}
+use Rattle.parameters.specs.Right.{RangeRight}
 use Rattle.guards.specs.declared.Guard.{Guard}
 use Rattle.sheet.specs.declared.Sheet.{Sheet}
 use Rattle.automaton.specs.Automaton.{blankLocation, blankTransition}
@@ -117,3 +123,13 @@ module _ {s : Sheet} (f : WellFormed s) where
 
   pub route-delays : delays (stepsOf s (routeOf s)) ≤ 33
   route-delays = omega (arith, route-short, steps-delays s (routeOf s))
+
+-- ---- its ranges have a valuation: the lowest of each
+abbrev pub lowest : Sheet → List ℤ
+lowest s = s .ranges .p .low ∷ s .ranges .q .low ∷ s .ranges .r .low ∷ []
+
+lowest-in : (n k : ℕ) (r : Range) → RangeRight n k r → In (r .low) r
+lowest-in n k r h = record { least = ≤ℤ-refl (r .low); most = h .order }
+
+pub lowest-inside : (s : Sheet) → WellFormed s → Inside (lowest s) (rangeList (s .ranges))
+lowest-inside s f = (lowest-in _ _ _ (f .p), (lowest-in _ _ _ (f .q), (lowest-in _ _ _ (f .r), tt)))

@@ -2,7 +2,8 @@
 -- route has transitions, and one delay more.
 use mathlib.Core.Path.{_≡_, refl, ap, _∙_}
 use mathlib.Core.List.{List, [], _∷_, _++_, map}
-use Prim.Native.Nat.{ℕ, suc}
+use Prim.Native.Nat.{ℕ, suc, _+_}
+use native.Mathlib.Omega.{arith}
 use lib.ListN.{length}
 use Rattle.guards.specs.declared.Guard.{Guard}
 use Rattle.sheet.specs.declared.Sheet.{Sheet}
@@ -96,3 +97,20 @@ steps-delays s route = guards-delays 0 (stepsFrom s 0 0 route) (invariants s 0) 
 pub steps-moves : (s : Sheet) (route : List ℕ) → moves (stepsOf s route) ≡ length route
 unfolding stepsOf arrivalSteps
 steps-moves s route = guards-moves 0 (stepsFrom s 0 0 route) (invariants s 0) ∙ from-moves s route 0 0
+
+-- ---- how many delays there were, one step after another
+-- the number of delays after a step
+abbrev pub after : ℕ → Step → ℕ
+after k delay = suc k
+after k (guard visit g) = k
+after k (resets bits) = k
+
+pub after-delays : (k : ℕ) (s : Step) (steps : List Step) → after k s + delays steps ≡ k + delays (s ∷ steps)
+unfolding delays
+after-delays k delay steps = omega arith
+after-delays k (guard visit g) steps = omega arith
+after-delays k (resets bits) steps = omega arith
+
+pub none-more : (k : ℕ) → k ≡ k + delays []
+unfolding delays
+none-more k = omega arith

@@ -20,11 +20,12 @@ use Rattle.timed.specs.Indexed.{location-in, transition-in}
 use Rattle.timed.specs.Lists.{AllOf}
 use Rattle.timed.specs.Right.{StepRight, filled-all, steps-right, route-delays}
 use Rattle.timed.specs.Steps.{Step, delay, guard, resets, arrivalSteps, staySteps, moveSteps, stepsFrom, stepsOf, delays}
+use Rattle.timed.specs.Visits.{after, after-delays}
 use Rattle.weight_matrix.specs.Tables.{Table, startTable, voidTable, delayedTable, resetsTable}
 use Rattle.walk.specs.Walked.{guardTable, guardsTable, invariantsTable, stayTable, moveTable, walkTable, startedTable}
 use Rattle.walk.specs.Walked.{sweepTable}
 use Rattle.concrete.specs.Walk.{andThen, step, walk, sweepAlong, sweepAt}
-use Rattle.concrete.specs.Sizes.{Thousands, Visited, guard-size, start-visited, after, after-delays, step-visited, visited-within}
+use Rattle.concrete.specs.Sizes.{Thousands, Visited, guard-size, start-visited, step-visited, visited-within}
 use Rattle.weight_matrix.specs.Records.{row}
 use Rattle.walk.specs.Coded.{table, coded}
 use Rattle.walk.specs.CodedSteps.{delayed-coded, delayed-void, guarded-coded, guarded-void, resets-coded, resets-void}

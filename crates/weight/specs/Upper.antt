@@ -30,13 +30,14 @@ tighterW none b = false
 tighterW (upper s x) none = true
 tighterW (upper s x) (upper t y) = leZ (pos 0) (slack s t x y)
 
+-- x, a number past ±most counting as that end
+unfoldable pub saturate : ℤ → ℤ → ℤ
+saturate most x = cond (leZ x most) (cond (leZ (negℤ most) x) x (negℤ most)) most
+
 -- the code's sum and test of weights never wrap: a number past ±(2^62 - 1) counts as that end
 abbrev pub MOST : ℤ
 MOST = pos 4611686018427387903
 
-unfoldable pub saturate : ℤ → ℤ
-saturate x = cond (leZ x MOST) (cond (leZ (negℤ MOST) x) x (negℤ MOST)) MOST
-
 unfoldable pub saturated : Upper ℤ → Upper ℤ
 saturated none = none
-saturated (upper s x) = upper s (saturate x)
+saturated (upper s x) = upper s (saturate MOST x)

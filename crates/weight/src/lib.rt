@@ -1,6 +1,6 @@
 // Weights: bounds at one valuation, in plain numbers.
 ghost use mathlib.Core.Path.{_≡_};
-ghost use Rattle.weight.specs.Upper.{sumW, tighterW, saturate, saturated};
+ghost use Rattle.weight.specs.Upper.{MOST, sumW, tighterW, saturate, saturated};
 ghost use Rattle.weight.specs.Records.{weightAs, weightOf};
 
 // A weight: none, or a number with a strict mark. None has the number 0 and is not strict.
@@ -12,7 +12,7 @@ pub struct Weight {
 
 // x, or the nearer end of -(2^62 - 1) to 2^62 - 1.
 fn clamped(x: i64) -> i64
-    ensures { λ r. ⌜ r ≡ saturate x ⌝ }
+    ensures { λ r. ⌜ r ≡ saturate MOST x ⌝ }
 {
     if x <= 4611686018427387903 {
         if -4611686018427387903 <= x {

@@ -1,4 +1,4 @@
--- At most 32 pieces are listed, a refusal's number is at most 9, and by the number an answer is counted.
+-- At most 32 pieces are listed, a refusal's number is at most 8, and by the number an answer is counted.
 -- Assumes nothing.
 use mathlib.Core.Path.{_≡_, refl}
 use mathlib.Core.Bool.{Bool, true, false, cond}
@@ -18,7 +18,7 @@ use Rattle.cutting.specs.Cutting.{Listing, listed, refused, zonesOf}
 use Rattle.cutting.specs.ShapeProof.{zones-shaped}
 use Rattle.reading.specs.File.{readOf}
 use Rattle.sheet.specs.declared.Sheet.{Sheet}
-use Rattle.windows_reply.specs.Reply.{WindowsReply, answeredAs, refusedReply, listingReply, sheetReply, readReply, replyOf}
+use Rattle.windows_reply.specs.Reply.{answeredAs, refusedReply, listingReply, sheetReply, readReply, replyOf}
 use Rattle.windows_c.specs.Count.{countOf}
 
 listing-few : (s : Sheet) (l : Listing) → zonesOf s ≡ l → listingReply s l .counts .pieces ≤ 32
@@ -43,19 +43,18 @@ reply-few file n = by (ltb n 32) (eqb (readOf file .answer .number) 0)
 abbrev pub numberOf : Numbered → ℕ
 numberOf a = a .number
 
-refusal-small : (r : Refusal) → refusalAs r .number ≤ 9
+refusal-small : (r : Refusal) → refusalAs r .number ≤ 8
 refusal-small Size = omega arith
 refusal-small (Contents at) = omega arith
 refusal-small (Body at) = omega arith
 refusal-small (Route at) = omega arith
 
-pub number-small : (a : Answer) → windowsAs a .number ≤ 9
+pub number-small : (a : Answer) → windowsAs a .number ≤ 8
 number-small (answer.Listed c) = omega arith
 number-small answer.Small = omega arith
 number-small (answer.Refused r) = refusal-small r
 number-small (answer.Zones visit) = omega arith
 number-small (answer.Inequalities visit) = omega arith
-number-small (answer.Numbers visit) = omega arith
 
 -- the two cases of `countOf`, by the number
 pub listed-count : (a : Answer) → windowsAs a .number ≡ 0 → pos (countsOf a .pieces) ≡ countOf (answeredAs a)

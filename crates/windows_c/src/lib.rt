@@ -34,7 +34,6 @@ fn pieces(answer: Answer) -> usize
         Answer::Refused(_) => 0,
         Answer::Zones(_) => 0,
         Answer::Inequalities(_) => 0,
-        Answer::Numbers(_) => 0,
     }
 }
 

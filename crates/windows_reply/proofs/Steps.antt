@@ -38,11 +38,8 @@ size-is n k most xs e l = (omega arith, rw (length-take k xs, l) e)
 pub seven : (n visit : ℕ) → n ≡ 7 → answer.Zones visit ≡ refusedBy n visit
 seven n visit h = rw (eq-eqb n 7 h) refl
 
-pub eight : (n visit : ℕ) → (n ≡ 7 → ⊥) → n ≡ 8 → answer.Inequalities visit ≡ refusedBy n visit
-eight n visit h k = rw (ne-eqb n 7 h, eq-eqb n 8 k) refl
-
-pub nine : (n visit : ℕ) → (n ≡ 7 → ⊥) → (n ≡ 8 → ⊥) → answer.Numbers visit ≡ refusedBy n visit
-nine n visit h k = rw (ne-eqb n 7 h, ne-eqb n 8 k) refl
+pub eight : (n visit : ℕ) → (n ≡ 7 → ⊥) → answer.Inequalities visit ≡ refusedBy n visit
+eight n visit h = rw (ne-eqb n 7 h) refl
 
 kept-none : (b : Ranges) → keptC b [] ≡ 0
 unfolding keptC

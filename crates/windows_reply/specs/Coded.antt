@@ -3,15 +3,15 @@ use mathlib.Core.Path.{_≡_, refl, ap, _∙_}
 use mathlib.Core.Logic.{inl, inr}
 use mathlib.Core.List.{List, [], _∷_}
 use mathlib.Core.Bool.{Bool, true, false, cond}
-use Prim.Native.Nat.{ℕ, suc, _+_, _*_, _≤_, _<_}
+use Prim.Native.Nat.{ℕ, suc, _+_, _*_, _≤_}
 use native.Mathlib.Nat.{mul-le-mul}
 use native.Mathlib.Omega.{arith}
 use borrow.Author.Tests.{lt-ltb}
 use lib.IntN.{ℤ, pos, negsuc, _+ℤ_, _-ℤ_}
 use lib.ListN.{length}
 use lib.Signed.{_≤ℤ_}
-use Rattle.cutting.specs.Cutting.{Listing, listed, refused, zonesOf, SevenToNine}
-use Rattle.cutting.specs.NumberedProof.{zones-numbered}
+use Rattle.cutting.specs.Cutting.{Listing, listed, refused, zonesOf, SevenOrEight}
+use Rattle.cutting.specs.NumberedProof.{some-number, zones-numbered}
 use Rattle.search.specs.Valuations.{widths, width, valuations, satisfies, countIn, count}
 use Rattle.search.specs.SearchLaws.{valuations-length}
 use Rattle.expr.specs.Affine.{Affine}
@@ -81,22 +81,15 @@ widths-few s f = product (width (s .ranges .p)) (width (s .ranges .q)) (width (s
     product a b c ha hb hc = let k = mul-le-mul ha (mul-le-mul hb hc) in omega arith
 
 -- ---- the reply
-some-number : (n : ℕ) → SevenToNine n → 0 < n
-some-number n (inl e) = omega arith
-some-number n (inr (inl e)) = omega arith
-some-number n (inr (inr e)) = omega arith
-
-refused-coded : (n k : ℕ) → SevenToNine n → windowsAs (refusedBy n k) ≡ numbered n k
+refused-coded : (n k : ℕ) → SevenOrEight n → windowsAs (refusedBy n k) ≡ numbered n k
 refused-coded n k (inl e) = rw e refl
-refused-coded n k (inr (inl e)) = rw e refl
-refused-coded n k (inr (inr e)) = rw e refl
+refused-coded n k (inr e) = rw e refl
 
-none-counted : (n k : ℕ) → SevenToNine n → countsOf (refusedBy n k) ≡ noCounts
+none-counted : (n k : ℕ) → SevenOrEight n → countsOf (refusedBy n k) ≡ noCounts
 none-counted n k (inl e) = rw e refl
-none-counted n k (inr (inl e)) = rw e refl
-none-counted n k (inr (inr e)) = rw e refl
+none-counted n k (inr e) = rw e refl
 
-listing-coded : (s : Sheet) (o : Listing) → ((n k : ℕ) → o ≡ refused n k → SevenToNine n)
+listing-coded : (s : Sheet) (o : Listing) → ((n k : ℕ) → o ≡ refused n k → SevenOrEight n)
     → listedC (s .ranges) (coded (s .moves) o) ≡ shownOf (listingReply s o)
 unfolding listedC coded listingReply zonesIn
 listing-coded s (listed zs) h = rw (kept-in (s .ranges) zs, count-all (rangeList (s .ranges))) refl

@@ -1,5 +1,5 @@
 -- What Windows replies, for every file and every count of places (paper 01, "When no piece is given"), in the paper's numbers: refusal
--- 1, then 2 to 5, the whole file for each, then 7, 8 or 9, the first met in the order of cutting; else the zones in order, kept and cut.
+-- 1, then 2 to 5, the whole file for each, then 7 or 8, the first met in the order of cutting; else the zones in order, kept and cut.
 use mathlib.Core.List.{List, []}
 use mathlib.Core.Bool.{cond}
 use Prim.Native.Nat.{ℕ}

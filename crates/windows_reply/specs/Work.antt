@@ -42,9 +42,9 @@ abbrev pub blankShown : Answer → Shown
 blankShown a =
     record { answer = windowsAs a; counts = countsOf a; ranges = zeroRanges; pieces = 0; zones = replicate 32 blankZone }
 
--- refusal 7, 8 or 9 of the cutting
+-- refusal 7 or 8 of the cutting
 abbrev pub refusedBy : ℕ → ℕ → Answer
-refusedBy n visit = cond (eqb n 7) (answer.Zones visit) (cond (eqb n 8) (answer.Inequalities visit) (answer.Numbers visit))
+refusedBy n visit = cond (eqb n 7) (answer.Zones visit) (answer.Inequalities visit)
 
 -- the reply for what a route leaves
 unfoldable pub listedC : Ranges → Zones → Shown

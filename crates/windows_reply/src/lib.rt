@@ -36,17 +36,14 @@ fn blank(answer: Answer) -> Worked
     }
 }
 
-// Refusal 7, 8 or 9 at a visit.
+// Refusal 7 or 8 at a visit.
 fn refused(number: usize, visit: usize) -> Answer
     ensures { λ r. ⌜ r ≡ refusedBy number visit ⌝ }
 {
     if number == 7 {
         return Answer::Zones(visit);
     }
-    if number == 8 {
-        return Answer::Inequalities(visit);
-    }
-    Answer::Numbers(visit)
+    Answer::Inequalities(visit)
 }
 
 // How many valuations the zones hold.

@@ -14,20 +14,19 @@ use lib.Signed.{leZ}
 use lib.ListN.{length, getD, set, take, replicate}
 use lib.Seq.{take-all, take-suc, take-suc-set}
 use Rattle.integer.specs.Apart.{apart}
-use Rattle.expr.specs.Affine.{Affine, value, dot, opposite, judge, OPPOSITE}
-use Rattle.expr.specs.Three.{affine, inequality, rangeList, valuationOf, zeroExpr, zeroValuation}
+use Rattle.expr.specs.Affine.{Affine, value, dot}
+use Rattle.expr.specs.Three.{affine, rangeList, valuationOf, zeroExpr, zeroValuation}
 use Rattle.search.specs.SearchLaws.{first-same, count-same}
 use Rattle.search.specs.System.{firstOf, exprs}
 use Rattle.search.specs.Valuations.{first, numbersIn, satisfies, count, valuations}
 use Rattle.expr.specs.declared.number.Expr.{Expr}
-use Rattle.expr.specs.declared.number.Inequality.{Inequality}
 use Rattle.expr.specs.declared.number.Valuation.{Valuation}
 use Rattle.expr.specs.declared.range.Ranges.{Ranges}
 use Rattle.search.specs.declared.search.Solution.{Solution}
 use Rattle.search.specs.declared.search.Solution.the-variants.{Found, Nothing}
 use Rattle.search.specs.declared.search.System.{System}
 use Rattle.zones.specs.Zone.{plusC, moreC}
-use Rattle.zones.specs.Settled.{exprIn, oppositeC, isNone, neverC, onC}
+use Rattle.zones.specs.Settled.{oppositeC, isNone, neverC, onC}
 use Rattle.zones.specs.declared.zone.Zone.{Zone}
 
 module _ (z : Zone) (e : Expr) where
@@ -40,10 +39,6 @@ module _ (z : Zone) (e : Expr) where
   more-full h = rw (le-ltb (z .count) 24 h) refl
 
 -- ---- settling
-pub opposite-of : (e x : Expr) (j : Inequality) → j ≡ inequality (judge OPPOSITE (opposite (affine e))) → x ≡ exprIn j → x ≡ oppositeC e
-unfolding oppositeC
-opposite-of e x j h k = k ∙ ap exprIn h
-
 pub nothing-is : (b : Ranges) (z : Zone) (e : Expr) (s : System) (o : Solution)
     → exprs s ≡ map affine (take (z .count) (z .ineqs) ++ (e ∷ [])) → o ≡ firstOf (first (rangeList b) (exprs s)) → o ≡ Nothing
     → true ≡ neverC b z e

@@ -6,25 +6,19 @@ use mathlib.Core.Option as option
 use lib.Dec.{ltb}
 use lib.IntN.{ℤ}
 use lib.ListN.{take}
-use Rattle.expr.specs.Affine.{opposite, judge, OPPOSITE}
-use Rattle.expr.specs.Three.{affine, inequality, rangeList, zeroExpr}
+use Rattle.expr.specs.Affine.{opposite, saturatedE}
+use Rattle.expr.specs.Three.{affine, exprOf, rangeList, zeroExpr}
 use Rattle.search.specs.Valuations.{first}
 use Rattle.expr.specs.declared.bound.Test.{Test}
-use Rattle.expr.specs.declared.bound.Test.the-variants.{Yes, No, Ask, Wide as TestWide}
+use Rattle.expr.specs.declared.bound.Test.the-variants.{Yes, No, Ask}
 use Rattle.expr.specs.declared.number.Expr.{Expr}
-use Rattle.expr.specs.declared.number.Inequality.{Inequality}
-use Rattle.expr.specs.declared.number.Inequality.the-variants.{Is, Wide}
 use Rattle.expr.specs.declared.range.Ranges.{Ranges}
 use Rattle.zones.specs.declared.settle.Verdict.{Verdict}
 use Rattle.zones.specs.declared.zone.Zone.{Zone}
 
-abbrev pub exprIn : Inequality → Expr
-exprIn (Is e) = e
-exprIn Wide = zeroExpr
-
--- the opposite of e ≥ 0; no test's opposite is wide
+-- the opposite of e ≥ 0, as the code works it out
 unfoldable pub oppositeC : Expr → Expr
-oppositeC e = exprIn (inequality (judge OPPOSITE (opposite (affine e))))
+oppositeC e = exprOf (opposite (saturatedE (affine e)))
 
 abbrev pub isNone : Option (List ℤ) → Bool
 isNone option.none = true
@@ -46,4 +40,3 @@ abbrev pub settledC : Ranges → Zone → Test → Verdict
 settledC b z Yes = record { kind = 1; test = zeroExpr }
 settledC b z No = record { kind = 0; test = zeroExpr }
 settledC b z (Ask e) = onC b z e
-settledC b z TestWide = record { kind = 9; test = zeroExpr }

@@ -2,7 +2,6 @@
 use crate::zone;
 use crate::zone::Zone;
 use expr::Expr;
-use expr::Inequality;
 use expr::Ranges;
 use expr::Test;
 use expr::Valuation;
@@ -17,21 +16,10 @@ ghost use Rattle.search.specs.Valuations.{first, numbersIn, count};
 ghost use Rattle.zones.specs.Zone.{moreC};
 ghost use Rattle.zones.specs.Settled.{oppositeC, neverC, onC, settledC};
 
-// The verdict on a test: no (0), yes (1), a split by the test (3), a 25th inequality (8), a wide number (9).
+// The verdict on a test: no (0), yes (1), a split by the test (3), a 25th inequality (8).
 pub struct Verdict {
     pub kind: usize,
     pub test: Expr,
-}
-
-// The opposite of e ≥ 0.
-fn opposite(e: Expr) -> Expr
-    ensures { λ r. ⌜ r ≡ oppositeC e ⌝ }
-{
-    let judged = e.opposite();
-    match judged {
-        Inequality::Is(expr) => expr,
-        Inequality::Wide => Expr::ZERO,
-    }
 }
 
 // The zone's inequalities and one more.
@@ -86,7 +74,7 @@ fn on(b: Ranges, zone: Zone, e: Expr) -> Verdict
     if never(b, zone, e) {
         return Verdict { kind: 0, test: e };
     }
-    if never(b, zone, opposite(e)) {
+    if never(b, zone, e.opposite()) {
         return Verdict { kind: 1, test: e };
     }
     if zone.count < 24 {
@@ -109,10 +97,6 @@ pub fn settled(b: Ranges, zone: Zone, test: Test) -> Verdict
             test: Expr::ZERO,
         },
         Test::Ask(e) => on(b, zone, e),
-        Test::Wide => Verdict {
-            kind: 9,
-            test: Expr::ZERO,
-        },
     }
 }
 
@@ -120,5 +104,5 @@ pub fn settled(b: Ranges, zone: Zone, test: Test) -> Verdict
 pub fn with_opposite(zone: Zone, e: Expr) -> Zone
     ensures { λ r. ⌜ r ≡ moreC zone (oppositeC e) ⌝ }
 {
-    zone::with_inequality(zone, opposite(e))
+    zone::with_inequality(zone, e.opposite())
 }

@@ -12,7 +12,7 @@ pub struct Zone {
     pub bounds: [Bound; 25],
 }
 
-// Zones in order at a visit (moves made), the first `count` of the list, blank past them; or a refusal, 7, 8 or 9, and no zones.
+// Zones in order at a visit (moves made), the first `count` of the list, blank past them; or a refusal, 7 or 8, and no zones.
 pub struct Zones {
     pub refusal: usize,
     pub visit: usize,

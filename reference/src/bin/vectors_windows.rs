@@ -4,9 +4,10 @@
 //! Use: `vectors_windows [--check] FOLDER`, or `vectors_windows --list` to see which lines of the results
 //! belong to which family.
 
+use reference::bound::Expr;
 use reference::cuttings::{
-    answer, arrivals, counts, edges, families, firsts, line, paper, stored, Case, Left, Reply,
-    ARRIVALS, COUNTS, EDGES, FIRSTS, PAPER,
+    answer, arrivals, counts, edges, families, firsts, line, numbers, paper, stored, Case, Left,
+    Reply, ARRIVALS, COUNTS, EDGES, FIRSTS, NUMBERS, PAPER,
 };
 use reference::family;
 use reference::tool::{run, Stored};
@@ -24,14 +25,14 @@ fn vectors() -> Stored {
 
 /// How often each refusal comes, and each count of zones where there is none.
 struct Tally {
-    refused: [usize; 10],
+    refused: [usize; 9],
     zones: [usize; PLACES + 1],
 }
 
 impl Tally {
     fn new() -> Tally {
         Tally {
-            refused: [0; 10],
+            refused: [0; 9],
             zones: [0; PLACES + 1],
         }
     }
@@ -45,7 +46,7 @@ impl Tally {
     }
 
     fn print(&self) {
-        println!("  refusals 1 to 9: {:?}", &self.refused[1..]);
+        println!("  refusals 1 to 8: {:?}", &self.refused[1..]);
         println!("  0 to 32 zones: {:?}", self.zones);
     }
 }
@@ -66,6 +67,7 @@ fn list() {
             FIRSTS => firsts::cases(),
             ARRIVALS => arrivals::cases(),
             COUNTS => counts::cases(),
+            NUMBERS => numbers::cases(),
             _ => return,
         };
         family::list_cases(first, cases.into_iter().map(words));
@@ -81,6 +83,11 @@ fn words(case: Case) -> (String, String) {
             format!("{} zones, {kept} kept, {cut} cut", list.len())
         }
         Reply::Counts(zones, kept, cut) => format!("{zones} zones, {kept} kept, {cut} cut"),
+        Reply::Entries(list) => {
+            let one = |(i, j, e): &(usize, usize, Expr)| format!("({i}, {j}) is {e:?}");
+            let each: Vec<String> = list.iter().map(one).collect();
+            format!("one zone, {}", each.join(", "))
+        }
         Reply::Refused(number, place) => format!("refused {number} place {place}"),
         Reply::Left(list) => {
             let each: Vec<String> = list.iter().map(left_words).collect();

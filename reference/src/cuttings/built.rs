@@ -130,8 +130,8 @@ pub(super) fn shaved(random: &mut Random) -> Vec<Record> {
 }
 
 /// Sheets with a clock that is never reset and others that are reset at each of up to 32 moves,
-/// upper guards at the stays and lower ones at the moves, with numbers up to 1,000: the largest
-/// numbers that sums and tests come to.
+/// upper guards at the stays and lower ones at the moves, with numbers up to 1,000, so that entries,
+/// sums and tests come to large ones.
 pub(super) fn large_numbers(random: &mut Random) -> Vec<Record> {
     many(60, |n| {
         let clocks = 2 + (n % 3) as u8;

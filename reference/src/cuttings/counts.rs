@@ -346,25 +346,17 @@ mod tests {
     use crate::sheet::{read, Refusal};
     use crate::windows::{cut_one, windows, Limits};
 
-    /// A refusal's place is the visit; 9 is met by a limit that is lower than the paper's.
+    /// A refusal's place is the visit.
     #[test]
     fn refusals_have_the_visit() {
-        let low = Limits {
-            number: 9,
-            ..Limits::PAPER
-        };
-        for (name, limits, number) in [
-            ("a 33rd zone of one", Limits::PAPER, 7),
-            ("24 inequalities", Limits::PAPER, 8),
-            ("23 inequalities", low, 9),
-        ] {
+        for (name, number) in [("a 33rd zone of one", 7), ("24 inequalities", 8)] {
             let case = cases().into_iter().find(|case| case.name == name).unwrap();
             let sheet = read(&case.file).unwrap();
             let zone = &windows(&case.file, case.places).unwrap().zones[0];
             let guard = &sheet.transitions[0].guards[0];
             for place in [0, 1, 32] {
                 let refusal = Refusal { number, place };
-                let outcome = cut_one(&sheet, zone, guard, place, limits);
+                let outcome = cut_one(&sheet, zone, guard, place, Limits::PAPER);
                 assert_eq!(outcome, Err(refusal), "{name}");
             }
         }

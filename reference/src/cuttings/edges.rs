@@ -8,9 +8,8 @@
 //! what it leaves of a zone, which is one part with one more inequality at most, and there are at
 //! most six guards.
 //!
-//! No sheet is refused by 9: each entry of a zone's matrix is the sum of the guards on a path between two
-//! instants of a run that passes none twice, so at most 33 guards with numbers up to 1,000 in size, and a
-//! test joins at most three entries and a guard.
+//! The numbers of entries, sums and tests have no limit at which a sheet is refused: they stay small by
+//! themselves (`numbers`).
 
 use super::{case, Case, Reply};
 use crate::bound::Expr;

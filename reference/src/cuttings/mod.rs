@@ -23,14 +23,17 @@ pub mod edges;
 pub mod firsts;
 #[cfg(test)]
 mod held;
+pub mod numbers;
 pub mod paper;
+#[cfg(test)]
+mod sizes;
 mod table;
 #[cfg(test)]
 mod tests;
 #[cfg(test)]
 mod ways;
 
-use crate::bound::Expr;
+use crate::bound::{Bound, Expr};
 use crate::family::Family;
 use crate::random::Random;
 use crate::sheet::{read, Refusal, Sheet};
@@ -40,13 +43,14 @@ use crate::windows::{windows, Outcome, Windows, Zone, PLACES};
 use crate::writer;
 use table::digest_of;
 
-/// The names of the families whose records are the cases of `paper`, of `edges`, of `firsts`, of `arrivals`
-/// and of `counts`.
+/// The names of the families whose records are the cases of `paper`, of `edges`, of `firsts`, of `arrivals`,
+/// of `counts` and of `numbers`.
 pub const PAPER: &str = "results written by hand";
 pub const EDGES: &str = "built to end at a limit or past it";
 pub const FIRSTS: &str = "built for a first valuation";
 pub const ARRIVALS: &str = "standing limits at the start and on arrival";
 pub const COUNTS: &str = "tests of one guard on one zone";
+pub const NUMBERS: &str = "the largest numbers of entries, sums and tests";
 
 /// A sheet file, and how many places the table has that is lent with it.
 #[derive(Clone, Debug, PartialEq, Eq)]
@@ -68,6 +72,7 @@ pub fn families() -> Vec<Family<Record>> {
     add(FIRSTS, firsts::cases());
     add(ARRIVALS, arrivals::cases());
     add(COUNTS, counts::cases());
+    add(NUMBERS, numbers::cases());
     list.push(Family {
         name: "guards beside the route",
         records: beside::records(&mut Random::new(8)),
@@ -88,12 +93,14 @@ pub fn record_of(file: Vec<u8>, places: usize) -> Record {
 }
 
 /// What a record must give, written by hand: for each zone its first valuation and its inequalities, and the
-/// counts of valuations kept and cut; the count of zones and those two alone; a refusal's number and place; or
-/// for each zone what each guard that is put to it leaves of it (see T above).
+/// counts of valuations kept and cut; the count of zones and those two alone; entries (i, j) of the only zone,
+/// none of them strict; a refusal's number and place; or for each zone what each guard that is put to it leaves
+/// of it (see T above).
 #[derive(Clone, Debug)]
 pub enum Reply {
     Zones(Vec<(Valuation, Vec<Expr>)>, usize, usize),
     Counts(usize, usize, usize),
+    Entries(Vec<(usize, usize, Expr)>),
     Refused(u8, usize),
     Left(Vec<Left>),
 }
@@ -154,6 +161,13 @@ impl Case {
                 let zones = found.zones.into_iter();
                 let shown = zones.map(|zone| (zone.first, zone.inequalities));
                 shown.eq(list.iter().cloned()) && (found.kept, found.cut) == (*kept, *cut)
+            }
+            (Reply::Entries(list), Ok(found)) => {
+                let strict = false;
+                let is = |&(i, j, expr): &(usize, usize, Expr)| {
+                    found.zones[0].bounds[i][j] == Bound::At { expr, strict }
+                };
+                found.zones.len() == 1 && list.iter().all(is)
             }
             (Reply::Left(list), Ok(found)) => {
                 let sheet = read(&self.file).expect("Windows takes the file");

@@ -1,13 +1,11 @@
-//! The cutting held to the results that are written by hand, to Sweep on random sheets, and to its refusals by limits
-//! that are lower than the paper's.
+//! The cutting held to the results that are written by hand, and to Sweep on random sheets.
 
 use super::held::{held, MOST_TRIED};
-use super::{answer, arrivals, counts, edges, families, firsts, paper};
+use super::{answer, arrivals, counts, edges, families, firsts, numbers, paper};
 use crate::family::records;
 use crate::planned::{crossed, planned, random_shape};
 use crate::random::Random;
-use crate::samples::{along, at_most, range};
-use crate::sheet::{read, Guard, Refusal, Sheet};
+use crate::sheet::read;
 use crate::valuations::{all, Valuation};
 use crate::windows::{cut, windows, Limits};
 
@@ -20,6 +18,7 @@ fn results_are_as_written() {
         firsts::cases(),
         arrivals::cases(),
         counts::cases(),
+        numbers::cases(),
     ] {
         for case in cases {
             let found = windows(&case.file, case.places);
@@ -96,66 +95,4 @@ fn stored_first_valuations() {
         }
     }
     assert!(counts.iter().all(|&count| count > 1000), "{counts:?}");
-}
-
-/// A sheet of one location without invariants, and moves with those guards.
-fn moves(guards: &[&[Guard]], highest: i16) -> Sheet {
-    let moves: Vec<(u8, Vec<Guard>)> = guards.iter().map(|list| (0, list.to_vec())).collect();
-    let path = vec![0; moves.len() + 1];
-    along(&[range(0, highest)], 1, &[vec![]], &path, &moves)
-}
-
-/// The refusal, or the count of zones, where no number may pass that one in size and no zone may have more
-/// inequalities than those.
-fn within(sheet: &Sheet, number: i64, inequalities: usize) -> Result<usize, (u8, usize)> {
-    let limits = Limits {
-        number,
-        inequalities,
-        ..Limits::PAPER
-    };
-    match cut(sheet, limits) {
-        Ok(found) => Ok(found.zones.len()),
-        Err(Refusal { number, place }) => Err((number, place)),
-    }
-}
-
-/// Refusal 9 in a sum and in a test, at the first number past the limit and not before, at its visit.
-#[test]
-fn numbers_that_are_wide() {
-    let down = |constant, p| at_most(0, 1, constant, [p, 0, 0]);
-    let up = |constant, p| at_most(1, 0, constant, [p, 0, 0]);
-    // a sum: 60 + 90p and the lower bound -70, at visit 2
-    let sum = moves(&[&[], &[down(-70, 0)], &[up(60, 90)]], 3);
-    assert_eq!(within(&sum, 90, 24), Ok(1));
-    assert_eq!(within(&sum, 89, 24), Err((9, 2)));
-    // a sum: zero and -70, at visit 1; the test before it, 0 - -70 - 1, is 69
-    let first = moves(&[&[], &[down(-70, 0)]], 3);
-    assert_eq!(within(&first, 70, 24), Ok(1));
-    assert_eq!(within(&first, 69, 24), Err((9, 1)));
-    // a test: -1 - 40p against -20 + 40p, so 18 - 80p, at visit 3
-    let test = moves(&[&[down(-1, -40)], &[], &[], &[down(-20, 40)]], 1);
-    assert_eq!(within(&test, 80, 24), Ok(2));
-    assert_eq!(within(&test, 79, 24), Err((9, 3)));
-    // it comes before the test is found settled, and before its split is one too many
-    let settled = moves(&[&[down(-50, 0)], &[down(40, 0)]], 0);
-    assert_eq!(within(&settled, 91, 24), Ok(1));
-    assert_eq!(within(&settled, 90, 24), Err((9, 1)));
-    assert_eq!(within(&test, 80, 0), Err((8, 3)));
-    assert_eq!(within(&test, 79, 0), Err((9, 3)));
-}
-
-/// No stored sheet comes near the limit of refusal 9: a tenth of it is enough.
-#[test]
-fn numbers_stay_small() {
-    let limits = Limits {
-        number: 100_001,
-        ..Limits::PAPER
-    };
-    for record in records(&families()) {
-        if let Ok(sheet) = read(&record.file) {
-            if record.places >= 32 {
-                assert_eq!(cut(&sheet, limits), answer(record));
-            }
-        }
-    }
 }

@@ -1,84 +1,137 @@
-//! One guard on one zone a second time: test by test, as paper 01 words it. Where a test is not settled, both
-//! parts go on from there, the whole outcome of the yes part before the no part's. Each valuation answers by
-//! itself, in weights; no inequality is written. The counts of tests are held to this.
+//! A guard a second time: test by test, as paper 01 words it. Where a test is not settled, both parts go on
+//! from there, the whole outcome of the yes part before the no part's. Each valuation answers by itself, in
+//! weights; no inequality is written. The counts of tests are held to this, and so are whole routes (`sizes`).
 
 use super::{alone, answer, families};
-use crate::bound::Bound;
+use crate::bound::{Bound, Expr, Test};
 use crate::family::records;
 use crate::planned::{crossed, planned, random_shape};
 use crate::random::Random;
 use crate::sheet::{read, Guard, Sheet, MOST_CLOCKS};
+use crate::sweep::SIDE;
 use crate::valuations::{all, Valuation};
 use crate::windows::{cut, cut_one, Bounds, Counted, Limits, Zone};
 
-/// A part of the zone on its way: its valuations, its matrix so far, and how many tests were asked and how
-/// many of them were open.
+/// A part of a zone on its way: its valuations, its matrix so far, how many inequalities it would have, and
+/// how many tests the guard has asked.
 #[derive(Clone)]
-struct Way {
-    valuations: Vec<Valuation>,
-    bounds: Bounds,
-    tests: usize,
-    open: usize,
+pub(super) struct Way {
+    pub valuations: Vec<Valuation>,
+    pub bounds: Bounds,
+    pub inequalities: usize,
+    pub tests: usize,
 }
 
-/// The ways that a guard lists of a zone, in order, or refusal 7 or 8.
-fn ways(sheet: &Sheet, zone: &Zone, guard: &Guard) -> Result<Vec<Way>, u8> {
+impl Way {
+    /// A way before any guard.
+    pub fn new(valuations: Vec<Valuation>, bounds: Bounds, inequalities: usize) -> Way {
+        Way {
+            valuations,
+            bounds,
+            inequalities,
+            tests: 0,
+        }
+    }
+
+    /// The way has the valuations and the matrix of a zone, and would have as many inequalities.
+    pub fn agrees(&self, zone: &Zone) {
+        assert_eq!(self.bounds, zone.bounds);
+        assert_eq!(self.inequalities, zone.inequalities.len());
+        assert_eq!(self.valuations[0], zone.first);
+        assert!(self.valuations.iter().all(|&v| zone.holds(v)));
+    }
+}
+
+/// The largest sizes of a number that were met: of entries, of sums, and of tests.
+#[derive(Clone, Copy, Debug, Default, PartialEq, Eq)]
+pub(super) struct Sizes {
+    pub entry: i64,
+    pub sum: i64,
+    pub test: i64,
+}
+
+impl Sizes {
+    /// The larger of each.
+    pub fn or(self, other: Sizes) -> Sizes {
+        Sizes {
+            entry: self.entry.max(other.entry),
+            sum: self.sum.max(other.sum),
+            test: self.test.max(other.test),
+        }
+    }
+}
+
+/// The size of the largest number of an expression.
+pub(super) fn size(e: Expr) -> i64 {
+    e.into_iter().map(i64::abs).max().unwrap_or(0)
+}
+
+/// The ways that a guard lists of zones, in order, or refusal 7 or 8. `sizes` meets those of its sums and tests.
+pub(super) fn guarded(
+    clocks: u8,
+    zones: Vec<Way>,
+    guard: &Guard,
+    sizes: &mut Sizes,
+) -> Result<Vec<Way>, u8> {
     let [p, q, r] = guard.coefficients.map(i64::from);
     let mut asking = Asking {
-        last: usize::from(sheet.clocks),
+        last: usize::from(clocks),
         i: usize::from(guard.a),
         j: usize::from(guard.b),
         e: Bound::At {
             expr: [i64::from(guard.constant), p, q, r],
             strict: guard.strict,
         },
-        old: zone.bounds,
-        most_open: Limits::PAPER.inequalities - zone.inequalities.len(),
+        old: [[Bound::ZERO; SIDE]; SIDE],
+        sizes,
         listed: Vec::new(),
     };
-    let valuations = all(&sheet.parameters).into_iter();
-    let whole = Way {
-        valuations: valuations.filter(|&v| zone.holds(v)).collect(),
-        bounds: zone.bounds,
-        tests: 0,
-        open: 0,
-    };
-    asking.void(whole)?;
+    for zone in zones {
+        asking.old = zone.bounds;
+        asking.void(Way { tests: 0, ..zone })?;
+    }
     Ok(asking.listed)
 }
 
-/// A guard i - j with bound e, the clocks' last number, the matrix that it finds, how many tests can be open
-/// on a way, and what is listed.
-struct Asking {
+/// A guard i - j with bound e, the clocks' last number, the matrix that it finds, the sizes that were met, and
+/// what is listed.
+struct Asking<'a> {
     last: usize,
     i: usize,
     j: usize,
     e: Bound,
     old: Bounds,
-    most_open: usize,
+    sizes: &'a mut Sizes,
     listed: Vec<Way>,
 }
 
 /// A way's two parts, of which one may be missing.
 type Parts = (Option<Way>, Option<Way>);
 
-impl Asking {
-    /// A sum; no number of these sheets is too large.
-    fn sum(a: Bound, b: Bound) -> Bound {
-        a.sum(b, i64::MAX).expect("no sum is too large")
+impl Asking<'_> {
+    /// A sum.
+    fn sum(&mut self, a: Bound, b: Bound) -> Bound {
+        let sum = a.sum(b);
+        if let Bound::At { expr, .. } = sum {
+            self.sizes.sum = self.sizes.sum.max(size(expr));
+        }
+        sum
     }
 
     /// The yes part and the no part of the question whether a is tighter than b, or refusal 8.
-    fn asked(&self, mut way: Way, a: Bound, b: Bound) -> Result<Parts, u8> {
+    fn asked(&mut self, mut way: Way, a: Bound, b: Bound) -> Result<Parts, u8> {
+        if let Test::Asked(test) = a.tighter(b) {
+            self.sizes.test = self.sizes.test.max(size(test));
+        }
         let bounds = a != Bound::None && b != Bound::None;
         way.tests += usize::from(bounds);
         let tighter = |v: &Valuation| a.at(*v).tighter(b.at(*v));
-        let (yes, no): (Vec<_>, Vec<_>) = way.valuations.iter().copied().partition(tighter);
+        let (yes, no): (Vec<_>, Vec<_>) = way.valuations.drain(..).partition(tighter);
         let open = !yes.is_empty() && !no.is_empty();
-        if open && way.open == self.most_open {
+        if open && way.inequalities == Limits::PAPER.inequalities {
             return Err(8);
         }
-        way.open += usize::from(open);
+        way.inequalities += usize::from(open);
         let part = |valuations: Vec<Valuation>| {
             let some = !valuations.is_empty();
             let way = way.clone();
@@ -89,7 +142,7 @@ impl Asking {
 
     /// Rule (1): the yes part is cut.
     fn void(&mut self, way: Way) -> Result<(), u8> {
-        let around = Self::sum(self.e, self.old[self.j][self.i]);
+        let around = self.sum(self.e, self.old[self.j][self.i]);
         let (_, no) = self.asked(way, around, Bound::ZERO)?;
         no.map_or(Ok(()), |way| self.tight(way))
     }
@@ -109,7 +162,8 @@ impl Asking {
         if l > self.last {
             return self.entry(k + 1, 0, way);
         }
-        let through = Self::sum(self.old[k][self.i], Self::sum(self.e, self.old[self.j][l]));
+        let onward = self.sum(self.e, self.old[self.j][l]);
+        let through = self.sum(self.old[k][self.i], onward);
         let (yes, no) = self.asked(way, through, self.old[k][l])?;
         if let Some(mut way) = yes {
             way.bounds[k][l] = through;
@@ -143,7 +197,11 @@ impl Seen {
     fn put(&mut self, sheet: &Sheet, zone: &Zone, guard: &Guard) {
         self.put += 1;
         let found = cut_one(sheet, zone, guard, 0, Limits::PAPER);
-        match (found, ways(sheet, zone, guard)) {
+        let mut valuations = all(&sheet.parameters);
+        valuations.retain(|&v| zone.holds(v));
+        let whole = Way::new(valuations, zone.bounds, zone.inequalities.len());
+        let again = guarded(sheet.clocks, vec![whole], guard, &mut Sizes::default());
+        match (found, again) {
             (Ok(found), Ok(again)) => {
                 assert_eq!(found.len(), again.len());
                 self.several += usize::from(found.len() > 1);
@@ -162,11 +220,9 @@ impl Seen {
     /// that follow from what is none, and not above the ceiling; the zone has an inequality more for each
     /// open test.
     fn same(&mut self, sheet: &Sheet, zone: &Zone, guard: &Guard, counted: &Counted, way: &Way) {
+        assert_eq!(counted.tests, way.tests);
+        way.agrees(&counted.zone);
         let added = counted.zone.inequalities.len() - zone.inequalities.len();
-        assert_eq!((counted.tests, added), (way.tests, way.open));
-        assert_eq!(counted.zone.bounds, way.bounds);
-        assert_eq!(counted.zone.first, way.valuations[0]);
-        assert!(way.valuations.iter().all(|&v| counted.zone.holds(v)));
         let [kept, pushed] = by_nones(sheet, zone, guard);
         assert!([kept, pushed].contains(&counted.tests));
         let side = usize::from(sheet.clocks) + 1;

@@ -1,4 +1,4 @@
-//! Windows: the ranges cut into zones (paper 01, "Cutting the ranges"), and refusals 1 to 5 and 7 to 9.
+//! Windows: the ranges cut into zones (paper 01, "Cutting the ranges"), and refusals 1 to 5, 7 and 8.
 //!
 //! A zone at work carries the list of all its valuations, so that a test is settled by putting each of
 //! them in. Where a test is not settled, the zone is parted in two lists and the guard is worked anew
@@ -10,7 +10,7 @@ use crate::bound::{value, Bound, Expr};
 use crate::sheet::{read, Guard, Refusal, Sheet};
 use crate::sweep::SIDE;
 use crate::valuations::{all, Valuation};
-use part::{Limit, Part, Stop};
+use part::{Limit, Open, Part};
 
 /// A matrix of bounds; entry (i, j) bounds clock i - clock j.
 pub type Bounds = [[Bound; SIDE]; SIDE];
@@ -55,13 +55,12 @@ pub const PLACES: usize = 32;
 /// The most inequalities of a zone.
 pub const MOST_INEQUALITIES: usize = 24;
 
-/// What refusals 7, 8 and 9 are judged by: the most zones that a guard lists, the most inequalities of a
-/// zone, and the most that a number of a sum or a test may be in size.
+/// What refusals 7 and 8 are judged by: the most zones that a guard lists, and the most inequalities of a
+/// zone.
 #[derive(Clone, Copy, Debug)]
 pub struct Limits {
     pub zones: usize,
     pub inequalities: usize,
-    pub number: i64,
 }
 
 impl Limits {
@@ -69,7 +68,6 @@ impl Limits {
     pub const PAPER: Limits = Limits {
         zones: PLACES,
         inequalities: MOST_INEQUALITIES,
-        number: 1_000_000,
     };
 }
 
@@ -84,7 +82,7 @@ pub fn windows(file: &[u8], places: usize) -> Outcome {
     cut(&read(file)?, Limits::PAPER)
 }
 
-/// The ranges of a sheet cut into zones, or the first of refusals 7, 8 and 9 by those limits. A
+/// The ranges of a sheet cut into zones, or the first of refusals 7 and 8 by those limits. A
 /// location's invariants go in at the start or on arrival, and again after the wait; a move counts
 /// as made once its resets are done (paper 02, request (b)).
 pub fn cut(sheet: &Sheet, limits: Limits) -> Outcome {
@@ -110,7 +108,7 @@ pub fn cut(sheet: &Sheet, limits: Limits) -> Outcome {
 }
 
 /// What one guard leaves of one zone of a sheet at a visit: the zones that it lists in order, each with its
-/// count of tests, or the first of refusals 7, 8 and 9 by those limits (paper 02, request (j)). The zone
+/// count of tests, or the first of refusals 7 and 8 by those limits (paper 02, request (j)). The zone
 /// holds a valuation, as those do that Windows lists.
 pub fn cut_one(
     sheet: &Sheet,
@@ -173,18 +171,17 @@ impl Cutting {
         let limit = Limit::new(guard);
         let mut pile: Vec<Part> = self.parts.drain(..).rev().collect();
         while let Some(part) = pile.pop() {
-            match part.guarded(self.clocks, &limit, self.limits.number) {
+            match part.guarded(self.clocks, &limit) {
                 Ok(None) => self.cut += part.valuations.len(),
                 Ok(Some((bounds, tests))) => self.list(Part {
                     bounds,
                     tests,
                     ..part
                 })?,
-                Err(Stop::Wide) => return self.refused(9),
-                Err(Stop::Open(_)) if part.inequalities.len() == self.limits.inequalities => {
+                Err(Open(_)) if part.inequalities.len() == self.limits.inequalities => {
                     return self.refused(8)
                 }
-                Err(Stop::Open(e)) => {
+                Err(Open(e)) => {
                     let (yes, no) = part.parted(e);
                     pile.extend([no, yes]);
                 }

@@ -1,7 +1,7 @@
 //! A zone at work: how a test is settled, and what one guard does.
 
 use super::{Bounds, Zone};
-use crate::bound::{opposite, value, Bound, Expr, Test, Wide};
+use crate::bound::{opposite, value, Bound, Expr, Test};
 use crate::sheet::Guard;
 use crate::valuations::Valuation;
 
@@ -36,18 +36,8 @@ impl Limit {
     }
 }
 
-/// Why the rules of a guard are left before their end.
-pub(super) enum Stop {
-    /// A test that some of the part's valuations satisfy and others do not.
-    Open(Expr),
-    Wide,
-}
-
-impl From<Wide> for Stop {
-    fn from(_: Wide) -> Stop {
-        Stop::Wide
-    }
-}
+/// A test that some of a part's valuations satisfy and others do not: the rules of a guard are left there.
+pub(super) struct Open(pub Expr);
 
 impl Part {
     /// A part before any guard.
@@ -75,7 +65,7 @@ impl Part {
     }
 
     /// The answer to a test, if all the valuations give the same one.
-    fn settled(&self, test: Test) -> Result<bool, Stop> {
+    fn settled(&self, test: Test) -> Result<bool, Open> {
         let e = match test {
             Test::Known(answer) => return Ok(answer),
             Test::Asked(e) => e,
@@ -85,7 +75,7 @@ impl Part {
         if self.valuations.iter().all(|&v| answer(v) == first) {
             Ok(first)
         } else {
-            Err(Stop::Open(e))
+            Err(Open(e))
         }
     }
 
@@ -100,26 +90,20 @@ impl Part {
     }
 
     /// The part's matrix after a guard and how many tests were asked, or nothing if the guard leaves no
-    /// part: rules (1), (2) and (3) of the paper. No number of a sum or a test may pass `most` in size.
+    /// part: rules (1), (2) and (3) of the paper.
     ///
     /// A part that was parted off by a test of this guard is asked that test again, and those before it,
     /// and all of them are settled: a part that the guard leaves is asked each test of the way to it once.
-    pub fn guarded(
-        &self,
-        clocks: usize,
-        limit: &Limit,
-        most: i64,
-    ) -> Result<Option<(Bounds, usize)>, Stop> {
+    pub fn guarded(&self, clocks: usize, limit: &Limit) -> Result<Option<(Bounds, usize)>, Open> {
         let &Limit { i, j, e } = limit;
         let m = &self.bounds;
         let mut tests = 0;
-        let sum = |a: Bound, b: Bound| a.sum(b, most);
         let mut tighter = |a: Bound, b: Bound| {
-            let test = a.tighter(b, most)?;
+            let test = a.tighter(b);
             tests += usize::from(matches!(test, Test::Asked(_)));
             self.settled(test)
         };
-        if tighter(sum(e, m[j][i])?, Bound::ZERO)? {
+        if tighter(e.sum(m[j][i]), Bound::ZERO)? {
             return Ok(None);
         }
         if !tighter(e, m[i][j])? {
@@ -128,7 +112,7 @@ impl Part {
         let mut next = *m;
         for k in 0..=clocks {
             for l in 0..=clocks {
-                let through = sum(sum(m[k][i], e)?, m[j][l])?;
+                let through = m[k][i].sum(e).sum(m[j][l]);
                 if tighter(through, m[k][l])? {
                     next[k][l] = through;
                 }

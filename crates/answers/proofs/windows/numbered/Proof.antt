@@ -24,9 +24,6 @@ enum-known-answer-2 c = search needs
 enum-known-answer-3 : tie.Need-enum-known-answer-3
 enum-known-answer-3 c = search needs
 
-enum-known-answer-4 : tie.Need-enum-known-answer-4
-enum-known-answer-4 c = search needs
-
 returns : tie.Need-returns
 returns c = sym (ap windowsAs (c .enum-told .given .1))
 
@@ -42,9 +39,6 @@ returns-4 c = sym (ap windowsAs (c .before .answer2 .given .1))
 returns-5 : tie.Need-returns-5
 returns-5 c = sym (ap windowsAs (c .before .answer3 .given .1))
 
-returns-6 : tie.Need-returns-6
-returns-6 c = sym (ap windowsAs (c .before .answer4 .given .1))
-
 pub numbered-spec : {M : Type 1} → statement M
 numbered-spec =
     tie.close
@@ -55,10 +49,8 @@ numbered-spec =
     refusal-numbered-requires
     enum-known-answer-2
     enum-known-answer-3
-    enum-known-answer-4
     returns
     returns-2
     returns-3
     returns-4
-    returns-5
-    returns-6)
+    returns-5)

@@ -1,8 +1,8 @@
 -- The branches before the test are the cases of `tighterW` with none; the test is `test-by-sum`.
 use mathlib.Core.Bool.{not, _&&_}
 use borrow.Author.Needs.{needs}
-use Rattle.weight.specs.Upper.{saturate}
-use Rattle.weight.proofs.Saturated.{tighter-left, tighter-right, passed, saturate-within, less-asks, less-one-asks, plus-asks}
+use Rattle.weight.specs.Upper.{MOST, saturate}
+use Rattle.weight.proofs.Saturated.{tighter-left, tighter-right, passed, most, less-asks, less-one-asks, plus-asks}
 use Rattle.weight.proofs.Saturated.{plus-is, tighter-both}
 use Rattle.weight.proofs.Weight.tighter.Statement.{statement}
 use Rattle.weight.proofs.Weight.tighter.Tie as tie
@@ -23,19 +23,19 @@ sub-result : tie.Need-sub-result
 sub-result c =
     let first = c .before .before in
     let a = first .before .before .before .before .args in
-    less-asks _ _ (saturate (a .self .value)) (saturate (a .other .value))
+    less-asks _ _ (saturate MOST (a .self .value)) (saturate MOST (a .other .value))
     (passed (a .self .value) (c .clamped2 .ensures) (record { sfits = c .before .struct-told2 .given .1 .1 .0 .1 }))
     (passed (a .other .value) (first .clamped .ensures) (record { sfits = first .before .struct-told .given .1 .1 .0 .1 }))
-    (saturate-within _) (saturate-within _)
+    (most _) (most _)
 
 sub-result-2 : tie.Need-sub-result-2
 sub-result-2 c =
     let first = c .before .before in
     let a = first .before .before .before .before .args in
-    less-one-asks _ _ (saturate (a .self .value)) (saturate (a .other .value))
+    less-one-asks _ _ (saturate MOST (a .self .value)) (saturate MOST (a .other .value))
     (passed (a .self .value) (c .clamped2 .ensures) (record { sfits = c .before .struct-told2 .given .1 .1 .0 .1 }))
     (passed (a .other .value) (first .clamped .ensures) (record { sfits = first .before .struct-told .given .1 .1 .0 .1 }))
-    (saturate-within _) (saturate-within _)
+    (most _) (most _)
 
 cast-result : tie.Need-cast-result
 cast-result c = tt
@@ -45,10 +45,10 @@ add-result c =
     let second = c .before .before in
     let first = second .before .before in
     let a = first .before .before .before .before .args in
-    plus-asks _ _ (saturate (a .self .value)) (saturate (a .other .value))
+    plus-asks _ _ (saturate MOST (a .self .value)) (saturate MOST (a .other .value))
     (passed (a .self .value) (second .clamped2 .ensures) (record { sfits = second .before .struct-told2 .given .1 .1 .0 .1 }))
     (passed (a .other .value) (first .clamped .ensures) (record { sfits = first .before .struct-told .given .1 .1 .0 .1 }))
-    (saturate-within _) (saturate-within _) (a .self .strict && not (a .other .strict))
+    (most _) (most _) (a .self .strict && not (a .other .strict))
 
 returns-3 : tie.Need-returns-3
 returns-3 c =
@@ -57,10 +57,10 @@ returns-3 c =
     let tested = first .before .before in
     let a = tested .before .before .args in
     tighter-both (a .self) (a .other) _ (tested .before .if1 .left) (tested .if2 .left)
-    (plus-is _ _ (saturate (a .self .value)) (saturate (a .other .value))
+    (plus-is _ _ (saturate MOST (a .self .value)) (saturate MOST (a .other .value))
     (passed (a .self .value) (second .clamped2 .ensures) (record { sfits = second .before .struct-told2 .given .1 .1 .0 .1 }))
     (passed (a .other .value) (first .clamped .ensures) (record { sfits = first .before .struct-told .given .1 .1 .0 .1 }))
-    (saturate-within _) (saturate-within _) (a .self .strict && not (a .other .strict)))
+    (most _) (most _) (a .self .strict && not (a .other .strict)))
 
 pub tighter-spec : {M : Type 1} → statement M
 tighter-spec =

@@ -2,6 +2,7 @@
 use borrow.Author.Needs.{needs}
 use Rattle.zones.proofs.settle.on.Statement.{statement}
 use Rattle.zones.proofs.settle.on.Tie as tie
+use Rattle.zones.specs.Settled.{oppositeC}
 use Rattle.zones.proofs.Steps.{on-no, on-yes, on-split, on-full}
 
 never-requires : tie.Need-never-requires
@@ -19,6 +20,7 @@ never-requires-2 : tie.Need-never-requires-2
 never-requires-2 c κs = search needs
 
 returns-2 : tie.Need-returns-2
+unfolding oppositeC
 returns-2 c =
     let after-opposite = c .before .before in
     let after-never = after-opposite .before .before in
@@ -27,6 +29,7 @@ returns-2 c =
     (after-opposite .opposite .ensures) _ (c .before .never2 .ensures) (c .if2 .taken)
 
 returns-3 : tie.Need-returns-3
+unfolding oppositeC
 returns-3 c =
     let tested-2 = c .before .before in
     let after-opposite = tested-2 .before .before in
@@ -36,6 +39,7 @@ returns-3 c =
     (after-opposite .opposite .ensures) _ (tested-2 .before .never2 .ensures) (tested-2 .if2 .left) (c .if3 .taken)
 
 returns-4 : tie.Need-returns-4
+unfolding oppositeC
 returns-4 c =
     let tested-2 = c .before .before in
     let after-opposite = tested-2 .before .before in

@@ -17,9 +17,6 @@ enum-known-test c = search needs
 on-requires : tie.Need-on-requires
 on-requires c κs = search needs
 
-enum-told-3 : tie.Need-enum-told-3
-enum-told-3 c = search needs
-
 returns : tie.Need-returns
 returns c = ap (settledC (c .before .before .args .b) (c .before .before .args .zone)) (sym (c .enum-told .given .1))
 
@@ -32,9 +29,6 @@ returns-3 c =
     let a = matched .before .before .args in
     c .on .ensures ∙ ap (settledC (a .b) (a .zone)) (sym (matched .test .given .1))
 
-returns-4 : tie.Need-returns-4
-returns-4 c = ap (settledC (c .before .before .args .b) (c .before .before .args .zone)) (sym (c .enum-told3 .given .1))
-
 pub settled-spec : {M : Type 1} → statement M
 settled-spec =
     tie.close
@@ -43,8 +37,6 @@ settled-spec =
     enum-told-2
     enum-known-test
     on-requires
-    enum-told-3
     returns
     returns-2
-    returns-3
-    returns-4)
+    returns-3)

@@ -3,6 +3,7 @@ use borrow.Author.Needs.{needs}
 use Rattle.zones.proofs.settle.with_opposite.Statement.{statement}
 use Rattle.zones.proofs.settle.with_opposite.Tie as tie
 use mathlib.Core.Path.{_∙_, ap}
+use Rattle.zones.specs.Settled.{oppositeC}
 use Rattle.zones.specs.Zone.{moreC}
 
 opposite-requires : tie.Need-opposite-requires
@@ -12,6 +13,7 @@ with-inequality-requires : tie.Need-with-inequality-requires
 with-inequality-requires c κs = search needs
 
 returns : tie.Need-returns
+unfolding oppositeC
 returns c = c .with-inequality .ensures ∙ ap (moreC _) (c .before .opposite .ensures)
 
 pub with-opposite-spec : {M : Type 1} → statement M

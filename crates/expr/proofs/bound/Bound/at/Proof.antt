@@ -4,7 +4,7 @@ use mir.Syntax.{w64}
 use mir.ValLaws.{toZ-ofZ}
 use borrow.Author.Needs.{needs}
 use Rattle.expr.specs.Bounds.{atV}
-use Rattle.expr.proofs.Cases.{weight-path}
+use Rattle.expr.proofs.Records.{weight-path}
 use Rattle.expr.proofs.bound.Bound.at.Statement.{statement}
 use Rattle.expr.proofs.bound.Bound.at.Tie as tie
 

@@ -1,10 +1,8 @@
 -- The four numbers are those of the definition.
-use lib.IntN.{_+ℤ_}
-use mir.Syntax.{w32}
 use borrow.Author.Needs.{needs}
-use Rattle.integer.specs.Bits.{heard}
-use Rattle.expr.specs.Affine.{plus, plusL}
-use Rattle.expr.proofs.Judge.{affine-path}
+use Rattle.expr.specs.Affine.{plus, plusL, saturatedE}
+use Rattle.expr.proofs.Records.{affine-path}
+use Rattle.expr.proofs.Sizes.{sum-stored}
 use Rattle.expr.proofs.number.Expr.plus.Statement.{statement}
 use Rattle.expr.proofs.number.Expr.plus.Tie as tie
 
@@ -21,7 +19,7 @@ sum-requires-4 : tie.Need-sum-requires-4
 sum-requires-4 c κs = search needs
 
 returns : tie.Need-returns
-unfolding plus plusL
+unfolding plus plusL saturatedE
 returns c =
     let third = c .before .before .before in
     let second = third .before .before .before in
@@ -31,10 +29,10 @@ returns c =
     let t = c .before .before .struct-told7 .given in
     let u = c .before .struct-told8 .given in
     affine-path
-    (heard _+ℤ_ w32 w32 _ (a .constant) (b .constant) (first .sum .ensures) (record { sfits = t .0 .1 }) (record { sfits = u .0 .1 }))
-    (heard _+ℤ_ w32 w32 _ (a .p) (b .p) (second .sum2 .ensures) (record { sfits = t .1 .0 .1 }) (record { sfits = u .1 .0 .1 }))
-    (heard _+ℤ_ w32 w32 _ (a .q) (b .q) (third .sum3 .ensures) (record { sfits = t .1 .1 .0 .1 }) (record { sfits = u .1 .1 .0 .1 }))
-    (heard _+ℤ_ w32 w32 _ (a .r) (b .r) (c .sum4 .ensures) (record { sfits = t .1 .1 .1 .0 .1 }) (record { sfits = u .1 .1 .1 .0 .1 }))
+    (sum-stored _ (a .constant) (b .constant) (record { sfits = t .0 .1 }) (record { sfits = u .0 .1 }) (first .sum .ensures))
+    (sum-stored _ (a .p) (b .p) (record { sfits = t .1 .0 .1 }) (record { sfits = u .1 .0 .1 }) (second .sum2 .ensures))
+    (sum-stored _ (a .q) (b .q) (record { sfits = t .1 .1 .0 .1 }) (record { sfits = u .1 .1 .0 .1 }) (third .sum3 .ensures))
+    (sum-stored _ (a .r) (b .r) (record { sfits = t .1 .1 .1 .0 .1 }) (record { sfits = u .1 .1 .1 .0 .1 }) (c .sum4 .ensures))
 
 pub plus-spec : {M : Type 1} → statement M
 plus-spec = tie.close (tie.spec sum-requires sum-requires-2 sum-requires-3 sum-requires-4 returns)

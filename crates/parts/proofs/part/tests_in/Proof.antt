@@ -1,0 +1,27 @@
+-- The arms are the cases of `testsIn`.
+use mathlib.Core.Path.{sym, ap}
+use borrow.Author.Needs.{needs}
+use Rattle.parts.specs.Parts.{testsIn}
+use Rattle.parts.proofs.part.tests_in.Statement.{statement}
+use Rattle.parts.proofs.part.tests_in.Tie as tie
+
+enum-told : tie.Need-enum-told
+enum-told c = search needs
+
+enum-told-2 : tie.Need-enum-told-2
+enum-told-2 c = search needs
+
+enum-told-3 : tie.Need-enum-told-3
+enum-told-3 c = search needs
+
+returns : tie.Need-returns
+returns c = sym (ap testsIn (c .enum-told .given .1))
+
+returns-2 : tie.Need-returns-2
+returns-2 c = sym (ap testsIn (c .enum-told2 .given .1))
+
+returns-3 : tie.Need-returns-3
+returns-3 c = sym (ap testsIn (c .enum-told3 .given .1))
+
+pub tests-in-spec : {M : Type 1} → statement M
+tests-in-spec = tie.close (tie.spec enum-told enum-told-2 enum-told-3 returns returns-2 returns-3)

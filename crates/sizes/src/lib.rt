@@ -1,0 +1,1 @@
+// How large the numbers of the cutting get: theorems only, in specs/.
