@@ -1,6 +1,6 @@
-/* Calls Sweep as the drawing program does: a sheet file and as many numbers as it has allowances, none to three.
+/* Calls Sweep as the drawing program does: a sheet file and as many numbers as it has allowances, none to four.
  *
- *     examples/build && target/examples/sweep SHEET [P [Q [R]]]
+ *     examples/build && target/examples/sweep SHEET [P [Q [R [S]]]]
  */
 #include <errno.h>
 #include <stdio.h>
@@ -24,6 +24,7 @@ static const char *meaning(int64_t answer) {
     case SWEEP_BODY: return "refused: a field of a body";
     case SWEEP_ROUTE: return "refused: the route does not link";
     case SWEEP_OUTSIDE: return "refused: a number outside its range";
+    case SWEEP_WIDTHS: return "refused: the product of the ranges' widths";
     default: return "not an answer";
     }
 }
@@ -39,9 +40,9 @@ static int number(const char *text, int64_t *to) {
 
 int main(int count, char **words) {
     static uint8_t sheet[MOST];
-    int64_t at[3] = {0, 0, 0};
-    if (count < 2 || count > 5) {
-        fprintf(stderr, "usage: %s SHEET [P [Q [R]]]\n", words[0]);
+    int64_t at[4] = {0, 0, 0, 0};
+    if (count < 2 || count > 6) {
+        fprintf(stderr, "usage: %s SHEET [P [Q [R [S]]]]\n", words[0]);
         return 2;
     }
     for (int i = 2; i < count; i++) {
@@ -62,7 +63,7 @@ int main(int count, char **words) {
         return 2;
     }
     fclose(file);
-    int64_t answer = sweep_sheet(sheet, length, at[0], at[1], at[2]);
+    int64_t answer = sweep_sheet(sheet, length, at[0], at[1], at[2], at[3]);
     int is_sheet = answer == SWEEP_RUN || answer == SWEEP_VOID || answer == SWEEP_OUTSIDE;
     if (is_sheet && count - 2 != sheet[ALLOWANCES]) {
         fprintf(stderr, "%s: %s: numbers given: %d; expected one for each allowance: %d\n", words[0], words[1], count - 2,

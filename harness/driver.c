@@ -1,7 +1,7 @@
 /* Calls Sweep from C on the cases of a file and compares each answer with the one stored there. Built with the address and
  * undefined-behaviour sanitizers: the bytes of a case lie in a block of just that size, and once more on the stack.
  *
- * A record of the file: length (u32), bytes, three numbers and the answer (i64), all little-endian.
+ * A record of the file: length (u32), bytes, four numbers and the answer (i64), all little-endian.
  */
 #include <inttypes.h>
 #include <stdio.h>
@@ -16,7 +16,7 @@ enum { MOST = 3 * 4096 };
 struct record {
     uint32_t length;
     uint8_t *bytes;
-    int64_t numbers[3];
+    int64_t numbers[4];
     int64_t answer;
 };
 
@@ -63,7 +63,7 @@ static int next_record(FILE *file, struct record *record) {
         exit(1);
     }
     must_read(file, record->bytes, record->length);
-    for (int i = 0; i < 3; i++)
+    for (int i = 0; i < 4; i++)
         record->numbers[i] = number_with_sign(file);
     record->answer = number_with_sign(file);
     return 1;
@@ -72,7 +72,7 @@ static int next_record(FILE *file, struct record *record) {
 /* The answer for a record whose bytes lie there. */
 static int64_t answer(const struct record *record, const uint8_t *bytes) {
     const int64_t *v = record->numbers;
-    return sweep_sheet(bytes, record->length, v[0], v[1], v[2]);
+    return sweep_sheet(bytes, record->length, v[0], v[1], v[2], v[3]);
 }
 
 /* The answer with the bytes on the stack. */

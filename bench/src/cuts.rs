@@ -1,4 +1,5 @@
-// Families of sheets with three ranges of 64 values, 262,144 valuations, that are cut in fewer than ten pieces.
+// Families of sheets with 262,144 valuations, most of them in three ranges of 64 values, that are cut in fewer than ten
+// pieces.
 use reference::planned::{crossed, Shape};
 use reference::random::Random;
 use reference::samples::{along, at_most, range};
@@ -28,25 +29,32 @@ fn cube() -> [Parameter; 3] {
 }
 
 // clock - 0 at most that expression.
-fn upper(clock: usize, constant: i16, coefficients: [i16; 3]) -> Guard {
+fn upper(clock: usize, constant: i16, coefficients: [i16; 4]) -> Guard {
     at_most(clock as u8, 0, constant, coefficients)
 }
 
 // clock at least that number.
 fn lower(clock: usize, constant: i16) -> Guard {
-    at_most(0, clock as u8, -constant, [0; 3])
+    at_most(0, clock as u8, -constant, [0; 4])
 }
 
 // The least of three parameters: one stay, four pieces.
 fn least() -> Sheet {
-    let stay = vec![upper(1, 0, [1, 0, 0]), upper(1, 0, [0, 1, 0]), upper(1, 0, [0, 0, 1])];
+    let stay = vec![upper(1, 0, [1, 0, 0, 0]), upper(1, 0, [0, 1, 0, 0]), upper(1, 0, [0, 0, 1, 0])];
     along(&cube(), 1, &[stay], &[0], &[])
+}
+
+// The least of four parameters: one stay, eight pieces.
+fn least_of_four() -> Sheet {
+    let parameters = [range(0, 15), range(0, 15), range(0, 31), range(0, 31)];
+    let up = [[1, 0, 0, 0], [0, 1, 0, 0], [0, 0, 1, 0], [0, 0, 0, 1]].map(|e| upper(1, 0, e));
+    along(&parameters, 1, &[up.to_vec()], &[0], &[])
 }
 
 // A stay of at most p + q and a move at r or later, then one more stay of at most 2q: some valuations are cut.
 fn two_stays() -> Sheet {
-    let late = vec![at_most(0, 1, 0, [0, 0, -1])];
-    let stays = [vec![upper(1, 0, [1, 1, 0])], vec![upper(2, 0, [0, 2, 0]), upper(1, 90, [1, 0, 0])]];
+    let late = vec![at_most(0, 1, 0, [0, 0, -1, 0])];
+    let stays = [vec![upper(1, 0, [1, 1, 0, 0])], vec![upper(2, 0, [0, 2, 0, 0]), upper(1, 90, [1, 0, 0, 0])]];
     along(&cube(), 2, &stays, &[0, 1], &[(0b10, late)])
 }
 
@@ -56,17 +64,17 @@ fn two_stays() -> Sheet {
 fn full(parted: bool, moves: usize) -> Sheet {
     let mut stays = Vec::new();
     for _ in 0..MOST_LOCATIONS {
-        stays.push((0..6).map(|k| upper(1 + k % 4, 900 - 10 * k as i16, [1; 3])).collect::<Vec<Guard>>());
+        stays.push((0..6).map(|k| upper(1 + k % 4, 900 - 10 * k as i16, [1, 1, 1, 0])).collect::<Vec<Guard>>());
     }
     if parted {
-        stays[0] = vec![upper(1, 300, [1, 0, 0]), upper(1, 300, [0, 1, 0]), upper(1, 300, [0, 0, 1])];
-        stays[0].extend((1..4).map(|k| upper(1 + k, 900, [1; 3])));
+        stays[0] = vec![upper(1, 300, [1, 0, 0, 0]), upper(1, 300, [0, 1, 0, 0]), upper(1, 300, [0, 0, 1, 0])];
+        stays[0].extend((1..4).map(|k| upper(1 + k, 900, [1, 1, 1, 0])));
     }
     let mut steps = Vec::new();
     for number in 0..moves {
         let mut guards = Vec::new();
         for k in 0..3 {
-            guards.push(upper(1 + k % 4, 800 - 10 * k as i16, [1; 3]));
+            guards.push(upper(1 + k % 4, 800 - 10 * k as i16, [1, 1, 1, 0]));
             let since = if parted { 3 * number + k + 1 } else { k + 1 };
             guards.push(lower(1, 2 * since as i16));
         }
@@ -79,12 +87,12 @@ fn full(parted: bool, moves: usize) -> Sheet {
 
 // Each lower limit, six at a move and one on its arrival, cuts a little off: one piece with 21 inequalities.
 fn shaved() -> Sheet {
-    let mut stays = vec![vec![upper(1, 0, [1; 3])]];
+    let mut stays = vec![vec![upper(1, 0, [1, 1, 1, 0])]];
     let mut steps = Vec::new();
     for number in 0..3 {
         let guards: Vec<Guard> = (1..=6).map(|k| lower(1, 7 * number + k)).collect();
         steps.push((0, guards));
-        stays.push(vec![upper(1, 0, [1; 3]), lower(1, 7 * number + 7)]);
+        stays.push(vec![upper(1, 0, [1, 1, 1, 0]), lower(1, 7 * number + 7)]);
     }
     along(&cube(), 1, &stays, &[0, 1, 2, 3], &steps)
 }
@@ -99,7 +107,7 @@ fn unlimited() -> Sheet {
 // Sheets around a run in the middle of the ranges, of the reference's own making, with that many moves and few
 // limits. Those with two to nine pieces are taken.
 fn around_a_run(random: &mut Random, moves: usize, count: usize) -> Vec<Sheet> {
-    let shape = Shape { parameters: 3, width: 63, clocks: 3, locations: 3, transitions: 6, moves, guards: 2 };
+    let shape = Shape { version: 1, parameters: 3, width: 63, clocks: 3, locations: 3, transitions: 6, moves, guards: 2 };
     let mut list = Vec::new();
     while list.len() < count {
         let mut sheet = crossed(random, shape).sheet;
@@ -122,6 +130,7 @@ pub fn all(n: usize) -> Vec<Family> {
     }
     let mut push = |name, moves, sheets| all.push(Family { name, moves, growing: false, sheets });
     push("the least of three", 0, vec![least()]);
+    push("the least of four", 0, vec![least_of_four()]);
     push("two stays", 1, vec![two_stays()]);
     push("21 inequalities, one piece", 3, vec![shaved()]);
     push("no limits", 32, vec![unlimited()]);

@@ -1,36 +1,43 @@
 // Families of systems to measure.
-use crate::system::{value, Expr, System, MOST};
+use crate::system::{dot, value, Expr, Ranges, System, Valuation, MOST, PARAMETERS};
 use reference::random::Random;
 
-const CUBE: [(i16, i16); 3] = [(0, 63), (0, 63), (0, 63)];
+// Some 280,000 valuations.
+const CUBE: Ranges = [(0, 22); PARAMETERS];
+
+// The middle of the cube.
+const MIDDLE: Valuation = [11; PARAMETERS];
+
+// An expression of some coefficients that is 0 at a valuation.
+fn zero_at(coefs: [i32; PARAMETERS], v: Valuation) -> Expr {
+    let mut e = [-dot(&coefs, v) as i32; 1 + PARAMETERS];
+    e[1..].copy_from_slice(&coefs);
+    e
+}
 
 // All valuations of the ranges, in lexicographic order.
-fn valuations(ranges: [(i16, i16); 3]) -> Vec<[i16; 3]> {
-    let [p, q, r] = ranges;
+fn valuations(ranges: Ranges) -> Vec<Valuation> {
     let mut all = Vec::new();
-    for x in p.0..=p.1 {
-        for y in q.0..=q.1 {
-            all.extend((r.0..=r.1).map(|z| [x, y, z]));
-        }
-    }
+    System { ranges, list: Vec::new() }.each(&mut |v| {
+        all.push(v);
+        false
+    });
     all
 }
 
-// A random half-space through a point of the ranges; none of its three numbers is past `most`.
-fn half_space(random: &mut Random, ranges: [(i16, i16); 3], most: i64) -> Expr {
-    let [p, q, r] = [0; 3].map(|_| random.within(-most, most) as i32);
-    let [x, y, z] = ranges.map(|(low, high)| random.within(low as i64, high as i64) as i32);
-    [-(p * x + q * y + r * z), p, q, r]
+// The half-space with the point v put on its border; no coefficient is past `most`.
+fn through(random: &mut Random, v: Valuation, most: i64) -> Expr {
+    zero_at([0; PARAMETERS].map(|_| random.within(-most, most) as i32), v)
 }
 
-// The half-space with the point v put on its border.
-fn through(random: &mut Random, v: [i16; 3], most: i64) -> Expr {
-    let [p, q, r] = [0; 3].map(|_| random.within(-most, most) as i32);
-    [-(p * v[0] as i32 + q * v[1] as i32 + r * v[2] as i32), p, q, r]
+// A random half-space through a point of the ranges.
+fn half_space(random: &mut Random, ranges: Ranges, most: i64) -> Expr {
+    let v = ranges.map(|(low, high)| random.within(low as i64, high as i64) as i16);
+    through(random, v, most)
 }
 
 // What is left of a list of valuations under one more inequality.
-fn kept(left: &[[i16; 3]], e: &Expr) -> usize {
+fn kept(left: &[Valuation], e: &Expr) -> usize {
     left.iter().filter(|&&v| value(e, v) >= 0).count()
 }
 
@@ -68,15 +75,17 @@ fn without_solution(random: &mut Random, least: usize, most: i64) -> System {
 // An expression and its opposite, -e - 1 ≥ 0, behind other inequalities that leave the middle.
 fn opposites(random: &mut Random, inequalities: usize) -> System {
     let mut list = many_solutions(random, inequalities - 2).list;
-    let e = through(random, [32, 32, 32], 9);
-    list.extend([e, [-1 - e[0], -e[1], -e[2], -e[3]]]);
+    let e = through(random, MIDDLE, 9);
+    let mut opposite = e.map(|x| -x);
+    opposite[0] -= 1;
+    list.extend([e, opposite]);
     System { ranges: CUBE, list }
 }
 
 // Half-spaces that leave only valuations in the last part of the order.
 fn late_solution(random: &mut Random, inequalities: usize) -> System {
-    let v = [60, 50, 40].map(|low| random.within(low, 63) as i16);
-    let mut list = vec![[-(v[0] as i32), 1, 0, 0], [-(v[1] as i32), 0, 1, 0]];
+    let v = [20, 18, 15, 12].map(|low| random.within(low, 22) as i16);
+    let mut list = vec![zero_at([1, 0, 0, 0], v), zero_at([0, 1, 0, 0], v)];
     while list.len() < inequalities {
         let mut e = through(random, v, 9);
         e[0] += random.within(0, 20) as i32;
@@ -89,8 +98,8 @@ fn late_solution(random: &mut Random, inequalities: usize) -> System {
 fn many_solutions(random: &mut Random, inequalities: usize) -> System {
     let mut list = Vec::new();
     while list.len() < inequalities {
-        let mut e = through(random, [32, 32, 32], 9);
-        e[0] += random.within(100, 400) as i32;
+        let mut e = through(random, MIDDLE, 9);
+        e[0] += random.within(50, 200) as i32;
         list.push(e);
     }
     System { ranges: CUBE, list }
@@ -98,9 +107,10 @@ fn many_solutions(random: &mut Random, inequalities: usize) -> System {
 
 // Differences of two parameters and bounds of one, as clocks give them: coefficients are -1, 0 and 1.
 fn difference(random: &mut Random) -> Expr {
-    let mut e = [random.within(-20, 20) as i32, 0, 0, 0];
-    let first = random.within(1, 3) as usize;
-    let second = random.within(1, 3) as usize;
+    let mut e = [0; 1 + PARAMETERS];
+    e[0] = random.within(-10, 10) as i32;
+    let first = random.within(1, PARAMETERS as i64) as usize;
+    let second = random.within(1, PARAMETERS as i64) as usize;
     e[first] += 1;
     e[second] -= 1;
     e
@@ -121,21 +131,21 @@ fn zero(e: Expr) -> [Expr; 2] {
     [e, e.map(|x| -x)]
 }
 
-// Systems in which the best of the later parameters says little, so that most branches are entered in vain.
+// Systems in which the best of the others says little, so that most branches are entered in vain.
 fn contrived() -> Vec<System> {
     let sums: [&[Expr]; 6] = [
         // an even sum is odd
-        &zero([-189, 2, 2, 2]),
-        // the same without p, so that each p is tried
-        &zero([-63, 0, 2, 2]),
-        // no p and no q: each pair is tried for an r that is never there
-        &zero([-63, 0, 0, 2]),
-        // each pair leaves half a number for r
-        &zero([-189, 4, 6, 2]),
+        &zero([-89, 2, 2, 2, 2]),
+        // the same without the first parameter, so that each of its numbers is tried
+        &zero([-67, 0, 2, 2, 2]),
+        // the last parameter alone: each triple is tried for a number that is never there
+        &zero([-23, 0, 0, 0, 2]),
+        // each triple leaves half a number for the last
+        &zero([-89, 4, 6, 8, 2]),
         // two planes that meet in no whole point
-        &[[-95, 1, 1, 1], [94, -1, -1, 1], [94, 1, -1, -1], [-95, -1, 1, -1], [31, 0, 0, -1]],
-        // r lies both above and below a middle that each pair shifts
-        &[[-33, 1, -1, 2], [32, -1, 1, -2]],
+        &[[-33, 0, 1, 1, 1], [32, 0, -1, -1, 1], [32, 0, 1, -1, -1], [-33, 0, -1, 1, -1], [10, 0, 0, 0, -1]],
+        // the last lies both above and below a middle that the others shift
+        &[[-11, 1, -1, 1, 2], [10, -1, 1, -1, -2]],
     ];
     let mut all = Vec::new();
     for list in sums {
@@ -147,22 +157,40 @@ fn contrived() -> Vec<System> {
         let random = &mut Random::new(seed);
         let mut list = Vec::new();
         while list.len() < MOST - 2 {
-            let mut e = through(random, [32, 32, 32], most);
-            e[0] += 100 * most as i32;
+            let mut e = through(random, MIDDLE, most);
+            e[0] += 50 * most as i32;
             list.push(e);
         }
-        list.extend(zero([-63, 0, 0, 2]));
+        list.extend(zero([-23, 0, 0, 0, 2]));
         all.push(System { ranges: CUBE, list });
     }
     all
 }
 
+// A system as Windows asks it: three parameters of 64 numbers, small coefficients, a valuation that meets all but the last inequality, and
+// a last one that tests: a third of them is the opposite of an earlier one.
+fn asked_by_windows(random: &mut Random, inequalities: usize) -> System {
+    let v = [0; PARAMETERS].map(|_| random.within(5, 58) as i16);
+    let mut list: Vec<Expr> = Vec::new();
+    while list.len() + 1 < inequalities {
+        let mut coefs = [0; PARAMETERS];
+        coefs[..3].fill_with(|| [-2, -1, -1, 0, 0, 0, 1, 1, 2][random.within(0, 8) as usize]);
+        let mut e = zero_at(coefs, v);
+        e[0] += random.within(0, 60) as i32;
+        list.push(e);
+    }
+    let mut last = list[random.within(0, list.len() as i64 - 1) as usize].map(|x| -x);
+    last[0] += if random.within(0, 2) == 0 { -1 } else { random.within(-60, 60) as i32 };
+    list.push(last);
+    System { ranges: [(0, 63), (0, 63), (0, 63), (0, 0)], list }
+}
+
 // Small and large coefficients, as random as the other systems, over other ranges.
 fn other_ranges(random: &mut Random) -> System {
-    let mut ranges = [(0, 0); 3];
+    let mut ranges = [(0, 0); PARAMETERS];
     for range in &mut ranges {
         let low = random.within(-40, 40);
-        let width = [0, 0, 1, 2, 7, 31][random.within(0, 5) as usize];
+        let width = [0, 0, 1, 2, 7, 15][random.within(0, 5) as usize];
         *range = (low as i16, (low + width) as i16);
     }
     let count = random.within(0, 12);
@@ -176,13 +204,13 @@ fn other_ranges(random: &mut Random) -> System {
 
 // Edges: nothing to try, one valuation, the ends of the numbers.
 fn edges() -> Vec<System> {
-    let one = [(0, 0); 3];
-    let empty = [(0, 0), (1, 0), (0, 0)];
-    let ends = [(i16::MIN, i16::MIN + 1), (i16::MAX - 1, i16::MAX), (0, 0)];
-    let wide = [i32::MIN, i32::MAX, i32::MAX, i32::MIN];
+    let one = [(0, 0); PARAMETERS];
+    let empty = [(0, 0), (1, 0), (0, 0), (0, 3)];
+    let ends = [(i16::MIN, i16::MIN + 1), (i16::MAX - 1, i16::MAX), (0, 0), (-1, 1)];
+    let wide = [i32::MIN, i32::MAX, i32::MAX, i32::MIN, i32::MIN];
     let mut all = Vec::new();
     for ranges in [one, empty, ends] {
-        for list in [vec![], vec![[0; 4]], vec![[-1, 0, 0, 0]], vec![wide; MOST], vec![[i32::MAX; 4], [i32::MIN; 4]]] {
+        for list in [vec![], vec![[0; 5]], vec![[-1, 0, 0, 0, 0]], vec![wide; MOST], vec![[i32::MAX; 5], [i32::MIN; 5]]] {
             all.push(System { ranges, list });
         }
     }
@@ -192,6 +220,8 @@ fn edges() -> Vec<System> {
 pub enum Question {
     First,
     Count,
+    // Whether there is one, with a guess.
+    Some(Valuation),
 }
 
 pub struct Family {
@@ -208,7 +238,7 @@ fn family(name: &'static str, question: Question, judged: bool, systems: Vec<Sys
 
 // All families, with n systems each where they are random.
 pub fn all(n: usize) -> Vec<Family> {
-    use Question::{Count, First};
+    use Question::{Count, First, Some};
     let random = &mut Random::new(2024);
     let sizes = |i: usize| 3 + i % (MOST - 2);
     let planes: Vec<System> = (0..n).map(|i| without_solution(random, sizes(i), 9)).collect();
@@ -218,6 +248,7 @@ pub fn all(n: usize) -> Vec<Family> {
     let pairs: Vec<System> = (0..n).map(|i| opposites(random, sizes(i))).collect();
     let late: Vec<System> = (0..n).map(|i| late_solution(random, sizes(i))).collect();
     let many: Vec<System> = (0..n).map(|i| many_solutions(random, sizes(i))).collect();
+    let windows: Vec<System> = (0..n).map(|i| asked_by_windows(random, 2 + i % 23)).collect();
     let others: Vec<System> = (0..n * 10).map(|_| other_ranges(random)).collect();
     vec![
         family("no solution, coefficients to 9", First, true, planes.clone()),
@@ -226,6 +257,8 @@ pub fn all(n: usize) -> Vec<Family> {
         family("no solution, 25 by repetition", First, true, padded),
         family("no solution, e and its opposite", First, true, pairs),
         family("no solution, count", Count, true, planes),
+        family("as Windows asks, first", First, false, windows.clone()),
+        family("as Windows asks, some", Some([31, 31, 31, 0]), false, windows),
         family("found late", First, false, late),
         family("many solutions, first", First, false, many.clone()),
         family("many solutions, count", Count, false, many),

@@ -14,7 +14,8 @@ const RTLD_LOCAL: c_int = 0;
 const RTLD_NOW: c_int = 2;
 
 type WindowsCount = unsafe extern "C" fn(*const u8, usize) -> i64;
-type SweepSheet = unsafe extern "C" fn(*const u8, usize, i64, i64, i64) -> i64;
+// A build from before the fourth parameter has one number less, and does not see the last one.
+type SweepSheet = unsafe extern "C" fn(*const u8, usize, i64, i64, i64, i64) -> i64;
 
 // The two functions of one build.
 pub struct Programs {
@@ -67,8 +68,8 @@ impl Programs {
 
     // 0 for a run, 1 for none, else the refusal's number.
     pub fn sweep(&self, file: &[u8], v: Valuation) -> i64 {
-        let (file, [p, q, r]) = black_box((file, v));
+        let (file, [p, q, r, s]) = black_box((file, v));
         // The function reads the slice, and asks nothing of its contents.
-        unsafe { (self.sweep)(file.as_ptr(), file.len(), p, q, r) }
+        unsafe { (self.sweep)(file.as_ptr(), file.len(), p, q, r, s) }
     }
 }

@@ -11,32 +11,31 @@ struct Times {
     scan: Vec<f64>,
 }
 
+// The answer as a number: whether there is a valuation, or how many there are.
 fn proved(question: &Question, input: &Input) -> i64 {
     match question {
         Question::First => searches::first(black_box(input)),
         Question::Count => searches::count(black_box(input)),
+        Question::Some(guess) => searches::some(black_box(input), *guess),
     }
 }
 
 fn scan(question: &Question, s: &System) -> i64 {
     match question {
-        Question::First => searches::scan_first(black_box(s)),
+        Question::First | Question::Some(_) => searches::scan_first(black_box(s)).is_some() as i64,
         Question::Count => searches::scan_count(black_box(s)),
     }
 }
 
 // Ends the run if the two searches disagree.
 fn compare(f: &Family, s: &System) {
-    let (a, b) = (proved(&f.question, &s.input()), scan(&f.question, s));
-    if a != b {
+    let input = s.input();
+    let (a, b) = (proved(&f.question, &input), scan(&f.question, s));
+    if a != b || searches::whole_first(&input) != searches::scan_first(s) {
         println!("the searches disagree in '{}': proved {a}, scan {b}, on {:?} {:?}", f.name, s.ranges, s.list);
         std::process::exit(1);
     }
-    let wanted = match f.question {
-        Question::First => -1,
-        Question::Count => 0,
-    };
-    if f.judged && a != wanted {
+    if f.judged && a != 0 {
         println!("a system of '{}' has a solution: {:?} {:?}", f.name, s.ranges, s.list);
         std::process::exit(1);
     }

@@ -6,7 +6,7 @@ use std::hint::black_box;
 
 mod proved {
     extern "C" {
-        pub fn sweep_sheet(sheet: *const u8, length: usize, p1: i64, p2: i64, p3: i64) -> i64;
+        pub fn sweep_sheet(sheet: *const u8, length: usize, p1: i64, p2: i64, p3: i64, p4: i64) -> i64;
     }
 }
 
@@ -22,9 +22,9 @@ struct Times {
 
 // 0 for a run, 1 for none, else the refusal's number.
 pub fn sweep(file: &[u8], v: Valuation) -> i64 {
-    let (file, [p, q, r]) = black_box((file, v));
+    let (file, [p, q, r, s]) = black_box((file, v));
     // The function reads the slice, and asks nothing of its contents.
-    unsafe { proved::sweep_sheet(file.as_ptr(), file.len(), p, q, r) }
+    unsafe { proved::sweep_sheet(file.as_ptr(), file.len(), p, q, r, s) }
 }
 
 fn proved(x: &Input) -> i64 {

@@ -132,5 +132,5 @@ pub fn run(quick: bool) {
         }
     }
     let least = times.iter().map(|t| t.ratio(valuations)).fold(f64::INFINITY, f64::min);
-    println!("\nThree ranges of 64, fewer than ten pieces: a Sweep at each valuation takes at least {least:.1} times as long as one Windows.");
+    println!("\n{valuations} valuations, fewer than ten pieces: a Sweep at each takes at least {least:.1} times as long as one Windows.");
 }

@@ -1,19 +1,20 @@
 //! Which bytes and numbers are thrown at Sweep.
 
-use reference::planned::{planned, random_shape, valuation, Planned};
+use reference::planned::{planned, random_shape, valuation, Planned, Shape};
 use reference::random::Random;
 use reference::samples::{biggest_sheet, random_sheet, Size};
-use reference::sheet::{read, Parameter, Sheet, MOST_BYTES};
+use reference::sheet::{parameters_of, read, Parameter, Sheet, MOST_BYTES, MOST_PARAMETERS};
+use reference::valuations::Valuation;
 use reference::vectors::damage;
 use reference::writer;
 
 /// The most bytes of a case: more than a sheet file may have.
 pub const MOST: usize = 3 * MOST_BYTES;
 
-/// The bytes of a file, and three numbers.
+/// The bytes of a file, and four numbers.
 pub struct Case {
     pub file: Vec<u8>,
-    pub numbers: [i64; 3],
+    pub numbers: Valuation,
 }
 
 /// A case of any kind.
@@ -34,36 +35,49 @@ fn good(random: &mut Random) -> Vec<u8> {
     writer::file(&good_sheet(random))
 }
 
-/// A good sheet, most often one with a run at some valuation.
+/// A version, one or the other as often.
+fn version(random: &mut Random) -> u8 {
+    1 + random.below(2) as u8
+}
+
+/// A good sheet of either version, most often one with a run at some valuation.
 fn good_sheet(random: &mut Random) -> Sheet {
+    let version = version(random);
+    let most = parameters_of(version);
     match random.below(64) {
         0 => {
-            let (parameters, clocks) = (random.below(4), 1 + random.below(4));
-            biggest_sheet(random, parameters, clocks as u8)
+            let (parameters, clocks) = (random.below(most + 1), 1 + random.below(4));
+            biggest_sheet(random, version, parameters, clocks as u8)
         }
-        1 | 2 => random_sheet(random, Size::LARGE),
-        3..=9 => random_sheet(random, Size::MIDDLE),
-        10..=19 => random_sheet(random, Size::SMALL),
+        1 | 2 => random_sheet(random, version, Size::LARGE),
+        3..=9 => random_sheet(random, version, Size::MIDDLE),
+        10..=19 => random_sheet(random, version, Size::SMALL),
         n => {
             let moves = if n < 30 { 32 } else { 5 };
             let guards = random.below(5);
-            let shape = random_shape(random, moves, guards, 63);
+            let shape = Shape {
+                version,
+                parameters: random.below(most + 1),
+                ..random_shape(random, moves, guards, 63)
+            };
             planned(random, shape).sheet
         }
     }
 }
 
-/// A good file that was damaged.
+/// A good file of either version that was damaged.
 fn damaged(random: &mut Random) -> Vec<u8> {
-    let mut files = match random.below(8) {
-        0 => damage::cut(random, 1),
-        1 => damage::lengthened(random, 1),
-        2 => damage::resized(random, 1),
-        3 => damage::moved(random, 1),
-        4 => damage::rerouted(random, 1),
-        5 => damage::noise(random, 1),
+    let version = version(random);
+    let mut files = match random.below(9) {
+        0 => damage::cut(random, version, 1),
+        1 => damage::lengthened(random, version, 1),
+        2 => damage::resized(random, version, 1),
+        3 => damage::moved(random, version, 1),
+        4 => damage::rerouted(random, version, 1),
+        5 => damage::noise(random, version, 1),
         6 => vec![flipped(random)],
-        _ => damage::changed(random, 1),
+        7 => damage::widened(random, 1),
+        _ => damage::changed(random, version, 1),
     };
     files.pop().unwrap_or_default()
 }
@@ -91,7 +105,7 @@ fn contents_only(random: &mut Random) -> Vec<u8> {
         let length = random.below(60);
         *body = (0..length).map(|_| random.byte() % 8).collect();
     }
-    writer::assemble(&bodies)
+    writer::assemble(version(random), &bodies)
 }
 
 /// A file with too few or too many bytes, or close to that.
@@ -116,17 +130,17 @@ fn length(random: &mut Random) -> usize {
     }
 }
 
-/// Three numbers: most often a valuation of the file's sheet, if it holds one.
-fn numbers(random: &mut Random, file: &[u8]) -> [i64; 3] {
+/// Four numbers: most often a valuation of the file's sheet, if it holds one.
+fn numbers(random: &mut Random, file: &[u8]) -> Valuation {
     let parameters = read(file).map(|sheet| sheet.parameters);
     let parameters = parameters.unwrap_or_default();
     let mut v = valuation(random, &parameters);
     if random.once_in(8) {
-        let k = random.below(3);
+        let k = random.below(MOST_PARAMETERS);
         v[k] = strange(random, parameters.get(k));
     }
     if random.once_in(24) {
-        v = [random.word(), random.word(), random.word()];
+        v.fill_with(|| random.word());
     }
     v
 }
@@ -150,7 +164,12 @@ fn strange(random: &mut Random, parameter: Option<&Parameter>) -> i64 {
 
 /// The case of a planned sheet at the valuation that it was planned for.
 pub fn planned_case(random: &mut Random) -> Case {
-    let shape = random_shape(random, 32, 6, 63);
+    let version = version(random);
+    let shape = Shape {
+        version,
+        parameters: random.below(parameters_of(version) + 1),
+        ..random_shape(random, 32, 6, 63)
+    };
     let Planned { sheet, valuation } = planned(random, shape);
     Case {
         file: writer::file(&sheet),

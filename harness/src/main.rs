@@ -1,11 +1,11 @@
-//! Throws random, damaged and good sheets with any three numbers at Sweep's C function and compares
+//! Throws random, damaged and good sheets with any four numbers at Sweep's C function and compares
 //! each answer with the reference. The bytes lie at either end of pages that can be read only, between
 //! pages that cannot be used, so that a read of one byte too many, or a write, ends the program.
 //!
 //! Use: `harness [--count N] [--seconds S] [--first N] [--cases FILE]`. It stops after N cases or S
 //! seconds, whichever comes first. Case k is the same at every run; `--first N` starts at case N. With
 //! `--cases` it calls nothing, and writes the cases and their answers to a file for the C program
-//! beside it: length (u32), bytes, three numbers and the answer (i64), all little-endian.
+//! beside it: length (u32), bytes, four numbers and the answer (i64), all little-endian.
 
 mod cases;
 mod faults;
@@ -15,14 +15,18 @@ use cases::Case;
 use pages::{Pages, Side};
 use reference::random::Random;
 use reference::sweep::sweep;
+use std::collections::BTreeMap;
 use std::io::Write;
 use std::process::ExitCode;
 use std::time::{Duration, Instant};
 
 extern "C" {
     /// See include/sweep.h.
-    fn sweep_sheet(sheet: *const u8, length: usize, p1: i64, p2: i64, p3: i64) -> i64;
+    fn sweep_sheet(sheet: *const u8, length: usize, p1: i64, p2: i64, p3: i64, p4: i64) -> i64;
 }
+
+/// A run, void, and the refusals that Sweep can give.
+const ANSWERS: [i64; 8] = [0, 1, 2, 3, 4, 5, 6, 16];
 
 /// What the command line asks for.
 struct Options {
@@ -95,9 +99,9 @@ fn expected(case: &Case) -> i64 {
 /// What the C function answers, with the bytes at that side of the pages.
 fn answered(pages: &mut Pages, case: &Case, side: Side) -> i64 {
     let sheet = pages.put(&case.file, side);
-    let [p1, p2, p3] = case.numbers;
+    let [p1, p2, p3, p4] = case.numbers;
     // SAFETY: that many bytes can be read there.
-    unsafe { sweep_sheet(sheet, case.file.len(), p1, p2, p3) }
+    unsafe { sweep_sheet(sheet, case.file.len(), p1, p2, p3, p4) }
 }
 
 /// Compares all the cases. The error names the first difference, or an answer that no case had.
@@ -105,7 +109,7 @@ fn compare(options: &Options) -> Result<(), String> {
     let start = Instant::now();
     let limit = Duration::from_secs(options.seconds);
     let mut pages = Pages::new(cases::MOST);
-    let mut counts = [0u64; 7];
+    let mut counts: BTreeMap<i64, u64> = ANSWERS.map(|answer| (answer, 0)).into();
     let mut done = 0;
     faults::watch();
     while done < options.count && start.elapsed() < limit {
@@ -119,14 +123,14 @@ fn compare(options: &Options) -> Result<(), String> {
                 return Err(difference(k, &case, side, got, right));
             }
         }
-        counts[right as usize] += 1;
+        *counts.entry(right).or_default() += 1;
         done += 1;
     }
     let seconds = start.elapsed().as_secs_f64();
     println!("harness: {done} cases, each called twice, agree ({seconds:.1} s)");
-    println!("harness: answers 0 to 6: {counts:?}");
-    match counts.iter().position(|&n| n == 0) {
-        Some(answer) if done >= 10_000 => Err(format!("no case has the answer {answer}")),
+    println!("harness: answers: {counts:?}");
+    match counts.iter().find(|&(_, &n)| n == 0) {
+        Some((answer, _)) if done >= 10_000 => Err(format!("no case has the answer {answer}")),
         _ => Ok(()),
     }
 }

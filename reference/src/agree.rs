@@ -5,14 +5,15 @@ use crate::parts::ends;
 use crate::planned::{planned, random_shape, valuation, Planned};
 use crate::random::Random;
 use crate::samples::{biggest_sheet, random_sheet, Size};
-use crate::sheet::Sheet;
+use crate::sheet::{parameters_of, Sheet, MOST_PARAMETERS};
 use crate::sweep::{sweep, Matrix, SIDE};
+use crate::valuations::Valuation;
 use crate::weight::Weight;
 use crate::writer;
 
 /// Sweep's matrix and the instants' agree, and the padding is zero, not strict. Answers whether
 /// there is a run.
-fn same(sheet: &Sheet, v: [i64; 3]) -> bool {
+fn same(sheet: &Sheet, v: Valuation) -> bool {
     let found = sweep(&writer::file(sheet), v).unwrap();
     let clocks = usize::from(sheet.clocks);
     let inner = found.map(|m| m[..=clocks].iter().map(|r| r[..=clocks].to_vec()).collect());
@@ -28,15 +29,19 @@ fn pairs(n: usize) -> impl Iterator<Item = (usize, usize)> {
     (0..n).flat_map(move |i| (0..n).map(move |j| (i, j)))
 }
 
-/// Sweep and the instants agree on planned sheets, at the planned valuation and at others.
+/// Sweep and the instants agree on planned sheets of both versions, at the planned valuation and at others.
 #[test]
 fn agree_on_planned_sheets() {
     let random = &mut Random::new(11);
     let (mut runs, mut all) = (0, 0);
     for (moves, count) in [(0, 2000), (4, 15000), (12, 4000), (32, 1500)] {
-        for _ in 0..count {
+        for n in 0..count {
             let guards = 1 + random.below(6);
-            let shape = random_shape(random, moves, guards, 20);
+            let mut shape = random_shape(random, moves, guards, 20);
+            if n % 3 == 2 {
+                shape.version = 2;
+                shape.parameters = random.below(MOST_PARAMETERS + 1);
+            }
             let Planned {
                 sheet,
                 valuation: v,
@@ -57,23 +62,25 @@ fn agree_on_planned_sheets() {
     );
 }
 
-/// Sweep and the instants agree on random sheets.
+/// Sweep and the instants agree on random sheets of both versions.
 #[test]
 fn agree_on_random_sheets() {
     let random = &mut Random::new(12);
     for (size, count) in [
-        (Size::SMALL, 20000),
-        (Size::ROUTED, 3000),
+        (Size::SMALL, 20_000),
+        (Size::ROUTED, 3_000),
         (Size::LARGE, 500),
     ] {
-        for _ in 0..count {
-            let sheet = random_sheet(random, size);
+        for n in 0..count {
+            let sheet = random_sheet(random, [1, 2][n % 2], size);
             same(&sheet, valuation(random, &sheet.parameters));
         }
     }
     for clocks in 1..=4 {
-        let sheet = biggest_sheet(random, 3, clocks);
-        same(&sheet, valuation(random, &sheet.parameters));
+        for version in [1, 2] {
+            let sheet = biggest_sheet(random, version, parameters_of(version), clocks);
+            same(&sheet, valuation(random, &sheet.parameters));
+        }
     }
 }
 
@@ -92,8 +99,8 @@ fn agree_with_single_runs() {
     let mut runs = 0;
     for _ in 0..1000 {
         let sheet = tiny(random);
-        let list = ends(&sheet, [0; 3], PARTS, PARTS * MINUTES);
-        match sweep(&writer::file(&sheet), [0; 3]).unwrap() {
+        let list = ends(&sheet, [0; 4], PARTS, PARTS * MINUTES);
+        match sweep(&writer::file(&sheet), [0; 4]).unwrap() {
             None => assert!(list.is_empty(), "{sheet:?}"),
             Some(m) => {
                 runs += 1;

@@ -1,22 +1,24 @@
 //! Bounds: the entries of a zone's matrix, numbers that rest on the parameters (paper 01, "Cutting the
 //! ranges").
 
+use crate::sheet::{Guard, MOST_PARAMETERS};
 use crate::valuations::Valuation;
 use crate::weight::Weight;
 
-/// An expression: the constant, and a coefficient for each of three parameters.
-pub type Expr = [i64; 4];
+/// An expression: the constant, and a coefficient for each parameter.
+pub type Expr = [i64; 1 + MOST_PARAMETERS];
 
 /// The value of an expression at a valuation.
 pub fn value(e: Expr, v: Valuation) -> i64 {
-    let [constant, p, q, r] = e;
-    constant + p * v[0] + q * v[1] + r * v[2]
+    let terms = e[1..].iter().zip(v);
+    e[0] + terms.map(|(c, x)| c * x).sum::<i64>()
 }
 
 /// The expression of the opposite of e >= 0, parameters being whole.
 pub fn opposite(e: Expr) -> Expr {
-    let [constant, p, q, r] = e;
-    [-constant - 1, -p, -q, -r]
+    let mut opposite = e.map(|x| -x);
+    opposite[0] -= 1;
+    opposite
 }
 
 /// A bound: none, or an expression with its mark.
@@ -37,9 +39,18 @@ pub enum Test {
 impl Bound {
     /// Zero, not strict.
     pub const ZERO: Bound = Bound::At {
-        expr: [0; 4],
+        expr: [0; 1 + MOST_PARAMETERS],
         strict: false,
     };
+
+    /// The bound that a guard gives.
+    pub fn of(guard: &Guard) -> Bound {
+        let c = guard.coefficients;
+        Bound::At {
+            expr: [guard.constant, c[0], c[1], c[2], c[3]].map(i64::from),
+            strict: guard.strict,
+        }
+    }
 
     /// The sum: expressions added; strict if either is; none if either is.
     pub fn sum(self, other: Bound) -> Bound {
@@ -91,7 +102,7 @@ mod tests {
         if random.once_in(6) {
             return Bound::None;
         }
-        let expr = [0; 4].map(|_| i64::from(random.from_to(-3, 3)));
+        let expr = [0; 5].map(|_| i64::from(random.from_to(-3, 3)));
         let strict = random.once_in(2);
         Bound::At { expr, strict }
     }
@@ -103,7 +114,7 @@ mod tests {
         let random = &mut Random::new(21);
         for _ in 0..20000 {
             let (a, b) = (some(random), some(random));
-            let v = [0; 3].map(|_| i64::from(random.from_to(-4, 4)));
+            let v = [0; 4].map(|_| i64::from(random.from_to(-4, 4)));
             assert_eq!(a.sum(b).at(v), a.at(v).sum(b.at(v)));
             let yes = a.at(v).tighter(b.at(v));
             match a.tighter(b) {
@@ -120,8 +131,8 @@ mod tests {
     #[test]
     fn numbers_are_exact() {
         let at = |expr, strict| Bound::At { expr, strict };
-        let [a, b] = [[9_000_000, -7, 0, 2], [2_000_000, 5, -1, 0]];
-        let sum = at([11_000_000, -2, -1, 2], true);
+        let [a, b] = [[9_000_000, -7, 0, 2, 4], [2_000_000, 5, -1, 0, 9]];
+        let sum = at([11_000_000, -2, -1, 2, 13], true);
         assert_eq!(at(a, false).sum(at(b, true)), sum);
         for (s, t, constant) in [
             (false, false, -7_000_001),
@@ -129,7 +140,7 @@ mod tests {
             (true, true, -7_000_001),
             (true, false, -7_000_000),
         ] {
-            let test = Test::Asked([constant, 12, -1, -2]);
+            let test = Test::Asked([constant, 12, -1, -2, 5]);
             assert_eq!(at(a, s).tighter(at(b, t)), test);
         }
         for bound in [at(a, true), Bound::None] {

@@ -8,6 +8,7 @@
 //! no run if a way around is below zero.
 
 use crate::sheet::{Guard, Sheet};
+use crate::valuations::Valuation;
 use crate::weight::Weight;
 
 /// A path's length, made one number: at most c is 2 c + 1, below c is 2 c.
@@ -71,8 +72,8 @@ fn joined(x: Length, y: Length) -> Length {
 }
 
 /// The tightest bounds for clock 0 and the sheet's clocks at the end of the route, or nothing if
-/// there is no run. The three numbers are a valuation of the sheet.
-pub fn bounds(sheet: &Sheet, v: [i64; 3]) -> Option<Vec<Vec<Weight>>> {
+/// there is no run. The numbers are a valuation of the sheet.
+pub fn bounds(sheet: &Sheet, v: Valuation) -> Option<Vec<Vec<Weight>>> {
     let count = sheet.route.len() + 2;
     let mut instants = Instants::in_order(count);
     let mut zero_at = vec![0; usize::from(sheet.clocks) + 1];
@@ -117,7 +118,7 @@ pub fn bounds(sheet: &Sheet, v: [i64; 3]) -> Option<Vec<Vec<Weight>>> {
 
 /// Adds the inequalities of guards that hold now. `zero_at` gives the instant at which each clock was
 /// last zero; for clock 0 that is the present one.
-fn hold(instants: &mut Instants, zero_at: &[usize], guards: &[Guard], v: [i64; 3]) {
+fn hold(instants: &mut Instants, zero_at: &[usize], guards: &[Guard], v: Valuation) {
     for guard in guards {
         let terms = guard.coefficients.iter().zip(v);
         let sum: i64 = terms.map(|(&c, x)| i64::from(c) * x).sum();

@@ -5,13 +5,13 @@
 //!
 //! The sheets of the paper are not among them. They stand in the folder `sheets`, beside their texts.
 
-use crate::cuttings::{self, arrivals, drawn, edges, firsts, numbers};
+use crate::cuttings::{self, arrivals, drawn, edges, firsts, numbers, version_2, Record};
 use crate::family::Family;
 use crate::listing::listing;
 use crate::random::Random;
 use crate::samples::{at_most, biggest_sheet, range};
 use crate::sheet::Sheet;
-use crate::vectors::limits;
+use crate::vectors::{self, limits};
 use crate::writer;
 use std::collections::HashSet;
 
@@ -28,14 +28,17 @@ pub struct Case {
 
 /// All cases, in the order in which they are stored. A file that has come before is left out.
 pub fn cases() -> Vec<Case> {
-    let mut list = refused_files();
+    let mut list = refused_files(limits::cases());
     list.extend(far_places());
     list.extend(built(edges::cases()));
     list.push(largest_numbers());
-    list.extend(some_of_each());
+    list.extend(some_of_each(drawn::families(&mut Random::new(7))));
     list.extend(built(firsts::cases()));
     list.extend(built(arrivals::cases()));
     list.extend(built(numbers::cases()));
+    list.extend(refused_files(vectors::version_2::cases()));
+    list.extend(built(version_2::cases()));
+    list.extend(some_of_each(version_2::drawn(&mut Random::new(12))));
     let mut seen = HashSet::new();
     list.retain(|case| seen.insert(case.file.clone()));
     list
@@ -50,9 +53,9 @@ pub fn text(cases: &[Case]) -> String {
     named.collect()
 }
 
-/// Refusals 2 to 5: the files just past a limit of the file's rules.
-fn refused_files() -> Vec<Case> {
-    let cases = limits::cases().into_iter();
+/// Refusals 2 to 5 and 16: the files just past a limit of the file's rules.
+fn refused_files(cases: Vec<limits::Case>) -> Vec<Case> {
+    let cases = cases.into_iter();
     let refused = cases.filter(|case| case.result.refusal().is_some());
     let one = |case: limits::Case| Case {
         name: case.name.to_string(),
@@ -63,7 +66,7 @@ fn refused_files() -> Vec<Case> {
 
 /// Refusals 4 and 5 at the last bytes of the biggest sheet, where places have four digits.
 fn far_places() -> Vec<Case> {
-    let sheet = biggest_sheet(&mut Random::new(3), 3, 4);
+    let sheet = biggest_sheet(&mut Random::new(3), 1, 3, 4);
     let with_last = |number: usize| {
         let mut route = sheet.route.clone();
         *route.last_mut().expect("the route is the longest") = number as u8;
@@ -80,7 +83,7 @@ fn far_places() -> Vec<Case> {
         file,
     };
     vec![
-        one("a byte left over", writer::assemble(&bodies)),
+        one("a byte left over", writer::assemble(1, &bodies)),
         one(
             "the last move past the moves",
             with_last(sheet.transitions.len()),
@@ -106,8 +109,8 @@ fn built(cases: Vec<cuttings::Case>) -> Vec<Case> {
 /// A clock that is never reset beside one that each of 32 moves resets, with bounds as far from zero as they
 /// go, or nearly: those of the first clock are the sums of 33 above and of 32 below.
 fn largest_numbers() -> Case {
-    let stay = at_most(2, 0, 1000, [1000; 3]);
-    let leave = at_most(0, 2, -999, [-999; 3]);
+    let stay = at_most(2, 0, 1000, [1000, 1000, 1000, 0]);
+    let leave = at_most(0, 2, -999, [-999, -999, -999, 0]);
     let sheet = numbers::chain(&[range(0, 1); 3], stay, &[leave]);
     Case {
         name: "the largest numbers".to_string(),
@@ -117,9 +120,9 @@ fn largest_numbers() -> Case {
 
 /// The last sheets of each family of Windows' vectors whose listings are not too long. (The first ones of a
 /// family that is not drawn are the paper's.)
-fn some_of_each() -> Vec<Case> {
+fn some_of_each(families: Vec<Family<Record>>) -> Vec<Case> {
     let mut list = Vec::new();
-    for Family { name, records } in drawn::families(&mut Random::new(7)) {
+    for Family { name, records } in families {
         let files = records.into_iter().rev().map(|record| record.file);
         let short = files.filter(|file| listing(file).len() <= MOST_TEXT);
         for (k, file) in (1..).zip(short.take(OF_EACH)) {
@@ -144,11 +147,11 @@ mod tests {
         }
     }
 
-    /// Each refusal that a listing can show comes at several places (2 has one alone).
+    /// Each refusal that a listing can show comes at several places (2 and 16 have one alone).
     #[test]
     fn refusals_are_there() {
         let lines: HashSet<String> = cases().iter().map(|c| listing(&c.file)).collect();
-        for (number, places) in [(2, 1), (3, 13), (4, 40), (5, 7), (7, 7), (8, 4)] {
+        for (number, places) in [(2, 1), (3, 13), (4, 40), (5, 7), (7, 7), (8, 4), (16, 1)] {
             let start = format!("refused {number} place ");
             let count = lines.iter().filter(|line| line.starts_with(&start)).count();
             assert!(count >= places, "{count} places of refusal {number}");
@@ -172,7 +175,10 @@ mod tests {
         }
         assert!(listed(1, &["pieces 0 "]));
         assert!(listed(2, &["pieces 32 "]));
-        let sums = "bound 0 1 le -31968 -31968 -31968 -31968\nbound 0 2";
-        assert!(listed(2, &[sums, "bound 1 0 le 33000 33000 33000 33000\n"]));
+        let sums = "bound 0 1 le -31968 -31968 -31968 -31968 0\nbound 0 2";
+        assert!(listed(
+            2,
+            &[sums, "bound 1 0 le 33000 33000 33000 33000 0\n"]
+        ));
     }
 }

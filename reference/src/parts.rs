@@ -2,10 +2,11 @@
 //! (b), with the waits counted in parts of a minute.
 
 use crate::sheet::{Guard, Sheet};
+use crate::valuations::Valuation;
 
 /// All the end states of a sheet's runs at that valuation whose waits are at most `longest` parts,
 /// `parts` to a minute: the clocks, counted in parts, clock 0 first.
-pub fn ends(sheet: &Sheet, v: [i64; 3], parts: i64, longest: i64) -> Vec<[i64; 5]> {
+pub fn ends(sheet: &Sheet, v: Valuation, parts: i64, longest: i64) -> Vec<[i64; 5]> {
     let mut list = Vec::new();
     let search = Search {
         sheet,
@@ -20,7 +21,7 @@ pub fn ends(sheet: &Sheet, v: [i64; 3], parts: i64, longest: i64) -> Vec<[i64; 5
 /// What all visits share.
 struct Search<'a> {
     sheet: &'a Sheet,
-    v: [i64; 3],
+    v: Valuation,
     parts: i64,
     longest: i64,
 }
@@ -61,9 +62,10 @@ impl Search<'_> {
     /// Whether all those guards hold.
     fn hold(&self, guards: &[Guard], now: [i64; 5]) -> bool {
         guards.iter().all(|guard| {
-            let c = guard.coefficients.map(i64::from);
-            let minutes =
-                i64::from(guard.constant) + c[0] * self.v[0] + c[1] * self.v[1] + c[2] * self.v[2];
+            let mut minutes = i64::from(guard.constant);
+            for (k, x) in self.v.into_iter().enumerate() {
+                minutes += i64::from(guard.coefficients[k]) * x;
+            }
             let difference = now[usize::from(guard.a)] - now[usize::from(guard.b)];
             if guard.strict {
                 difference < self.parts * minutes

@@ -2,13 +2,15 @@
 //! meets, most of them with nothing to spare. Random guards alone leave few routes a run.
 
 use crate::random::Random;
-use crate::samples::{at_most, location, random_clocks, range, transition};
-use crate::sheet::{Guard, Parameter, Sheet, MOST_GUARDS};
+use crate::samples::{at_most, location, narrow, random_clocks, range, transition};
+use crate::sheet::{Guard, Parameter, Sheet, MOST_GUARDS, MOST_PARAMETERS};
+use crate::valuations::Valuation;
 
-/// What a planned sheet has: that many of each, up to that many guards at each place, and ranges up
-/// to that width.
+/// What a planned sheet has: its version, that many of each, up to that many guards at each place, and
+/// ranges up to that width.
 #[derive(Clone, Copy)]
 pub struct Shape {
+    pub version: u8,
     pub parameters: usize,
     pub width: i16,
     pub clocks: u8,
@@ -22,14 +24,15 @@ pub struct Shape {
 #[derive(Clone)]
 pub struct Planned {
     pub sheet: Sheet,
-    pub valuation: [i64; 3],
+    pub valuation: Valuation,
 }
 
-/// A random shape: up to those counts of parameters, moves and guards, few locations and
+/// A random shape of version 1: up to those counts of moves and guards, few locations and
 /// transitions, ranges up to that width.
 pub fn random_shape(random: &mut Random, moves: usize, guards: usize, width: i16) -> Shape {
     let locations = 1 + random.below(4);
     Shape {
+        version: 1,
         parameters: random.below(4),
         width,
         clocks: 1 + random.below(4) as u8,
@@ -59,7 +62,8 @@ pub fn crossed(random: &mut Random, shape: Shape) -> Planned {
         let lowest = random.from_to(-width, 3);
         *parameter = range(lowest, lowest + width);
     }
-    let mut valuation = [0; 3];
+    narrow(&mut sheet.parameters);
+    let mut valuation = [0; MOST_PARAMETERS];
     for (x, p) in valuation.iter_mut().zip(&sheet.parameters) {
         *x = i64::from((p.lowest + p.highest) / 2);
     }
@@ -71,7 +75,7 @@ fn around(
     random: &mut Random,
     shape: Shape,
     mut sheet: Sheet,
-    valuation: [i64; 3],
+    valuation: Valuation,
     draw: Draw,
 ) -> Planned {
     let seen = visits(random, &sheet);
@@ -103,7 +107,7 @@ fn stay_guards(
     random: &mut Random,
     shape: Shape,
     (firsts, lasts): &(Vec<Clocks>, Vec<Clocks>),
-    v: [i64; 3],
+    v: Valuation,
     draw: Draw,
 ) -> (Vec<Guard>, Vec<Guard>) {
     let only_cuts = |g: &Guard| g.a == 0 && firsts.iter().any(|x| x[usize::from(g.b)] == 0);
@@ -131,6 +135,7 @@ fn bare(random: &mut Random, shape: Shape) -> Sheet {
         transitions.push(transition(from as u8, to as u8, resets, &[]));
     }
     let mut sheet = Sheet {
+        version: shape.version,
         parameters: (0..shape.parameters)
             .map(|_| parameter(random, shape.width))
             .collect(),
@@ -139,6 +144,7 @@ fn bare(random: &mut Random, shape: Shape) -> Sheet {
         transitions,
         route: Vec::new(),
     };
+    narrow(&mut sheet.parameters);
     let mut here = 0;
     for _ in 0..shape.moves {
         let next: Vec<u8> = (0..shape.transitions as u8)
@@ -164,8 +170,8 @@ fn parameter(random: &mut Random, width: i16) -> Parameter {
 }
 
 /// A valuation of those parameters.
-pub fn valuation(random: &mut Random, parameters: &[Parameter]) -> [i64; 3] {
-    let mut v = [0; 3];
+pub fn valuation(random: &mut Random, parameters: &[Parameter]) -> Valuation {
+    let mut v = [0; MOST_PARAMETERS];
     for (x, p) in v.iter_mut().zip(parameters) {
         *x = i64::from(random.from_to(p.lowest, p.highest));
     }
@@ -231,7 +237,7 @@ fn guards(
     random: &mut Random,
     shape: Shape,
     values: &[Clocks],
-    v: [i64; 3],
+    v: Valuation,
     draw: Draw,
 ) -> Vec<Guard> {
     let count = random.below(shape.guards + 1);
@@ -245,7 +251,7 @@ fn guard(
     random: &mut Random,
     shape: Shape,
     values: &[Clocks],
-    v: [i64; 3],
+    v: Valuation,
     draw: Draw,
 ) -> Option<Guard> {
     let (a, b) = random_clocks(random, shape.clocks);
@@ -258,7 +264,7 @@ fn guard(
         random.below(4) as i64
     };
     let least = (halves + 1).div_euclid(2) + spare;
-    let mut coefficients = [0; 3];
+    let mut coefficients = [0; MOST_PARAMETERS];
     for coefficient in &mut coefficients[..shape.parameters] {
         *coefficient = draw(random);
     }
@@ -294,7 +300,7 @@ fn steep_coefficient(random: &mut Random) -> i16 {
 }
 
 /// The sum of coefficient times number.
-fn product(coefficients: [i16; 3], v: [i64; 3]) -> i64 {
+fn product(coefficients: [i16; MOST_PARAMETERS], v: Valuation) -> i64 {
     let terms = coefficients.iter().zip(v);
     terms.map(|(&c, x)| i64::from(c) * x).sum()
 }

@@ -3,12 +3,14 @@
 
 use crate::random::Random;
 use crate::sheet::{
-    Guard, Location, Parameter, Sheet, Transition, MOST_CLOCKS, MOST_GUARDS, MOST_LOCATIONS,
-    MOST_PARAMETERS, MOST_ROUTE, MOST_TRANSITIONS,
+    parameters_of, valuations, Guard, Location, Parameter, Sheet, Transition, MOST_BYTES,
+    MOST_CLOCKS, MOST_GUARDS, MOST_LOCATIONS, MOST_PARAMETERS, MOST_ROUTE, MOST_TRANSITIONS,
+    MOST_VALUATIONS,
 };
+use crate::writer;
 
 /// The guard a - b <= constant + sum of coefficients times parameters.
-pub const fn at_most(a: u8, b: u8, constant: i16, coefficients: [i16; 3]) -> Guard {
+pub const fn at_most(a: u8, b: u8, constant: i16, coefficients: [i16; MOST_PARAMETERS]) -> Guard {
     Guard {
         a,
         b,
@@ -19,7 +21,7 @@ pub const fn at_most(a: u8, b: u8, constant: i16, coefficients: [i16; 3]) -> Gua
 }
 
 /// The guard a - b < constant + sum of coefficients times parameters.
-pub const fn below(a: u8, b: u8, constant: i16, coefficients: [i16; 3]) -> Guard {
+pub const fn below(a: u8, b: u8, constant: i16, coefficients: [i16; MOST_PARAMETERS]) -> Guard {
     Guard {
         strict: true,
         ..at_most(a, b, constant, coefficients)
@@ -48,8 +50,9 @@ pub fn transition(from: u8, to: u8, resets: u8, guards: &[Guard]) -> Transition 
     }
 }
 
-/// The sheet with those parameters, clocks and invariants of locations whose route follows the path, a list
-/// of locations that starts with 0. Transition k is the route's k-th, with those resets and guards.
+/// The sheet with those parameters, clocks and invariants of locations whose route follows the path, a list of
+/// locations that starts with 0. Transition k is the route's k-th, with those resets and guards. It is of version 1,
+/// unless it has four parameters.
 pub fn along(
     parameters: &[Parameter],
     clocks: u8,
@@ -58,7 +61,9 @@ pub fn along(
     moves: &[(u8, Vec<Guard>)],
 ) -> Sheet {
     let steps = path.windows(2).zip(moves);
+    let version = if parameters.len() > 3 { 2 } else { 1 };
     Sheet {
+        version,
         parameters: parameters.to_vec(),
         clocks,
         locations: stays.iter().map(|list| location(list)).collect(),
@@ -69,10 +74,18 @@ pub fn along(
     }
 }
 
+/// The sheet as one of version 2.
+pub fn in_version_2(sheet: Sheet) -> Sheet {
+    Sheet {
+        version: 2,
+        ..sheet
+    }
+}
+
 /// Sheet A of the paper. Its bodies of 5, 16, 17 and 2 bytes lie at 22, 27, 43 and 60.
 pub fn sheet_a() -> Sheet {
-    let stays = [vec![at_most(1, 0, 0, [1, 0, 0])], vec![]];
-    let go = (0, vec![at_most(0, 1, -3, [0; 3])]);
+    let stays = [vec![at_most(1, 0, 0, [1, 0, 0, 0])], vec![]];
+    let go = (0, vec![at_most(0, 1, -3, [0; 4])]);
     along(&[range(0, 10)], 1, &stays, &[0, 1], &[go])
 }
 
@@ -87,28 +100,54 @@ pub fn a_with(change: impl Fn(&mut Sheet)) -> Sheet {
 /// Its bodies of 9, 41, 49 and 6 bytes lie at 22, 31, 72 and 121.
 pub fn sheet_b() -> Sheet {
     Sheet {
+        version: 1,
         parameters: vec![range(-20, 11), range(300, 363)],
         clocks: 3,
         locations: vec![
-            location(&[at_most(1, 0, 700, [-2, 1, 0]), below(3, 0, 999, [0, 0, 0])]),
+            location(&[
+                at_most(1, 0, 700, [-2, 1, 0, 0]),
+                below(3, 0, 999, [0, 0, 0, 0]),
+            ]),
             location(&[]),
-            location(&[at_most(0, 2, -1, [5, 0, 0])]),
+            location(&[at_most(0, 2, -1, [5, 0, 0, 0])]),
         ],
         transitions: vec![
-            transition(0, 2, 0b101, &[below(2, 0, 40, [1, 1, 0])]),
+            transition(0, 2, 0b101, &[below(2, 0, 40, [1, 1, 0, 0])]),
             transition(2, 0, 0b010, &[]),
             transition(
                 0,
                 0,
                 0,
                 &[
-                    at_most(0, 1, -300, [0, 1, 0]),
-                    below(0, 3, 0, [-1000, 1, 0]),
+                    at_most(0, 1, -300, [0, 1, 0, 0]),
+                    below(0, 3, 0, [-1000, 1, 0, 0]),
                 ],
             ),
         ],
         route: vec![0, 1, 2, 2, 0],
     }
+}
+
+/// Sheet C: sheet A in version 2 with four parameters in its guards, of which each has its own coefficient. Its bodies
+/// of 17, 18, 19 and 2 bytes lie at 22, 39, 57 and 76.
+pub fn sheet_c() -> Sheet {
+    let stays = [vec![at_most(1, 0, -20, [1, -2, 3, 4])], vec![]];
+    let go = (0, vec![at_most(0, 1, -3, [0, 0, 0, -1])]);
+    let parameters = [range(0, 10), range(-5, 5), range(7, 7), range(-3, 0)];
+    along(&parameters, 1, &stays, &[0, 1], &[go])
+}
+
+/// Sheet C after a change.
+pub fn c_with(change: impl Fn(&mut Sheet)) -> Sheet {
+    let mut sheet = sheet_c();
+    change(&mut sheet);
+    sheet
+}
+
+/// A sheet of version 2 with ranges of those widths, from 0 on, one location without a limit, and an empty route.
+pub fn of_widths(widths: &[i16]) -> Sheet {
+    let parameters: Vec<Parameter> = widths.iter().map(|w| range(0, w - 1)).collect();
+    in_version_2(along(&parameters, 1, &[vec![]], &[0], &[]))
 }
 
 /// How big a random sheet becomes at most.
@@ -148,21 +187,24 @@ impl Size {
     };
 }
 
-/// A good sheet up to that size.
-pub fn random_sheet(random: &mut Random, size: Size) -> Sheet {
-    let parameters = random.below(MOST_PARAMETERS + 1);
+/// A good sheet of that version up to that size.
+pub fn random_sheet(random: &mut Random, version: u8, size: Size) -> Sheet {
+    let parameters = random.below(parameters_of(version) + 1);
     let clocks = 1 + random.below(MOST_CLOCKS) as u8;
     let locations = 1 + random.below(size.locations);
     let transitions = random.below(size.transitions + 1);
-    random_filled(random, size, [parameters, locations, transitions], clocks)
+    let counts = [parameters, locations, transitions];
+    let mut sheet = random_filled(random, version, size, counts, clocks);
+    fit(&mut sheet);
+    sheet
 }
 
 /// A good sheet of the most locations and transitions, each with the most guards, and the longest
-/// route that the transitions allow. With three parameters it has up to 3,671 bytes, and no good
-/// sheet has more.
-pub fn biggest_sheet(random: &mut Random, parameters: usize, clocks: u8) -> Sheet {
+/// route that the transitions allow. In version 1 with three parameters it has up to 3,671 bytes, and
+/// no good sheet of that version has more; one of version 2 would pass 4,096 bytes, and lacks guards.
+pub fn biggest_sheet(random: &mut Random, version: u8, parameters: usize, clocks: u8) -> Sheet {
     let counts = [parameters, MOST_LOCATIONS, MOST_TRANSITIONS];
-    let mut sheet = random_filled(random, Size::LARGE, counts, clocks);
+    let mut sheet = random_filled(random, version, Size::LARGE, counts, clocks);
     for location in &mut sheet.locations {
         fill(random, &mut location.invariants, parameters, clocks);
     }
@@ -173,19 +215,50 @@ pub fn biggest_sheet(random: &mut Random, parameters: usize, clocks: u8) -> Shee
     sheet.transitions[1].to = 0;
     sheet.transitions[1].from = sheet.transitions[0].to;
     sheet.route = random_route(random, &sheet.transitions, MOST_ROUTE);
+    fit(&mut sheet);
     sheet
 }
 
-/// A good sheet with those counts of parameters, locations and transitions.
-fn random_filled(random: &mut Random, size: Size, counts: [usize; 3], clocks: u8) -> Sheet {
+/// Takes guards from the sheet's last transitions until its file has at most 4,096 bytes.
+fn fit(sheet: &mut Sheet) {
+    let over = writer::file(sheet).len().saturating_sub(MOST_BYTES);
+    let guard = 6 + 2 * parameters_of(sheet.version);
+    let lists = sheet.transitions.iter_mut().rev().map(|t| &mut t.guards);
+    let mut left = over.div_ceil(guard);
+    for list in lists {
+        let some = left.min(list.len());
+        list.truncate(list.len() - some);
+        left -= some;
+    }
+}
+
+/// Halves the widest range until refusal 16 is not met. Three ranges never meet it.
+pub(crate) fn narrow(parameters: &mut [Parameter]) {
+    while valuations(parameters) > MOST_VALUATIONS {
+        let widest = parameters.iter_mut().max_by_key(|p| p.width());
+        let p = widest.expect("there are four");
+        p.highest -= (p.highest - p.lowest) / 2;
+    }
+}
+
+/// A sheet with those counts of parameters, locations and transitions, good but for the size of its file.
+fn random_filled(
+    random: &mut Random,
+    version: u8,
+    size: Size,
+    counts: [usize; 3],
+    clocks: u8,
+) -> Sheet {
     let [parameters, locations, transitions] = counts;
     let mut sheet = Sheet {
+        version,
         parameters: (0..parameters).map(|_| random_range(random)).collect(),
         clocks,
         locations: Vec::new(),
         transitions: Vec::new(),
         route: Vec::new(),
     };
+    narrow(&mut sheet.parameters);
     for _ in 0..locations {
         let invariants = random_guards(random, size.guards, parameters, clocks);
         sheet.locations.push(Location { invariants });
@@ -204,8 +277,8 @@ fn random_filled(random: &mut Random, size: Size, counts: [usize; 3], clocks: u8
     sheet
 }
 
-/// A good range; one in four lies at an end of what is allowed.
-fn random_range(random: &mut Random) -> Parameter {
+/// A range by itself; one in four lies at an end of what is allowed.
+pub(crate) fn random_range(random: &mut Random) -> Parameter {
     let width = random.from_to(0, 63);
     let lowest = match random.below(8) {
         0 => -1000,
@@ -233,7 +306,7 @@ fn fill(random: &mut Random, list: &mut Vec<Guard>, parameters: usize, clocks: u
 /// A good guard.
 fn random_guard(random: &mut Random, parameters: usize, clocks: u8) -> Guard {
     let (a, b) = random_clocks(random, clocks);
-    let mut guard = at_most(a, b, random_number(random), [0; 3]);
+    let mut guard = at_most(a, b, random_number(random), [0; 4]);
     guard.strict = random.once_in(2);
     for coefficient in &mut guard.coefficients[..parameters] {
         *coefficient = random_number(random);

@@ -1,5 +1,5 @@
-//! The sheet file: the reader, and refusals 2 to 5 (paper 01, "The sheet file" and "When no piece
-//! is given").
+//! The sheet file: the reader, and refusals 2 to 5 and 16 (paper 01, "The sheet file" and "When no
+//! piece is given"; paper 02, request (i), for version 2 and refusal 16).
 
 use std::ops::{Range, RangeInclusive};
 
@@ -9,7 +9,7 @@ pub const MOST_BYTES: usize = 4096;
 pub const CONTENTS: usize = 22;
 /// The most parameters, clocks, locations, transitions and route entries of a sheet, and the most
 /// guards of one location or transition.
-pub const MOST_PARAMETERS: usize = 3;
+pub const MOST_PARAMETERS: usize = 4;
 pub const MOST_CLOCKS: usize = 4;
 pub const MOST_LOCATIONS: usize = 16;
 pub const MOST_TRANSITIONS: usize = 32;
@@ -20,6 +20,17 @@ pub const MOST_GUARDS: usize = 6;
 const NUMBERS: RangeInclusive<i16> = -1000..=1000;
 /// The most by which a range's highest passes its lowest.
 const WIDEST: i16 = 63;
+/// The most valuations of a sheet: what the product of its ranges' widths may come to.
+pub const MOST_VALUATIONS: usize = 262_144;
+
+/// How many parameters a sheet of that version can have, and how many coefficients its guards have.
+pub const fn parameters_of(version: u8) -> usize {
+    if version == 2 {
+        MOST_PARAMETERS
+    } else {
+        3
+    }
+}
 
 /// Why a file gives no sheet: the refusal's number, and its place in the file.
 #[derive(Clone, Copy, Debug, PartialEq, Eq)]
@@ -35,8 +46,21 @@ pub struct Parameter {
     pub highest: i16,
 }
 
+impl Parameter {
+    /// How many values it has.
+    pub fn width(self) -> usize {
+        (i32::from(self.highest) - i32::from(self.lowest) + 1) as usize
+    }
+}
+
+/// How many valuations there are of those parameters: the product of their widths.
+pub fn valuations(parameters: &[Parameter]) -> usize {
+    parameters.iter().map(|p| p.width()).product()
+}
+
 /// A guard (the paper's limit): clock a - clock b, at most or below constant + sum of coefficient
-/// times parameter. In a location it is an invariant (the paper's standing limit).
+/// times parameter. In a location it is an invariant (the paper's standing limit). In a sheet of
+/// version 1 the fourth coefficient is 0.
 #[derive(Clone, Copy, Debug, PartialEq, Eq)]
 pub struct Guard {
     pub a: u8,
@@ -65,6 +89,7 @@ pub struct Transition {
 /// holds numbers of transitions.
 #[derive(Clone, Debug, PartialEq, Eq)]
 pub struct Sheet {
+    pub version: u8,
     pub parameters: Vec<Parameter>,
     pub clocks: u8,
     pub locations: Vec<Location>,
@@ -81,21 +106,25 @@ impl Sheet {
     }
 }
 
-/// The sheet that the file holds, or the first of refusals 2, 3, 4 and 5, each judged over the
+/// The sheet that the file holds, or the first of refusals 2, 3, 4, 16 and 5, each judged over the
 /// whole file.
 pub fn read(file: &[u8]) -> Result<Sheet, Refusal> {
     let [body1, body2, body3, body4] = contents(file)?;
+    let version = file[0];
     let route_start = body4.start + 1;
-    let parameters = parameters(Fields::new(file, body1))?;
-    let (clocks, locations) = locations(Fields::new(file, body2), parameters.len())?;
+    let parameters = parameters(Fields::new(file, body1), version)?;
+    let (clocks, locations) = locations(Fields::new(file, body2), version, parameters.len())?;
     let counts = Counts {
+        version,
         parameters: parameters.len(),
         clocks,
     };
     let transitions = transitions(Fields::new(file, body3), counts, locations.len())?;
     let route = route(Fields::new(file, body4), transitions.len())?;
+    expect(valuations(&parameters) <= MOST_VALUATIONS, 16, 0)?;
     linked(&transitions, &route, route_start)?;
     Ok(Sheet {
+        version,
         parameters,
         clocks,
         locations,
@@ -133,7 +162,7 @@ fn expect(right: bool, number: u8, place: usize) -> Result<(), Refusal> {
 /// Where the four bodies lie in the file, or refusal 2 or 3.
 fn contents(file: &[u8]) -> Result<[Range<usize>; 4], Refusal> {
     expect(CONTENTS <= file.len() && file.len() <= MOST_BYTES, 2, 0)?;
-    expect(file[0] == 1, 3, 0)?;
+    expect(file[0] == 1 || file[0] == 2, 3, 0)?;
     expect(file[1] == 4, 3, 1)?;
     let mut bodies = [0..0, 0..0, 0..0, 0..0];
     let mut start = CONTENTS;
@@ -214,9 +243,10 @@ impl<'a> Fields<'a> {
     }
 }
 
-/// The counts that a guard's fields are judged by.
+/// What a guard's fields are judged by: the file's version, and the sheet's counts.
 #[derive(Clone, Copy)]
 struct Counts {
+    version: u8,
     parameters: usize,
     clocks: u8,
 }
@@ -227,8 +257,8 @@ fn many<T>(count: usize, mut item: impl FnMut() -> Result<T, Refusal>) -> Result
 }
 
 /// Body 1: the parameters.
-fn parameters(mut fields: Fields) -> Result<Vec<Parameter>, Refusal> {
-    let count = fields.count(0..=MOST_PARAMETERS)?;
+fn parameters(mut fields: Fields, version: u8) -> Result<Vec<Parameter>, Refusal> {
+    let count = fields.count(0..=parameters_of(version))?;
     let list = many(count, || parameter(&mut fields))?;
     fields.done()?;
     Ok(list)
@@ -243,9 +273,17 @@ fn parameter(fields: &mut Fields) -> Result<Parameter, Refusal> {
 }
 
 /// Body 2: the count of clocks, and the locations.
-fn locations(mut fields: Fields, parameters: usize) -> Result<(u8, Vec<Location>), Refusal> {
+fn locations(
+    mut fields: Fields,
+    version: u8,
+    parameters: usize,
+) -> Result<(u8, Vec<Location>), Refusal> {
     let clocks = fields.byte(|x| 1 <= x && usize::from(x) <= MOST_CLOCKS)?;
-    let counts = Counts { parameters, clocks };
+    let counts = Counts {
+        version,
+        parameters,
+        clocks,
+    };
     let count = fields.count(1..=MOST_LOCATIONS)?;
     let list = many(count, || location(&mut fields, counts))?;
     fields.done()?;
@@ -302,7 +340,8 @@ fn guards(fields: &mut Fields, counts: Counts) -> Result<Vec<Guard>, Refusal> {
     many(count, || guard(fields, counts))
 }
 
-/// One guard. That exactly one of a and b is 0 is judged at b.
+/// One guard: 12 bytes in a file of version 1, 14 in one of version 2. That exactly one of a and b
+/// is 0 is judged at b.
 fn guard(fields: &mut Fields, counts: Counts) -> Result<Guard, Refusal> {
     let a = fields.byte(|x| x <= counts.clocks)?;
     let b = fields.byte(|x| x <= counts.clocks && (a == 0) != (x == 0))?;
@@ -310,7 +349,8 @@ fn guard(fields: &mut Fields, counts: Counts) -> Result<Guard, Refusal> {
     fields.byte(|x| x == 0)?;
     let constant = fields.number(|x| NUMBERS.contains(&x))?;
     let mut coefficients = [0; MOST_PARAMETERS];
-    for (k, coefficient) in coefficients.iter_mut().enumerate() {
+    let there = &mut coefficients[..parameters_of(counts.version)];
+    for (k, coefficient) in there.iter_mut().enumerate() {
         let has = k < counts.parameters;
         *coefficient = fields.number(|x| x == 0 || has && NUMBERS.contains(&x))?;
     }

@@ -1,7 +1,8 @@
 //! Sweep: the matrix at one valuation (paper 01, "Cutting the ranges", read at one setting), and
-//! refusals 2 to 6.
+//! refusals 2 to 6 and 16.
 
 use crate::sheet::{read, Guard, Refusal, Sheet, MOST_CLOCKS};
+use crate::valuations::Valuation;
 use crate::weight::Weight;
 
 /// Rows and columns of a matrix: clock 0 and the most clocks of a sheet.
@@ -14,16 +15,16 @@ pub type Matrix = [[Weight; SIDE]; SIDE];
 pub const ZEROS: Matrix = [[Weight::ZERO; SIDE]; SIDE];
 
 /// The matrix of the tightest bounds, nothing if there is no run (the paper's void), or the first of
-/// refusals 2 to 6.
-pub fn sweep(file: &[u8], v: [i64; 3]) -> Result<Option<Matrix>, Refusal> {
+/// refusals 2, 3, 4, 16, 5 and 6.
+pub fn sweep(file: &[u8], v: Valuation) -> Result<Option<Matrix>, Refusal> {
     let sheet = read(file)?;
     inside(&sheet, v)?;
     Ok(walk(&sheet, v))
 }
 
-/// Nothing if the three numbers are a valuation of the sheet, and otherwise refusal 6 at the first
+/// Nothing if the numbers are a valuation of the sheet, and otherwise refusal 6 at the first
 /// that lies outside its range, or is not 0 where the sheet has no such parameter.
-fn inside(sheet: &Sheet, v: [i64; 3]) -> Result<(), Refusal> {
+fn inside(sheet: &Sheet, v: Valuation) -> Result<(), Refusal> {
     for (place, x) in v.into_iter().enumerate() {
         let right = match sheet.parameters.get(place) {
             Some(p) => i64::from(p.lowest) <= x && x <= i64::from(p.highest),
@@ -39,7 +40,7 @@ fn inside(sheet: &Sheet, v: [i64; 3]) -> Result<(), Refusal> {
 /// The matrix of a sheet after the whole route at one of its valuations, or nothing if a guard left
 /// none. The invariants of a location hold at the start or on arrival, after the resets, and again
 /// at the end of the stay (paper 02, request (b)).
-pub fn walk(sheet: &Sheet, v: [i64; 3]) -> Option<Matrix> {
+pub fn walk(sheet: &Sheet, v: Valuation) -> Option<Matrix> {
     let clocks = usize::from(sheet.clocks);
     let mut at = 0;
     let mut m = invariants(ZEROS, sheet, at, v)?;
@@ -55,13 +56,13 @@ pub fn walk(sheet: &Sheet, v: [i64; 3]) -> Option<Matrix> {
 }
 
 /// The matrix after a wait in that location, ended by its invariants.
-fn stay(m: Matrix, sheet: &Sheet, location: usize, v: [i64; 3]) -> Option<Matrix> {
+fn stay(m: Matrix, sheet: &Sheet, location: usize, v: Valuation) -> Option<Matrix> {
     let clocks = usize::from(sheet.clocks);
     invariants(wait(m, clocks), sheet, location, v)
 }
 
 /// The matrix after the invariants of that location.
-fn invariants(m: Matrix, sheet: &Sheet, location: usize, v: [i64; 3]) -> Option<Matrix> {
+fn invariants(m: Matrix, sheet: &Sheet, location: usize, v: Valuation) -> Option<Matrix> {
     let clocks = usize::from(sheet.clocks);
     guards(m, clocks, &sheet.locations[location].invariants, v)
 }
@@ -75,12 +76,12 @@ fn wait(mut m: Matrix, clocks: usize) -> Matrix {
 }
 
 /// The matrix after those guards in order, or nothing.
-fn guards(m: Matrix, clocks: usize, list: &[Guard], v: [i64; 3]) -> Option<Matrix> {
+fn guards(m: Matrix, clocks: usize, list: &[Guard], v: Valuation) -> Option<Matrix> {
     list.iter().try_fold(m, |m, g| guard(m, clocks, g, v))
 }
 
 /// The matrix after one guard, or nothing: rules (1), (2) and (3) of the paper.
-fn guard(m: Matrix, clocks: usize, guard: &Guard, v: [i64; 3]) -> Option<Matrix> {
+fn guard(m: Matrix, clocks: usize, guard: &Guard, v: Valuation) -> Option<Matrix> {
     let (i, j) = (usize::from(guard.a), usize::from(guard.b));
     let e = bound(guard, v);
     if e.sum(m[j][i]).tighter(Weight::ZERO) {
@@ -102,7 +103,7 @@ fn guard(m: Matrix, clocks: usize, guard: &Guard, v: [i64; 3]) -> Option<Matrix>
 }
 
 /// The guard's bound with the valuation put in.
-fn bound(guard: &Guard, v: [i64; 3]) -> Weight {
+fn bound(guard: &Guard, v: Valuation) -> Weight {
     let mut value = i64::from(guard.constant);
     for (coefficient, x) in guard.coefficients.into_iter().zip(v) {
         value += i64::from(coefficient) * x;

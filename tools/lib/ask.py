@@ -219,15 +219,15 @@ def by_sweep(given, head):
     sheet, names = given.sheet, given.names
     function, total = programs.sweep_function(), settings.count_all(sheet.ranges)
     progress = Progress("Sweep", total)
-    across, up, panels = (range(low, high + 1) for low, high in settings.three(sheet.ranges))
+    across, *others = (range(low, high + 1) for low, high in settings.four(sheet.ranges))
     rows, done = [], 0
-    for r, q in itertools.product(panels, up):
-        right = [p for p in across if swept(function, given, (p, q, r)[:len(sheet.ranges)])]
-        rows += [(q, r, low, high) for low, high in stretches(right)]
+    for s, r, q in itertools.product(*reversed(others)):
+        right = [p for p in across if swept(function, given, (p, q, r, s)[:len(sheet.ranges)])]
+        rows += [(q, r, s, low, high) for low, high in stretches(right)]
         done += len(across)
         progress.step(done, " settings")
     progress.close()
-    kept = sum(high - low + 1 for _, _, low, high in rows)
+    kept = sum(high - low + 1 for *_, low, high in rows)
     counts = f"{plural(kept, 'setting')} with a run, {total - kept:,} without"
     regions = [picture.Region("", f"a run, {plural(kept, 'setting')}", rows)] if kept else []
     heading = picture.shortened(given.title, picture.LONGEST_TITLE) + f", by Sweep: {counts}"

@@ -7,7 +7,7 @@ from typing import NamedTuple
 
 import listing
 import settings
-from sheet_file import MOST_LIMITS, MOST_MOVES, MOST_STAGES, Limit, Move, Sheet
+from sheet_file import MOST_BYTES, MOST_LIMITS, MOST_MOVES, MOST_STAGES, Limit, Move, write
 
 START, ARRIVAL, STAY, MOVE = "start", "arrival", "stay", "move"  # when a limit comes
 
@@ -81,7 +81,7 @@ def same_steps(sheet, beginning):
     arrival, last = (stays[-1], so_far) if beginning.when == STAY else (so_far, ())
     zero = zero_watches(sheet, beginning.visit)
     if zero:
-        stays[-1:] = [(Limit(zero[0], 0, False, (0, 0, 0, 0)),), last]
+        stays[-1:] = [(Limit(zero[0], 0, False, (0, 0, 0, 0, 0)),), last]
         moves.append(Move(0, 0, (), arrival))
     else:
         stays[-1] = last
@@ -102,7 +102,8 @@ def unrolled(sheet, stays, moves):
                   for move, before, after in zip(moves, stays, stays[1:]))
     if len(stages) > MOST_STAGES or len(steps) > MOST_MOVES or any(len(move.limits) > MOST_LIMITS for move in steps):
         return None
-    return Sheet(sheet.ranges, sheet.watches, tuple(stages), steps, tuple(range(len(steps))))
+    cut = sheet._replace(stages=tuple(stages), moves=steps, route=tuple(range(len(steps))))
+    return cut if len(write(cut)) <= MOST_BYTES else None
 
 
 # What is found by them

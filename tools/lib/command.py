@@ -133,7 +133,8 @@ def run_check(options):
     counts = [plural(len(names.allowance), "allowance"), plural(len(names.watch), "watch", "watches"),
               plural(len(names.stage), "stage"), plural(len(names.move), "move"),
               f"{plural(len(whole.route), 'move')} on the route", f"{plural(len(sheet.file), 'byte')} as a file"]
-    print_bytes(f"{sheet.name}: a good sheet: {', '.join(counts)}\n".encode("utf-8"))
+    version = f" of version {whole.version}" if whole.version != 1 else ""
+    print_bytes(f"{sheet.name}: a good sheet{version}: {', '.join(counts)}\n".encode("utf-8"))
     ask.warn(sheet)
     return ANSWER
 

@@ -51,8 +51,8 @@ def title(path):
 
 
 def is_file_form(data, path):
-    """Sheet files start with byte 1, which no text does."""
-    return data[:1] == b"\x01" or path.endswith(".sheet")
+    """Sheet files start with byte 1 or 2, which no text does."""
+    return data[:1] in (b"\x01", b"\x02") or path.endswith(".sheet")
 
 
 def given(path):

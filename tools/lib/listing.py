@@ -8,9 +8,10 @@ from faults import plain
 COUNT, NUMBER = "([0-9]{1,9})", "(-?[0-9]{1,9})"  # no number of a listing is longer
 REFUSED = re.compile(f"refused {COUNT} place {COUNT}")
 COUNTS = re.compile(f"pieces {COUNT} kept {COUNT} cut {COUNT}")
-FIRST = re.compile(f"first {NUMBER} {NUMBER} {NUMBER}")
-INEQUALITY = re.compile(f"ineq {NUMBER} {NUMBER} {NUMBER} {NUMBER}")
-BOUND = re.compile(f"bound ([0-9]) ([0-9]) (?:(none)|(le|lt) {NUMBER} {NUMBER} {NUMBER} {NUMBER})")
+FOUR = " ".join([NUMBER] * 4)
+FIRST = re.compile(f"first {FOUR}")
+INEQUALITY = re.compile(f"ineq {NUMBER} {FOUR}")
+BOUND = re.compile(f"bound ([0-9]) ([0-9]) (?:(none)|(le|lt) {NUMBER} {FOUR})")
 
 
 class ListingError(Exception):
@@ -24,11 +25,11 @@ class Refusal(NamedTuple):
 
 class Bound(NamedTuple):
     strict: bool
-    numbers: tuple  # the constant and the three coefficients
+    numbers: tuple  # the constant and the four coefficients
 
 
 class Piece(NamedTuple):
-    first: tuple  # its first setting: three numbers, 0 for an allowance that the sheet lacks
+    first: tuple  # its first setting: four numbers, 0 for an allowance that the sheet lacks
     inequalities: tuple  # expressions that are at least 0
     bounds: tuple  # entry (i, j) bounds watch i - watch j; None is the bound none
 
@@ -88,7 +89,7 @@ class Lines:
 def piece(lines, number, watches):
     """One piece: its number, its first setting, its inequalities, and its bounds in row order."""
     lines.need(re.compile(f"piece {number}"), f"'piece {number}'")
-    first = tuple(map(int, lines.need(FIRST, "'first' and its three numbers")))
+    first = tuple(map(int, lines.need(FIRST, "'first' and its four numbers")))
     inequalities = []
     found = lines.has(INEQUALITY)
     while found:

@@ -1,9 +1,9 @@
 """Pieces as a picture: one colour a piece, its first setting framed, settings without a run hatched. svg.py and png.py draw
 its shapes.
 
-One allowance gives a strip, two give a chart, three a chart for each value of the third, none a line of text.
-Each setting is a cell. The panel is hatched first and the regions are laid over it, each with a rectangle for
-every row of its cells. A region is a piece, or all settings with a run.
+One allowance gives a strip, two give a chart, three a chart for each value of the third, four a row of such charts for each
+value of the fourth, none a line of text. Each setting is a cell. The panel is hatched first and the regions are laid over it,
+each with a rectangle for every row of its cells. A region is a piece, or all settings with a run.
 """
 
 import textwrap
@@ -50,7 +50,7 @@ class Scale(NamedTuple):
 
 class Region(NamedTuple):
     """What gets one colour: its label in the charts, its words in the legend, its settings as rows (value of the second
-    allowance, of the third, low and high of the first), and the first of them if it is to be framed."""
+    allowance, of the third and of the fourth, low and high of the first), and the first of them if it is to be framed."""
 
     label: str
     words: str
@@ -107,40 +107,48 @@ def shortened(text, length):
 
 
 def charts(regions, ranges, names):
-    """All panels, the width they take, and where they end."""
+    """All panels, the width they take, and where they end. With four allowances the panels of a row have one value of the
+    fourth, which stands right of them, and their titles stand above the first row alone."""
     across, up = scales(ranges, names)
-    titles = panel_titles(ranges, names)
-    head = HEAD if len(ranges) == 3 else 0
+    titles, rows = panel_titles(ranges, names), row_titles(ranges, names)
+    head, row_head = HEAD if len(ranges) > 2 else 0, HEAD if len(ranges) == 3 else 0
     left = MARGIN + (NAME + LETTER * number_width(up) + 8 if len(ranges) > 1 else 0)
-    top = MARGIN + LINE + GAP
+    top = MARGIN + LINE + GAP + head
     room = max(across.length(), *(LETTER * len(title) for title in titles.values()))
     gap = max(GAP, LETTER * number_width(across) + 6)  # the numbers of neighbours do not touch
-    step_x, step_y = room + gap, up.length() + head + (GAP if head else 0)
-    columns = columns_for(len(titles), step_x)
+    step_x, step_y = room + gap, up.length() + row_head + (GAP if head else 0)
+    columns = len(titles) // len(rows) if rows else columns_for(len(titles), step_x)
+    right = left + columns * step_x - gap
     by_slice = [slices_of(region) for region in regions]
     labels = [region.label for region in regions]
     parts = []
-    for k, (value, title) in enumerate(titles.items()):
-        x, y = left + k % columns * step_x, top + k // columns * step_y + head
-        panel = Panel(x, y, room, across, up, [slices.get(value, []) for slices in by_slice], firsts_of(regions, value))
+    for k, (values, title) in enumerate(titles.items()):
+        x, y = left + k % columns * step_x, top + k // columns * step_y
+        panel = Panel(x, y, room, across, up, [slices.get(values, []) for slices in by_slice], firsts_of(regions, values))
         parts += chart(panel, labels, k % columns == 0 and len(ranges) > 1, k + columns >= len(titles))
         parts += [Words(x, y - 6, title)] if title else []
-    bottom = top + -(-len(titles) // columns) * step_y + NUMBERS + NAME
-    return parts, left + columns * step_x - gap + MARGIN, bottom
+    parts += [Words(right + GAP, top + k * step_y + up.length() / 2 + 4, title) for k, title in enumerate(rows)]
+    bottom = top - row_head + -(-len(titles) // columns) * step_y + NUMBERS + NAME
+    return parts, right + (GAP + LETTER * max(map(len, rows)) if rows else 0) + MARGIN, bottom
 
 
 def panel_titles(ranges, names):
-    """A title for each value of the third allowance; without one there is a single panel and no title."""
-    if len(ranges) < 3:
-        return {0: ""}
-    low, high = ranges[2]
-    return {value: f"{names.allowance[2]} = {value}" for value in range(low, high + 1)}
+    """A title for each panel, by the values of the third and the fourth allowance; that of the third, in the first row or
+    everywhere. Without a third there is a single panel and no title."""
+    _, _, third, fourth = (range(low, high + 1) for low, high in settings.four(ranges))
+    return {(r, s): f"{names.allowance[2]} = {r}" if len(ranges) > 2 and s == fourth[0] else "" for s in fourth for r in third}
+
+
+def row_titles(ranges, names):
+    """A title for each value of the fourth allowance, if there is one."""
+    return [f"{names.allowance[3]} = {s}" for low, high in ranges[3:] for s in range(low, high + 1)]
 
 
 def scales(ranges, names):
     """The two axes; a strip's second one has a single value and no name. Many panels are smaller."""
-    (low, high), (low_up, high_up), (low_panel, high_panel) = settings.three(ranges)
-    room, least, most = (480, 7, 40) if len(ranges) < 3 else (200 if high_panel - low_panel < 16 else 130, 2, 16)
+    (low, high), (low_up, high_up), (low_panel, high_panel), _ = settings.four(ranges)
+    few = len(ranges) == 3 and high_panel - low_panel < 16
+    room, least, most = (480, 7, 40) if len(ranges) < 3 else (200 if few else 130, 2, 16)
     cell = max(least, min(most, room // (high - low + 1)))
     cell_up = max(least, min(most, room // (high_up - low_up + 1)))
     name_up = names.allowance[1] if len(ranges) > 1 else ""
@@ -159,17 +167,17 @@ def columns_for(count, pitch):
 
 
 def slices_of(region):
-    """By the value of the third allowance, the rows of a region (value up, low, high across)."""
+    """By the values of the third and the fourth allowance, the rows of a region (value up, low, high across)."""
     slices = {}
-    for q, r, low, high in region.rows:
-        slices.setdefault(r, []).append((q, low, high))
+    for q, r, s, low, high in region.rows:
+        slices.setdefault((r, s), []).append((q, low, high))
     return slices
 
 
-def firsts_of(regions, value):
-    """By the number of a region, its first setting as a row, where the third allowance has that value there."""
+def firsts_of(regions, values):
+    """By the number of a region, its first setting as a row, where the third and the fourth allowance have those values there."""
     firsts = {number: region.first for number, region in enumerate(regions) if region.first}
-    return {number: (q, p, p) for number, (p, q, r) in firsts.items() if r == value}
+    return {number: (q, p, p) for number, (p, q, *others) in firsts.items() if tuple(others) == values}
 
 
 def chart(panel, labels, numbers_up, numbers_across):

@@ -68,8 +68,8 @@ def loaded_sweep(path):
     except (OSError, AttributeError) as why:
         raise Fault(f"{plain(path)}: {plain(why)}", FAILED) from why
     function.restype = ctypes.c_int64
-    function.argtypes = [ctypes.c_char_p, ctypes.c_size_t, ctypes.c_int64, ctypes.c_int64, ctypes.c_int64]
-    return lambda file, setting: function(file, len(file), *(tuple(setting) + (0, 0, 0))[:3])
+    function.argtypes = [ctypes.c_char_p, ctypes.c_size_t, *[ctypes.c_int64] * 4]
+    return lambda file, setting: function(file, len(file), *(tuple(setting) + (0, 0, 0, 0))[:4])
 
 
 # Building them

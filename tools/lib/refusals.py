@@ -1,4 +1,4 @@
-"""The refusals in words: those of paper 01, "When no piece is given", but 9, which no sheet meets (docs/requests/n.md)."""
+"""The refusals in words (docs/FORMAT.md)."""
 
 GROUNDS = {
     1: "the table lent for the pieces has under 32 places",
@@ -9,6 +9,7 @@ GROUNDS = {
     6: "the setting lies outside a range, or is not 0 where the sheet has no such allowance",
     7: "one limit would list a 33rd piece",
     8: "a split would give its parts a 25th inequality",
+    16: "the product of the widths of the ranges passes 262,144",
 }
 
 

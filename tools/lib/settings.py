@@ -4,10 +4,12 @@ from math import prod
 
 from expressions import value
 
+MOST_ALLOWANCES = 4
 
-def three(ranges):
+
+def four(ranges):
     """The ranges with 0..0 for each allowance that the sheet lacks."""
-    return tuple(ranges) + ((0, 0),) * (3 - len(ranges))
+    return tuple(ranges) + ((0, 0),) * (MOST_ALLOWANCES - len(ranges))
 
 
 def count_all(ranges):
@@ -16,8 +18,8 @@ def count_all(ranges):
 
 
 def inside(setting, ranges):
-    """Each of the three numbers lies in its range."""
-    return all(low <= x <= high for x, (low, high) in zip(setting, three(ranges)))
+    """Each of the four numbers lies in its range."""
+    return all(low <= x <= high for x, (low, high) in zip(setting, four(ranges)))
 
 
 def holds(piece, setting):
@@ -36,17 +38,24 @@ def most(e, ranges):
 
 
 def rows(inequalities, ranges):
-    """All settings that meet the inequalities: for each q and r the lowest and the highest p, as (q, r, low, high).
+    """All settings that meet the inequalities: for each q, r and s the lowest and the highest p, as (q, r, s, low, high).
     The inequalities are straight, so that there are no gaps between."""
-    (_, _), (low_q, high_q), (low_r, high_r) = box = three(ranges)
-    for r in range(low_r, high_r + 1):
-        lines = [(c + kr * r, kp, kq) for c, kp, kq, kr in inequalities]
-        if any(most(line, box) < 0 for line in lines):
-            continue
-        for q in range(low_q, high_q + 1):
-            low, high = narrowed(lines, q, box[0])
-            if low <= high:
-                yield q, r, low, high
+    across, (low_q, high_q), *_ = box = four(ranges)
+    for s, planes in cuts(inequalities, box):
+        for r, lines in cuts(planes, box[:3]):
+            for q in range(low_q, high_q + 1):
+                low, high = narrowed(lines, q, across)
+                if low <= high:
+                    yield q, r, s, low, high
+
+
+def cuts(inequalities, ranges):
+    """The inequalities with each value of the last allowance put in, where each of them can be met."""
+    low, high = ranges[-1]
+    for x in range(low, high + 1):
+        left = [(constant + last * x, *others) for constant, *others, last in inequalities]
+        if all(most(e, ranges) >= 0 for e in left):
+            yield x, left
 
 
 def narrowed(lines, q, span):
@@ -65,9 +74,21 @@ def narrowed(lines, q, span):
     return low, high
 
 
+def widest_first(inequalities, ranges):
+    """The inequalities and ranges with the widest range first, so that there are few rows of settings."""
+    box = four(ranges)
+    order = sorted(range(MOST_ALLOWANCES), key=lambda k: box[k][0] - box[k][1])
+    return [(e[0], *(e[1 + k] for k in order)) for e in inequalities], [box[k] for k in order]
+
+
 def count(inequalities, ranges):
     """How many settings meet the inequalities."""
-    return sum(high - low + 1 for _, _, low, high in rows(inequalities, ranges))
+    return sum(high - low + 1 for *_, low, high in rows(*widest_first(inequalities, ranges)))
+
+
+def some(inequalities, ranges):
+    """Whether a setting meets the inequalities."""
+    return next(rows(*widest_first(inequalities, ranges)), None) is not None
 
 
 def room(pieces, setting, ranges):

@@ -1,13 +1,15 @@
-"""The sheet file (paper 01, "The sheet file"): its reader, with refusals 2 to 5, and its writer.
+"""The sheet file (paper 01, "The sheet file"; paper 02, request (i)): its reader, with refusals 2 to 5 and 16, and its writer.
 
 Stages, moves and allowances are numbered from 0, watches from 1, since watch 0 is always zero.
 """
 
 from typing import NamedTuple
 
+from settings import MOST_ALLOWANCES, count_all
+
 MOST_BYTES = 4096
 CONTENTS = 22  # bytes of the contents; body 1 starts here
-MOST_ALLOWANCES = 3
+MOST_SETTINGS = 262_144
 MOST_WATCHES = 4
 MOST_STAGES = 16
 MOST_MOVES = 32
@@ -32,7 +34,7 @@ class Limit(NamedTuple):
     a: int
     b: int
     strict: bool
-    numbers: tuple  # the constant and the three coefficients
+    numbers: tuple  # the constant and the four coefficients
 
 
 class Move(NamedTuple):
@@ -43,6 +45,7 @@ class Move(NamedTuple):
 
 
 class Sheet(NamedTuple):
+    version: int
     ranges: tuple  # lowest and highest of each allowance
     watches: int
     stages: tuple  # the standing limits of each stage
@@ -50,16 +53,24 @@ class Sheet(NamedTuple):
     route: tuple  # numbers of moves
 
 
+def most_allowances(version):
+    """How many allowances a sheet of a version can have, and how many coefficients its limits have."""
+    return MOST_ALLOWANCES if version == 2 else 3
+
+
 def read(file):
-    """The sheet that the bytes hold; raises the first of refusals 2, 3, 4 and 5."""
+    """The sheet that the bytes hold; raises the first of refusals 2, 3, 4, 16 and 5."""
     starts = body_starts(file)
+    version = file[0]
     bodies = [Fields(file, starts[k], starts[k + 1]) for k in range(4)]
-    ranges = read_ranges(bodies[0])
-    watches, stages = read_stages(bodies[1], len(ranges))
-    moves = read_moves(bodies[2], len(ranges), watches, len(stages))
+    ranges = read_ranges(bodies[0], version)
+    sizes = sizes_of(version, len(ranges))
+    watches, stages = read_stages(bodies[1], sizes)
+    moves = read_moves(bodies[2], sizes, watches, len(stages))
     route = read_route(bodies[3], len(moves))
+    expect(count_all(ranges) <= MOST_SETTINGS, 16, 0)
     judge_links(moves, route, starts[3] + 1)
-    return Sheet(ranges, watches, stages, moves, route)
+    return Sheet(version, ranges, watches, stages, moves, route)
 
 
 def expect(right, number, place):
@@ -70,7 +81,7 @@ def expect(right, number, place):
 def body_starts(file):
     """Where the four bodies start, and where the last one ends; refusals 2 and 3."""
     expect(CONTENTS <= len(file) <= MOST_BYTES, 2, 0)
-    expect(file[0] == 1, 3, 0)
+    expect(file[0] in (1, 2), 3, 0)
     expect(file[1] == 4, 3, 1)
     starts = [CONTENTS]
     for k in range(4):
@@ -117,10 +128,15 @@ class Fields:
         expect(self.at == self.end, 4, self.at)
 
 
-def read_ranges(fields):
+def sizes_of(version, allowances):
+    """How large each number of a limit may be: its constant and its coefficients, which are 0 for an allowance that lacks."""
+    return [MOST_NUMBER] * (1 + allowances) + [0] * (most_allowances(version) - allowances)
+
+
+def read_ranges(fields, version):
     """Body 1. That lowest is at most highest, and the difference at most 63, is judged at highest."""
     ranges = []
-    for _ in range(fields.byte(0, MOST_ALLOWANCES)):
+    for _ in range(fields.byte(0, most_allowances(version))):
         lowest = fields.number(-MOST_NUMBER, MOST_NUMBER)
         highest = fields.number(lowest, min(MOST_NUMBER, lowest + WIDEST))
         ranges.append((lowest, highest))
@@ -128,16 +144,16 @@ def read_ranges(fields):
     return tuple(ranges)
 
 
-def read_stages(fields, allowances):
+def read_stages(fields, sizes):
     """Body 2: the count of watches, and the standing limits of each stage."""
     watches = fields.byte(1, MOST_WATCHES)
     count = fields.byte(1, MOST_STAGES)
-    stages = tuple(read_limits(fields, allowances, watches) for _ in range(count))
+    stages = tuple(read_limits(fields, sizes, watches) for _ in range(count))
     fields.done()
     return watches, stages
 
 
-def read_moves(fields, allowances, watches, stages):
+def read_moves(fields, sizes, watches, stages):
     """Body 3."""
     moves = []
     for _ in range(fields.byte(0, MOST_MOVES)):
@@ -145,7 +161,7 @@ def read_moves(fields, allowances, watches, stages):
         end = fields.byte(0, stages - 1)
         bits = fields.byte(0, 2 ** watches - 1)
         resets = tuple(w for w in range(1, watches + 1) if bits >> (w - 1) & 1)
-        moves.append(Move(start, end, resets, read_limits(fields, allowances, watches)))
+        moves.append(Move(start, end, resets, read_limits(fields, sizes, watches)))
     fields.done()
     return tuple(moves)
 
@@ -158,19 +174,19 @@ def read_route(fields, moves):
     return route
 
 
-def read_limits(fields, allowances, watches):
+def read_limits(fields, sizes, watches):
     count = fields.byte(0, MOST_LIMITS)
-    return tuple(read_limit(fields, allowances, watches) for _ in range(count))
+    return tuple(read_limit(fields, sizes, watches) for _ in range(count))
 
 
-def read_limit(fields, allowances, watches):
-    """A limit. That exactly one of a and b is 0 is judged at b."""
+def read_limit(fields, sizes, watches):
+    """A limit. That exactly one of a and b is 0 is judged at b. In version 1 the fourth coefficient is not there, and 0."""
     a = fields.byte(0, watches)
     b = fields.byte(1, watches) if a == 0 else fields.byte(0, 0)
     strict = fields.byte(0, 1) == 1
     fields.byte(0, 0)
-    sizes = [MOST_NUMBER] * (1 + allowances) + [0] * (MOST_ALLOWANCES - allowances)
-    return Limit(a, b, strict, tuple(fields.number(-size, size) for size in sizes))
+    numbers = [fields.number(-size, size) for size in sizes]
+    return Limit(a, b, strict, (*numbers, *[0] * (1 + MOST_ALLOWANCES - len(numbers))))
 
 
 def judge_links(moves, route, start):
@@ -182,9 +198,9 @@ def judge_links(moves, route, start):
 
 
 def write(sheet):
-    """The file of a sheet."""
+    """The file of a sheet. A version that is not 2 is laid out as 1."""
     bodies = [ranges_body(sheet), stages_body(sheet), moves_body(sheet), route_body(sheet)]
-    file = bytearray([1, 4])
+    file = bytearray([sheet.version, 4])
     offset = CONTENTS
     for kind, body in enumerate(bodies, 1):
         file += bytes([kind]) + offset.to_bytes(2, "little") + len(body).to_bytes(2, "little")
@@ -198,30 +214,30 @@ def ranges_body(sheet):
 
 
 def stages_body(sheet):
-    stages = (limits_bytes(limits) for limits in sheet.stages)
+    stages = (limits_bytes(limits, sheet.version) for limits in sheet.stages)
     return bytes([sheet.watches, len(sheet.stages)]) + b"".join(stages)
 
 
 def moves_body(sheet):
-    return bytes([len(sheet.moves)]) + b"".join(move_bytes(move) for move in sheet.moves)
+    return bytes([len(sheet.moves)]) + b"".join(move_bytes(move, sheet.version) for move in sheet.moves)
 
 
 def route_body(sheet):
     return bytes([len(sheet.route), *sheet.route])
 
 
-def move_bytes(move):
+def move_bytes(move, version):
     bits = sum(1 << (watch - 1) for watch in move.resets)
-    return bytes([move.start, move.end, bits]) + limits_bytes(move.limits)
+    return bytes([move.start, move.end, bits]) + limits_bytes(move.limits, version)
 
 
-def limits_bytes(limits):
-    return bytes([len(limits)]) + b"".join(limit_bytes(limit) for limit in limits)
+def limits_bytes(limits, version):
+    return bytes([len(limits)]) + b"".join(limit_bytes(limit, version) for limit in limits)
 
 
-def limit_bytes(limit):
+def limit_bytes(limit, version):
     fields = bytes([limit.a, limit.b, int(limit.strict), 0])
-    return fields + b"".join(two_bytes(number) for number in limit.numbers)
+    return fields + b"".join(two_bytes(number) for number in limit.numbers[:1 + most_allowances(version)])
 
 
 def two_bytes(number):

@@ -4,8 +4,9 @@ from typing import NamedTuple
 
 import sheet_file
 from expressions import in_words, negated
-from sheet_file import (Limit, Move, Sheet, MOST_ALLOWANCES, MOST_BYTES, MOST_LIMITS, MOST_MOVES,
-                        MOST_NUMBER, MOST_ROUTE, MOST_STAGES, MOST_WATCHES, WIDEST)
+from settings import MOST_ALLOWANCES, count_all
+from sheet_file import (Limit, Move, Sheet, MOST_BYTES, MOST_LIMITS, MOST_MOVES, MOST_NUMBER, MOST_ROUTE, MOST_SETTINGS,
+                        MOST_STAGES, MOST_WATCHES, WIDEST, most_allowances)
 from tokens import KEYWORDS, LINE_WORDS, sentences
 
 KINDS = {"allowance": MOST_ALLOWANCES, "watch": MOST_WATCHES, "stage": MOST_STAGES, "move": MOST_MOVES}
@@ -29,7 +30,7 @@ class Names(NamedTuple):
 
 def default_names(sheet):
     """The names of a sheet that comes without any."""
-    return Names(tuple("pqr"[:len(sheet.ranges)]),
+    return Names(tuple("pqrs"[:len(sheet.ranges)]),
                  tuple(f"w{k + 1}" for k in range(sheet.watches)),
                  tuple(f"s{k}" for k in range(len(sheet.stages))),
                  tuple(f"m{k}" for k in range(len(sheet.moves))))
@@ -41,31 +42,48 @@ def default_names(sheet):
 def parse(text):
     """The sheet that a text says, and its names."""
     lines, end = sentences(text)
-    names = declared(lines, end)
-    parts = {"allowance": [], "watch": [], "stage": [], "move": [], "route": []}
+    version = version_of(lines)
+    names = declared(lines, end, version)
+    parts = {keyword: [] for keyword in LINE_WORDS}
     for tokens in lines:
         keyword = tokens[0].text
         parts[keyword].append(Sentence(tokens, names).part(keyword))
+        product = count_all(parts["allowance"])
+        if product > MOST_SETTINGS:
+            raise tokens[0].error(f"the product of the widths of the ranges comes to {product:,}; expected at most {MOST_SETTINGS:,}")
     moves = tuple(parts["move"])
     route = linked(parts["route"][0], moves, names)
-    sheet = Sheet(tuple(parts["allowance"]), len(names.watch), tuple(parts["stage"]), moves, route)
+    sheet = Sheet(version, tuple(parts["allowance"]), len(names.watch), tuple(parts["stage"]), moves, route)
     judge_file(sheet, end)
     return sheet, names
 
 
-def declared(lines, end):
+def version_of(lines):
+    """The version that a line says, or 1 without one."""
+    found = [tokens for tokens in lines if tokens[0].text == "version"]
+    if not found:
+        return 1
+    if len(found) > 1:
+        raise found[1][0].error("a second version; expected one line 'version' at most")
+    number = found[0][1]
+    if number.text not in ("1", "2"):
+        raise number.found("1 or 2 after 'version'")
+    return int(number.text)
+
+
+def declared(lines, end, version):
     """The names that the lines declare; they may be used before that."""
     found = {kind: [] for kind in KINDS}
     routes = 0
     for tokens in lines:
         keyword, name = tokens[:2]
         if keyword.text in KINDS:
-            declare(found, keyword, name)
+            declare(found, keyword, name, version)
         elif keyword.text == "route" and routes == 0:
             routes += 1
         elif keyword.text == "route":
             raise keyword.error("a second route; expected one line 'route'")
-        else:
+        elif keyword.text != "version":
             raise keyword.found("a line that starts with " + ", ".join(LINE_WORDS))
     for kind in ("watch", "stage"):
         if not found[kind]:
@@ -75,7 +93,7 @@ def declared(lines, end):
     return Names(*(tuple(found[kind]) for kind in KINDS))
 
 
-def declare(found, keyword, name):
+def declare(found, keyword, name, version):
     """Adds a name to those of its kind. Watches and allowances meet in limits, so that theirs differ."""
     kind = keyword.text
     if name.kind != "name" or name.text in KEYWORDS:
@@ -83,8 +101,10 @@ def declare(found, keyword, name):
     for other in ("allowance", "watch") if kind in ("allowance", "watch") else (kind,):
         if name.text in found[other]:
             raise name.error(f"the name '{name.text}' is taken by another {other}; expected a new name")
-    if len(found[kind]) == KINDS[kind]:
-        raise keyword.error(f"one {kind} too many; expected at most {KINDS[kind]} {PLURALS[kind]}")
+    most = most_allowances(version) if kind == "allowance" else KINDS[kind]
+    if len(found[kind]) == most:
+        more = ", or the line 'version 2' for a fourth" if most < KINDS[kind] else ""
+        raise keyword.error(f"one {kind} too many; expected at most {most} {PLURALS[kind]}{more}")
     found[kind].append(name.text)
 
 
@@ -155,6 +175,8 @@ class Sentence:
         if keyword == "route":
             return self.route()
         self.take()
+        if keyword == "version":
+            return self.done("the end of the line after the version")
         return {"allowance": self.allowance, "watch": self.watch, "stage": self.stage, "move": self.move}[keyword]()
 
     def allowance(self):
@@ -266,7 +288,7 @@ class Sentence:
         return Limit(watch, 0, strict, numbers) if above else Limit(0, watch, strict, negated(numbers))
 
     def expression(self):
-        """A sum of numbers and multiples of allowances, as the constant and three coefficients."""
+        """A sum of numbers and multiples of allowances, as the constant and four coefficients."""
         totals = [0] * (1 + MOST_ALLOWANCES)
         first = self.next()
         sign = self.sign() or 1
@@ -284,7 +306,7 @@ class Sentence:
         return 1 if self.has("+") else -1 if self.has("-") else 0
 
     def term(self):
-        """A number, an allowance, or a number of them: its place among the four numbers, and its size."""
+        """A number, an allowance, or a number of them: its place among the five numbers, and its size."""
         size = 1
         if self.next().kind == "number":
             size = self.number("a number", LONGER)
@@ -317,12 +339,13 @@ class Sentence:
 def write(sheet, names=None):
     """The text of a sheet, with those names or the default ones."""
     names = names or default_names(sheet)
+    version = [f"version {sheet.version}"] if sheet.version != 1 else []
     allowances = [f"allowance {name} {low}..{high}" for name, (low, high) in zip(names.allowance, sheet.ranges)]
     watches = [f"watch {name}" for name in names.watch]
     stages = [stage_words(name, limits, names) for name, limits in zip(names.stage, sheet.stages)]
     moves = [move_words(name, move, names) for name, move in zip(names.move, sheet.moves)]
     route = [f"route {', '.join(names.move[k] for k in sheet.route)}".rstrip()]
-    blocks = [block for block in (allowances, watches, stages, moves, route) if block]
+    blocks = [block for block in (version, allowances, watches, stages, moves, route) if block]
     return "\n\n".join("\n".join(block) for block in blocks) + "\n"
 
 

@@ -49,4 +49,4 @@ def weight(e):
 def follows(e, others, ranges):
     """No setting of the ranges meets the others and not this one."""
     opposite = (-e[0] - 1, *negated(e[1:]))
-    return next(settings.rows([*others, opposite], ranges), None) is None
+    return not settings.some([*others, opposite], ranges)

@@ -6,7 +6,7 @@ from typing import NamedTuple
 from faults import plain
 
 LONGEST_NAME = 60  # letters
-LINE_WORDS = ("allowance", "watch", "stage", "move", "route")  # a line starts with one of them
+LINE_WORDS = ("version", "allowance", "watch", "stage", "move", "route")  # a line starts with one of them
 KEYWORDS = (*LINE_WORDS, "when", "resets")
 TOKEN = re.compile(r"(?P<space>[ \t]+)|(?P<comment>\#.*)|(?P<number>[0-9]+)"
                    r"|(?P<name>[^\W\d]\w*(?:-+\w+)*)"

@@ -48,7 +48,7 @@ class Beginnings(unittest.TestCase):
         whole, _ = parse("watch v\nwatch w\nstage a\nstage b: v <= 8, w <= 9\nmove m: a -> b when v >= 1\n"
                          "move n: b -> b when v >= 2 resets w\nroute m, n\n")
         (v, w), one, two = whole.stages[1], whole.moves[0].limits, whole.moves[1].limits
-        zero = sheet_file.Limit(2, 0, False, (0, 0, 0, 0))
+        zero = sheet_file.Limit(2, 0, False, (0, 0, 0, 0, 0))
         for part, stages, limits in (((0, MOVE, 0), [()], [one]), ((1, ARRIVAL, 0), [()], [one + (v,)]),
                                      ((1, ARRIVAL, 1), [()], [one + (v, w)]), ((1, STAY, 0), [(), (v,)], [one + (v, w)]),
                                      ((1, STAY, 1), [(), (v, w)], [one]), ((2, ARRIVAL, 0), [(), (v, w), (zero,)], [one, two, (v,)]),
@@ -57,7 +57,7 @@ class Beginnings(unittest.TestCase):
             self.assertEqual((list(cut.stages), [move.limits for move in cut.moves]), (stages, limits), part)
 
     def test_no_room(self):
-        """A 17th stage, a 33rd move, a seventh limit of a move."""
+        """A 17th stage, a 33rd move, a seventh limit of a move, a file that is too long."""
         sixteen = "".join(f"stage s{k}: w <= {k + 1}, w >= 0\n" for k in range(16))
         whole, _ = parse(f"watch w\n{sixteen}{MOVES}move back: s15 -> s0\nroute {', '.join(f'm{k}' for k in range(15))}, back\n")
         self.assertEqual([part for part in every_beginning(whole) if not same_steps(whole, part)],
@@ -70,6 +70,17 @@ class Beginnings(unittest.TestCase):
         five = ", ".join(f"w <= {k}" for k in range(20, 25))
         whole, _ = parse(f"watch w\nstage a\nstage b: w <= 5, w >= 0\nmove m: a -> b when {five}\nroute m\n")
         self.assertEqual([part for part in every_beginning(whole) if not same_steps(whole, part)], [(1, ARRIVAL, 1), (1, STAY, 0)])
+        six = [", ".join(f"w <= {k + n}" for n in range(6)) for k in range(15)]
+        stages = "".join(f"stage s{k}: {limits}\n" for k, limits in enumerate(six))
+        around = "".join(f"move m{k}: s{k} -> s{(k + 1) % 15} when {limits}\n" for k, limits in enumerate(six))
+        whole, _ = parse(f"version 2\nwatch w\n{stages}{around}route {', '.join(f'm{k % 15}' for k in range(32))}\n")
+        parts = [part for part in every_beginning(whole) if part.when == MOVE]
+        written = [part for part in parts if same_steps(whole, part)]
+        self.assertEqual(written, parts[:len(written)])
+        self.assertLess(len(written), len(parts))
+        length = len(sheet_file.write(same_steps(whole, written[-1])))
+        self.assertIn(length, range(4096 - 18, 4097))  # one more limit has 14 bytes, and 5 with a move more
+        self.assertTrue(all(same_steps(whole._replace(version=1), part) for part in parts))
 
     def test_the_first_where_some_cannot_be_written(self):
         """It is told if it is the only one after the last at which nothing happens."""

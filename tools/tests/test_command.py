@@ -58,7 +58,7 @@ class Commands(Folder):
 
 class Answers(Commands):
     def test_pieces(self):
-        for name in ("a", "week"):
+        for name in ("a", "week", "tent"):
             done = moyanthu("windows", SHEETS / f"{name}.txt")
             self.assertEqual((done.returncode, done.stdout), (0, (EXPECTED / f"{name}.windows").read_bytes()))
         text = (SHEETS / "a.txt").read_bytes()
@@ -173,12 +173,14 @@ class Answers(Commands):
         self.assertEqual(data, {
             "sheet": str(SHEETS / "a.txt"), "allowances": [{"name": "p", "lowest": 0, "highest": 10}], "watches": ["since-mixing"],
             "warnings": [], "kept": 8, "cut": 3, "groups": [[0]], "status": 0, "pieces": [{
-                "settings": 8, "first": {"p": 3}, "where": ["p ≥ 3"], "simplified": [[-3, 1, 0, 0]], "inequalities": [[-3, 1, 0, 0]],
-                "bounds": [[{"strict": False, "numbers": [0, 0, 0, 0]}, {"strict": False, "numbers": [-3, 0, 0, 0]}],
-                           [None, {"strict": False, "numbers": [0, 0, 0, 0]}]]}]})
+                "settings": 8, "first": {"p": 3}, "where": ["p ≥ 3"], "simplified": [[-3, 1, 0, 0, 0]],
+                "inequalities": [[-3, 1, 0, 0, 0]],
+                "bounds": [[{"strict": False, "numbers": [0, 0, 0, 0, 0]}, {"strict": False, "numbers": [-3, 0, 0, 0, 0]}],
+                           [None, {"strict": False, "numbers": [0, 0, 0, 0, 0]}]]}]})
         firsts = {name: [piece["first"] for piece in json.loads(moyanthu("windows", SHEETS / f"{name}.txt", "--json").stdout)["pieces"]]
-                  for name in ("week", "no-limits", "never")}
+                  for name in ("week", "tent", "no-limits", "never")}
         self.assertEqual(firsts["week"][1], {"green": 151, "hard": 189, "pot": 38})
+        self.assertEqual(firsts["tent"][0], {"green": 134, "hard": 165, "pot": 31, "tent": 60})
         self.assertEqual((firsts["no-limits"], firsts["never"]), ([{}], []))
         data = json.loads(moyanthu("windows", SHEETS / "week.txt", "--json", "--at", SETTING).stdout)
         self.assertEqual((data["at"][0]["piece"], data["at"][0]["room"]["green"]), (9, [90, 153]))
@@ -356,7 +358,7 @@ class InputAndOutput(Commands):
                               ("echo pieces 1 kept 1 cut 0", "line 2: the listing ends"), ("printf '\\033[31m'", "\\x1b[31m"),
                               (f"echo refused {'7' * 5000} place 0", "line 1: found 'refused 7777"),
                               ("echo pieces 0 kept 0 cut 5", "expected 11 in all"),
-                              (f"sed 's/first 3/first 2/' {EXPECTED / 'a.listing'}", "(2, 0, 0) is the first setting of piece 0")):
+                              (f"sed 's/first 3/first 2/' {EXPECTED / 'a.listing'}", "(2, 0, 0, 0) is the first setting of piece 0")):
             program = self.file("program", f"#!/bin/sh\ncat > /dev/null\n{script}\n")
             program.chmod(0o755)
             self.fails(4, words, "windows", SHEETS / "a.txt", env=environment(LISTING=str(program)))
@@ -412,9 +414,15 @@ class Sweeps(Commands):
         self.assertIn("Windows: refuses the whole sheet (refused 7 place 3)", done.stdout.decode("utf-8"))
         self.assertEqual(moyanthu("sweep", self.file("short.sheet", b"\x01"), "--at", "p=3").returncode, 2)
 
+    def test_four_allowances(self):
+        for tent, status, words in ((60, 0, "Windows: piece 1 holds it"), (70, 1, "Windows: no piece holds it")):
+            done = moyanthu("sweep", SHEETS / "tent.txt", "--at", f"green=133,hard=170,pot=28,tent={tent}")
+            self.assertEqual(done.returncode, status, said(done))
+            self.assertIn(f"{words}; the two agree", done.stdout.decode("utf-8"))
+
     def test_by_sweep(self):
         path = self.folder / "a.png"
-        for name in ("a", "p-then-q", "never", "minus-two-p"):
+        for name in ("a", "p-then-q", "never", "minus-two-p", "tent"):
             done = moyanthu("windows", SHEETS / f"{name}.txt", "--by-sweep", "--json", "--png", path)
             both = [json.loads(text) for text in (done.stdout, moyanthu("windows", SHEETS / f"{name}.txt", "--json").stdout)]
             self.assertEqual(*([data[key] for key in ("kept", "cut", "status")] for data in both), name)

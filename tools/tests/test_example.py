@@ -20,11 +20,15 @@ class Example(unittest.TestCase):
             for words, status, out in ((("a", 3), 0, "0 a run follows the route\n"), (("a", 2), 0, "1 no run follows the route\n"),
                                        (("a", 11), 1, "6 refused: a number outside its range\n"),
                                        (("never",), 0, "1 no run follows the route\n"), (("a",), 2, ""), (("a", 3, 0), 2, ""),
-                                       (("week", 100, 180), 2, ""), (("week", 100, 180, 30), 0, "0 a run follows the route\n")):
+                                       (("week", 100, 180), 2, ""), (("week", 100, 180, 30), 0, "0 a run follows the route\n"),
+                                       (("tent", 130, 170, 28), 2, ""),
+                                       (("tent", 130, 170, 28, 59), 1, "6 refused: a number outside its range\n"),
+                                       (("tent", 130, 170, 28, 60), 0, "0 a run follows the route\n"),
+                                       (("tent", 130, 170, 28, 70), 0, "1 no run follows the route\n")):
                 name, *numbers = words
                 done = subprocess.run([program, SHEETS / f"{name}.sheet", *map(str, numbers)], capture_output=True, check=False,
                                       text=True)
                 self.assertEqual((done.returncode, done.stdout), (status, out), (words, done.stderr))
                 if status == 2:
-                    allowances = 3 if name == "week" else 1
+                    allowances = {"a": 1, "week": 3, "tent": 4}[name]
                     self.assertIn(f"numbers given: {len(numbers)}; expected one for each allowance: {allowances}", done.stderr)

@@ -22,13 +22,12 @@ def root(name):
 
 def brute_counts(name):
     """How many settings each piece holds, by trying each."""
-    ranges = [*sheet(name)[0].ranges, (0, 0), (0, 0)][:3]
     pieces = [piece.inequalities for piece in found(name).pieces]
     counts = [0] * len(pieces)
-    for x, y, z in itertools.product(*(range(low, high + 1) for low, high in ranges)):
+    for setting in itertools.product(*(range(low, high + 1) for low, high in sheet(name)[0].ranges)):
         for number, inequalities in enumerate(pieces):
-            for constant, p, q, r in inequalities:
-                if constant + p * x + q * y + r * z < 0:
+            for constant, *coefficients in inequalities:
+                if constant + sum(k * x for k, x in zip(coefficients, setting)) < 0:
                     break
             else:
                 counts[number] += 1
@@ -114,10 +113,11 @@ class Pictures(unittest.TestCase):
                 self.assertEqual((frames, cells), ([], []))
                 continue
             across, up = picture.scales(whole.ranges, names)
-            ranges = settings.three(whole.ranges)
+            ranges = settings.four(whole.ranges)
             wanted = set()
-            for number, (p, q, r) in enumerate(piece.first for piece in found(name).pieces):
-                x, y = self.place(panels[r - ranges[2][0]])[:2]
+            for number, (p, q, r, s) in enumerate(piece.first for piece in found(name).pieces):
+                columns = ranges[2][1] - ranges[2][0] + 1
+                x, y = self.place(panels[(s - ranges[3][0]) * columns + r - ranges[2][0]])[:2]
                 cell = x + (p - ranges[0][0]) * across.cell, y + (ranges[1][1] - q) * up.cell, across.cell, up.cell
                 wanted.add((picture.colour(number), cell))
             self.assertEqual({(cell.get("fill"), self.place(cell)) for cell in cells}, wanted, name)
@@ -131,7 +131,7 @@ class Pictures(unittest.TestCase):
 
     def test_regions_without_a_first_setting(self):
         """All settings with a run, as Sweep finds them, have no frame and no words on it."""
-        shapes = picture.draw([picture.Region("", "a run", [(0, 0, 3, 10)])], 3, ((0, 10),), sheet("a")[1], "x").shapes
+        shapes = picture.draw([picture.Region("", "a run", [(0, 0, 0, 3, 10)])], 3, ((0, 10),), sheet("a")[1], "x").shapes
         self.assertFalse([shape for shape in shapes if getattr(shape, "role", "") == "frame" or "start" in getattr(shape, "text", "")])
 
     def test_words_of_the_pictures(self):
@@ -140,9 +140,31 @@ class Pictures(unittest.TestCase):
                        "where to start: of each piece the setting with the least green, then hard, then pot"):
             self.assertIn(wanted, words)
         self.assertIn("p (minutes)", [text.text for text in root("a").iter(f"{SVG}text")])
+        self.assertIn("where to start: of each piece the setting with the least green, then hard, then pot, then tent",
+                      [text.text for text in root("tent").iter(f"{SVG}text")])
         for name, wanted in (("no-limits", "no-limits: the only setting has a run (piece 0)"),
                              ("never", "never: the only setting has no run")):
             self.assertEqual([text.text for text in root(name).iter(f"{SVG}text")], [wanted])
+
+    def test_rows_and_columns_of_charts(self):
+        """With four allowances a row of charts has one value of the fourth, and a column one of the third."""
+        whole, names = sheet("tent")
+        texts = [(text.text, float(text.get("x")), float(text.get("y"))) for text in root("tent").iter(f"{SVG}text")]
+        pots, tents = ([place for place in texts if place[0].startswith(f"{name} = ")] for name in ("pot", "tent"))
+        self.assertEqual([text for text, *_ in pots], [f"pot = {k}" for k in range(26, 32)])
+        self.assertEqual([text for text, *_ in tents], [f"tent = {k}" for k in range(60, 72)])
+        self.assertEqual((len({y for *_, y in pots}), len({x for _, x, _ in tents})), (1, 1))
+        panels = [self.place(rect) for rect in root("tent").iter(f"{SVG}rect") if rect.get("class") == "cut"]
+        self.assertEqual(sorted({x for x, *_ in panels}), [x for _, x, _ in pots])
+        middles = sorted({y + height / 2 + 4 for _, y, _, height in panels})
+        self.assertEqual(middles, [y for *_, y in tents])
+        self.assertEqual(len(panels), 72)
+        across, up = picture.scales(whole.ranges, names)
+        for number, piece in enumerate(found("tent").pieces):
+            wanted = {(pots[r - 26][1] + (p - 128) * across.cell, tents[s - 60][2] - 4 + (172 - q) * up.cell)
+                      for p, q, r, s in itertools.product(range(128, 144), range(165, 181), range(26, 32), range(60, 72))
+                      if settings.holds(piece, (p, q, r, s))}
+            self.assertEqual(set(coloured(root("tent"), across.cell, up.cell)[number]), wanted)
 
     def test_nothing_lies_outside(self):
         for name in NAMES:
@@ -161,8 +183,9 @@ class Pictures(unittest.TestCase):
 
     def test_numbers_of_neighbours_do_not_touch(self):
         """Of charts side by side, also where each is narrow and its numbers are long."""
-        for ranges in (((90, 153), (0, 9), (0, 11)), ((-999, -998), (0, 1), (0, 15)), ((100, 131), (0, 63), (0, 63))):
-            names = sheet("week")[1]
+        for ranges in (((90, 153), (0, 9), (0, 11)), ((-999, -998), (0, 1), (0, 15)), ((100, 131), (0, 63), (0, 63)),
+                       ((-999, -998), (0, 1), (0, 63), (0, 3)), ((100, 131), (0, 5), (0, 3), (0, 9))):
+            names = sheet("tent")[1]
             shapes = picture.draw([], 1, ranges, names, "x").shapes
             rows = {}
             for shape in shapes:

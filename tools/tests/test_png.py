@@ -96,14 +96,15 @@ class CellsOfSheets(unittest.TestCase):
         """The middle of every step-th cell has its piece's colour, or the colour of the number on it, or is hatched, or is part of
         the frame of another cell."""
         whole, names = sheet(name)
-        ranges, image = settings.three(whole.ranges), pixels(name)
+        ranges, image = settings.four(whole.ranges), pixels(name)
         across, up = picture.scales(whole.ranges, names)
+        columns = ranges[2][1] - ranges[2][0] + 1
         kept = cut = 0
-        for p, q, r in list(itertools.product(*(range(low, high + 1) for low, high in ranges)))[::step]:
-            panel = self.panels(name)[r - ranges[2][0]]
+        for p, q, r, s in list(itertools.product(*(range(low, high + 1) for low, high in ranges)))[::step]:
+            panel = self.panels(name)[(s - ranges[3][0]) * columns + r - ranges[2][0]]
             x = 2 * panel.x + (2 * (p - ranges[0][0]) + 1) * across.cell
             y = 2 * panel.y + (2 * (ranges[1][1] - q) + 1) * up.cell
-            pieces = [number for number, piece in enumerate(found(name).pieces) if settings.holds(piece, (p, q, r))]
+            pieces = [number for number, piece in enumerate(found(name).pieces) if settings.holds(piece, (p, q, r, s))]
             wanted = {PAPER, HATCH[2]}
             if pieces:
                 wanted = {picture.colour(pieces[0])}
@@ -111,7 +112,7 @@ class CellsOfSheets(unittest.TestCase):
                     wanted.add(picture.ink(pieces[0]))
             if self.beside_a_first(name, x, y):
                 wanted |= {PAPER, INK}
-            self.assertIn(image.at(x, y), wanted, (name, p, q, r))
+            self.assertIn(image.at(x, y), wanted, (name, p, q, r, s))
             kept, cut = kept + bool(pieces), cut + (not pieces)
         return kept, cut
 
@@ -134,9 +135,10 @@ class CellsOfSheets(unittest.TestCase):
         for name in ("a", "p-then-q", "q-then-p", "a-strict", "below-zero"):
             self.assertEqual(self.check(name), (found(name).kept, found(name).cut), name)
 
-    def test_the_week(self):
-        kept, cut = self.check("week", 53)
-        self.assertTrue(kept > 700 and cut > 150)
+    def test_the_large_sheets(self):
+        for name, step in (("week", 53), ("tent", 19)):
+            kept, cut = self.check(name, step)
+            self.assertTrue(kept > 700 and cut > 150)
 
     def test_whole_cells_of_sheet_a(self):
         """Settings 0 to 2 are hatched in two colours, 3 to 10 have the piece's; the number 0 stands between 6 and 7, and the frame
@@ -157,7 +159,7 @@ class CellsOfSheets(unittest.TestCase):
 
     def test_32_pieces_in_many_charts(self):
         """The lines between cells add one colour for each, however many charts there are."""
-        regions = [picture.Region(str(k), "", [(k % 10, r, k // 10, k // 10) for r in range(16)]) for k in range(32)]
+        regions = [picture.Region(str(k), "", [(k % 10, r, 0, k // 10, k // 10) for r in range(16)]) for k in range(32)]
         image = Pixels(png.data(picture.draw(regions, 1, ((0, 9), (0, 9), (0, 15)), sheet("week")[1], "x")))
         self.assertLessEqual({picture.colour(k) for k in range(32)}, set(image.colours))
         self.assertLess(len(image.colours), 80)

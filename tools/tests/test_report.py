@@ -46,7 +46,7 @@ def brute(name, setting):
             number, held, bounds = int(rest[0]), True, {}
         if kind in ("piece", "first"):
             continue
-        numbers = [int(word) for word in rest[-4:]] if rest[-1] != "none" else None
+        numbers = [int(word) for word in rest[-5:]] if rest[-1] != "none" else None
         total = numbers and numbers[0] + sum(k * x for k, x in zip(numbers[1:], setting))
         if kind == "ineq":
             held = held and total >= 0
@@ -89,7 +89,7 @@ class FirstSettings(unittest.TestCase):
 
     def test_the_first_of_those_that_are_tried_in_order(self):
         for name in NAMES:
-            whole = list(itertools.product(*(range(low, high + 1) for low, high in settings.three(sheet(name)[0].ranges))))
+            whole = list(itertools.product(*(range(low, high + 1) for low, high in settings.four(sheet(name)[0].ranges))))
             for piece in found(name).pieces:
                 self.assertEqual(piece.first, next(setting for setting in whole if settings.holds(piece, setting)), name)
 
@@ -103,6 +103,7 @@ class FirstSettings(unittest.TestCase):
         self.assertEqual(len(week), len(found("week").pieces))
         self.assertIn("    start from green = 144, hard = 183, pot = 39", week)
         self.assertIn("  start from green = 90, hard = 160, pot = 28", week)
+        self.assertIn("  start from green = 134, hard = 165, pot = 31, tent = 60", self.starts("tent"))
 
 
 class OneSetting(unittest.TestCase):
@@ -129,24 +130,26 @@ class OneSetting(unittest.TestCase):
                 whole = itertools.product(*(range(low, high + 1) for low, high in ranges))
                 self.assertEqual(sum(self.agrees(name, setting) for setting in whole), found(name).kept, name)
 
-    def test_settings_of_the_week(self):
-        ranges = sheet("week")[0].ranges
+    def test_settings_of_the_large_sheets(self):
         draw = random.Random(1)
-        for _ in range(200):
-            self.agrees("week", tuple(draw.randint(low, high) for low, high in ranges))
-        for setting in itertools.product(*ranges):
-            self.agrees("week", setting)
+        for name in ("week", "tent"):
+            ranges = sheet(name)[0].ranges
+            for _ in range(200):
+                self.agrees(name, tuple(draw.randint(low, high) for low, high in ranges))
+            for setting in itertools.product(*ranges):
+                self.agrees(name, setting)
 
-    def test_no_setting_of_the_week_lies_in_two_pieces(self):
-        cells = [(piece, q, r, p) for piece in range(len(found("week").pieces))
-                 for q, r, low, high in settings.rows(found("week").pieces[piece].inequalities, sheet("week")[0].ranges)
-                 for p in range(low, high + 1)]
-        self.assertEqual(len({cell[1:] for cell in cells}), len(cells))
-        self.assertEqual(len(cells), found("week").kept)
+    def test_no_setting_of_a_large_sheet_lies_in_two_pieces(self):
+        for name in ("week", "tent"):
+            cells = [(piece, *others, p) for piece in range(len(found(name).pieces))
+                     for *others, low, high in settings.rows(found(name).pieces[piece].inequalities, sheet(name)[0].ranges)
+                     for p in range(low, high + 1)]
+            self.assertEqual(len({cell[1:] for cell in cells}), len(cells))
+            self.assertEqual(len(cells), found(name).kept)
 
     def test_room_is_what_trying_each_value_gives(self):
         draw = random.Random(2)
-        for name in ("a", "p-then-q", "week", "from-minus-p", "minus-two-p"):
+        for name in ("a", "p-then-q", "week", "tent", "from-minus-p", "minus-two-p"):
             pieces, ranges = found(name).pieces, sheet(name)[0].ranges
             for _ in range(30):
                 setting = tuple(draw.randint(low, high) for low, high in ranges)
@@ -169,7 +172,8 @@ class Refusals(unittest.TestCase):
     def test_words_for_every_number(self):
         words = {1: "under 32 places", 2: "under 22 or over 4,096 bytes", 3: "the contents of the file is wrong (byte 4 ",
                  4: "the end of a body, is wrong (byte 4 ", 5: "a move not where the last one arrived (byte 4 ",
-                 6: "outside a range", 7: "a 33rd piece (after 4 moves", 8: "a 25th inequality (after 4 moves"}
+                 6: "outside a range", 7: "a 33rd piece (after 4 moves", 8: "a 25th inequality (after 4 moves",
+                 16: "the product of the widths of the ranges passes 262,144"}
         self.assertEqual(set(words), set(refusals.GROUNDS))
         for number, text in {**words, 9: "not in the table of docs/FORMAT.md"}.items():
             printed = report.refusal_line(listing.refusal(f"refused {number} place 4\n"))
@@ -198,26 +202,27 @@ class WrongListings(unittest.TestCase):
         good = listing_text("a")
         self.refused("", "line 1: the listing ends; expected 'pieces N kept N cut N'")
         self.refused(good.replace("piece 0", "piece 1"), "line 2: found 'piece 1'; expected 'piece 0'")
-        self.refused(good.replace("ineq -3", "ineq -x"), "line 4: found 'ineq -x 1 0 0'; expected 'bound 0 0'")
-        self.refused(good.replace("bound 0 1", "bound 1 1"), "line 6: found 'bound 1 1 le -3 0 0 0'; expected 'bound 0 1'")
+        self.refused(good.replace("ineq -3", "ineq -x"), "line 4: found 'ineq -x 1 0 0 0'; expected 'bound 0 0'")
+        self.refused(good.replace("bound 0 1", "bound 1 1"), "line 6: found 'bound 1 1 le -3 0 0 0 0'; expected 'bound 0 1'")
         self.refused(good + "piece 1\n", "line 9: found 'piece 1'; expected the end")
-        self.refused(good[:77], "expected 'bound 0 1' and its bound, since the sheet has 1 watch")
+        self.refused(good.replace("le -3 0 0 0 0", "le -3 0 0 0"), "line 6: found 'bound 0 1 le -3 0 0 0'; expected 'bound 0 1'")
+        self.refused(good[:good.index("bound 0 1")], "expected 'bound 0 1' and its bound, since the sheet has 1 watch")
         self.refused(good.replace("kept 8", "kept ٨"), "line 1: found 'pieces 1 kept ٨ cut 3'")
 
     def test_the_line_of_the_first_setting(self):
-        """It comes after each piece's line and has three numbers."""
-        expected = "; expected 'first' and its three numbers"
+        """It comes after each piece's line and has four numbers."""
+        expected = "; expected 'first' and its four numbers"
         good = listing_text("p-then-q")
-        self.refused(good.replace("first 1 0 0\n", ""), f"line 3: found 'ineq -1 1 -1 0'{expected}")
-        self.refused(good.replace("first 0 0 0\n", ""), f"line 10: found 'ineq 0 -1 1 0'{expected}")
+        self.refused(good.replace("first 1 0 0 0\n", ""), f"line 3: found 'ineq -1 1 -1 0 0'{expected}")
+        self.refused(good.replace("first 0 0 0 0\n", ""), f"line 10: found 'ineq 0 -1 1 0 0'{expected}")
         self.refused(good[:good.index("first")], f"line 3: the listing ends{expected}")
-        for wrong in ("first 1 0", "first 1 0 0 0", "first 1 0 x", "first  1 0 0", "first 1 0 0 ", "first"):
-            self.refused(good.replace("first 1 0 0", wrong), f"line 3: found '{wrong}'{expected}")
+        for wrong in ("first 1 0 0", "first 1 0 0 0 0", "first 1 0 0 x", "first  1 0 0 0", "first 1 0 0 0 ", "first"):
+            self.refused(good.replace("first 1 0 0 0", wrong), f"line 3: found '{wrong}'{expected}")
 
     def test_a_first_setting_that_the_piece_does_not_hold(self):
         """Against an inequality, outside the range, or not 0 for an allowance that the sheet lacks."""
-        for wrong in ("2 0 0", "11 0 0", "3 1 0", "3 0 -1"):
-            pieces = listing.parse(listing_text("a").replace("first 3 0 0", f"first {wrong}"), 1)
+        for wrong in ("2 0 0 0", "11 0 0 0", "3 1 0 0", "3 0 -1 0", "3 0 0 1"):
+            pieces = listing.parse(listing_text("a").replace("first 3 0 0 0", f"first {wrong}"), 1)
             with self.assertRaises(Fault) as caught:
                 windows_of(pieces, sheet("a")[0].ranges)
             self.assertIn(f"({wrong.replace(' ', ', ')}) is the first setting of piece 0; expected", str(caught.exception))
@@ -251,7 +256,7 @@ class StoredRecords(unittest.TestCase):
             lines = report.pieces_lines(held, pieces, names)
             self.assertEqual(sum(line.startswith(("piece ", "  piece ")) for line in lines), len(pieces.pieces))
             for window in held:
-                self.assertEqual(window.piece.first, min((p, q, r) for q, r, p, _ in settings.rows(window.where, whole.ranges)))
+                self.assertEqual(window.piece.first, min((p, q, r, s) for q, r, s, p, _ in settings.rows(window.where, whole.ranges)))
             drawn = picture.draw(picture.piece_regions(held, whole.ranges, names), pieces.cut, whole.ranges, names, "record")
             ElementTree.fromstring(svg.text(drawn))
             shown += 1

@@ -12,7 +12,7 @@ from ask import put_in
 from beginnings import stage_of
 from records import records
 from schedule import end_matrix, last_resets, schedule
-from sheet_file import MOST_LIMITS, MOST_MOVES, MOST_STAGES, MOST_WATCHES, Limit, Move, Sheet
+from sheet_file import MOST_BYTES, MOST_LIMITS, MOST_MOVES, MOST_STAGES, MOST_WATCHES, Limit, Move
 from sheet_text import parse
 from stored import NAMES, WINDOWS_RECORDS, lister, runner, sheet, sweep_function, sweeper
 
@@ -63,7 +63,8 @@ def with_limit(whole, step, limit):
     full = len(moves) > MOST_MOVES or len(stages) > MOST_STAGES or len(moves[step].limits) > MOST_LIMITS
     if full or whole.watches == MOST_WATCHES:
         return None
-    return Sheet(whole.ranges, whole.watches + 1, stages, tuple(moves), tuple(range(len(moves))))
+    more = whole._replace(watches=whole.watches + 1, stages=stages, moves=tuple(moves), route=tuple(range(len(moves))))
+    return more if len(sheet_file.write(more)) <= MOST_BYTES else None
 
 
 class AgainstSweep(unittest.TestCase):
@@ -88,14 +89,15 @@ class AgainstSweep(unittest.TestCase):
         """The bounds of a step hold and are reached; gives whether they could be tried."""
         watch = whole.watches + 1
         least, mark = step.when.least
-        tries = [(Limit(watch, 0, True, (least, 0, 0, 0)), False), (Limit(watch, 0, False, (least, 0, 0, 0)), mark == 0),
-                 (Limit(watch, 0, True, (least + 1, 0, 0, 0)), True)]
+        zeros = 0, 0, 0, 0
+        tries = [(Limit(watch, 0, True, (least, *zeros)), False), (Limit(watch, 0, False, (least, *zeros)), mark == 0),
+                 (Limit(watch, 0, True, (least + 1, *zeros)), True)]
         if step.when.most is None:
-            tries.append((Limit(0, watch, False, (-1000, 0, 0, 0)), True))
+            tries.append((Limit(0, watch, False, (-1000, *zeros)), True))
         else:
             most, mark = step.when.most
-            tries += [(Limit(0, watch, True, (-most, 0, 0, 0)), False), (Limit(0, watch, False, (-most, 0, 0, 0)), mark == 0),
-                      (Limit(0, watch, True, (1 - most, 0, 0, 0)), True)]
+            tries += [(Limit(0, watch, True, (-most, *zeros)), False), (Limit(0, watch, False, (-most, *zeros)), mark == 0),
+                      (Limit(0, watch, True, (1 - most, *zeros)), True)]
         if any(abs(number) > 1000 for limit, _ in tries for number in limit.numbers):
             return False
         for limit, run in tries:

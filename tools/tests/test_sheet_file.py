@@ -18,6 +18,17 @@ def outcome(file):
 
 
 class SheetFile(unittest.TestCase):
+    def test_another_version_is_laid_out_as_1(self):
+        """The fourth coefficient is no part of a sheet of version 1, and is not written."""
+        a = (ROOT / "sheets" / "a.sheet").read_bytes()
+        whole = sheet_file.read(a)
+        limit = whole.stages[0][0]
+        more = whole._replace(stages=((limit._replace(numbers=(*limit.numbers[:4], 7)),), *whole.stages[1:]))
+        self.assertEqual(sheet_file.write(more), a)
+        self.assertEqual(sheet_file.write(more._replace(version=3)), b"\x03" + a[1:])
+        again = sheet_file.write(more._replace(version=2, ranges=whole.ranges * 4))
+        self.assertEqual(sheet_file.read(again).stages[0][0].numbers, (0, 1, 0, 0, 7))
+
     def test_stored_files_are_read_or_refused_as_stored(self):
         folder = ROOT / "crates" / "vectors_sheet"
         files = list(records(folder / "data" / "sheets.bin"))

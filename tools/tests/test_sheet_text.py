@@ -61,21 +61,21 @@ def limit(text):
 
 class Accepted(unittest.TestCase):
     def test_limits(self):
-        self.assertEqual(limit("v <= p"), Limit(1, 0, False, (0, 1, 0, 0)))
-        self.assertEqual(limit("w ≤ 2p + 5"), Limit(2, 0, False, (5, 2, 0, 0)))
-        self.assertEqual(limit("v < -1000"), Limit(1, 0, True, (-1000, 0, 0, 0)))
-        self.assertEqual(limit("v >= 3"), Limit(0, 1, False, (-3, 0, 0, 0)))
-        self.assertEqual(limit("v ≥ q - 1"), Limit(0, 1, False, (1, 0, -1, 0)))
-        self.assertEqual(limit("w > -2*q - 3 * p + 1000"), Limit(0, 2, True, (-1000, 3, 2, 0)))
-        self.assertEqual(limit("w>0"), Limit(0, 2, True, (0, 0, 0, 0)))
-        self.assertEqual(limit("v<=+p+p+1-4"), Limit(1, 0, False, (-3, 2, 0, 0)))
-        self.assertEqual(limit("v <= 00000000005"), Limit(1, 0, False, (5, 0, 0, 0)))
+        self.assertEqual(limit("v <= p"), Limit(1, 0, False, (0, 1, 0, 0, 0)))
+        self.assertEqual(limit("w ≤ 2p + 5"), Limit(2, 0, False, (5, 2, 0, 0, 0)))
+        self.assertEqual(limit("v < -1000"), Limit(1, 0, True, (-1000, 0, 0, 0, 0)))
+        self.assertEqual(limit("v >= 3"), Limit(0, 1, False, (-3, 0, 0, 0, 0)))
+        self.assertEqual(limit("v ≥ q - 1"), Limit(0, 1, False, (1, 0, -1, 0, 0)))
+        self.assertEqual(limit("w > -2*q - 3 * p + 1000"), Limit(0, 2, True, (-1000, 3, 2, 0, 0)))
+        self.assertEqual(limit("w>0"), Limit(0, 2, True, (0, 0, 0, 0, 0)))
+        self.assertEqual(limit("v<=+p+p+1-4"), Limit(1, 0, False, (-3, 2, 0, 0, 0)))
+        self.assertEqual(limit("v <= 00000000005"), Limit(1, 0, False, (5, 0, 0, 0, 0)))
 
     def test_order_of_lines_is_free(self):
         mixed = "route m\nmove m:b->a when w>=p resets w\nstage b\nwatch w\nstage a:w<p\nallowance p -3..-1\n"
         whole, names = sheet_text.parse(mixed)
         self.assertEqual(names, (("p",), ("w",), ("b", "a"), ("m",)))
-        self.assertEqual(whole.moves[0], (0, 1, (1,), (Limit(0, 1, False, (0, -1, 0, 0)),)))
+        self.assertEqual(whole.moves[0], (0, 1, (1,), (Limit(0, 1, False, (0, -1, 0, 0, 0)),)))
         self.assertEqual(whole.ranges, ((-3, -1),))
 
     def test_line_ends_comments_and_letters(self):
@@ -91,6 +91,21 @@ class Accepted(unittest.TestCase):
         whole, _ = sheet_text.parse("watch v\nwatch w\nstage s\nmove m: s -> s resets w, v\nroute\n")
         self.assertEqual(whole.moves[0].resets, (1, 2))
 
+    def test_versions(self):
+        """Without a line it is 1. The line may stand anywhere; the fourth coefficient comes last."""
+        for text, version in (("", 1), ("version 1\n", 1), ("version 2\n", 2)):
+            whole, names = sheet_text.parse(f"watch w\nstage s\n{text}route\n")
+            self.assertEqual((whole.version, whole.ranges, names.allowance), (version, (), ()))
+        whole, names = sheet_text.parse(ALLOWANCES + "watch w\nstage a: w <= 4s - 3r + 2q - p + 9\nroute\nversion 2\n")
+        self.assertEqual((whole.version, names.allowance), (2, ("p", "q", "r", "s")))
+        self.assertEqual(whole.stages[0], (Limit(1, 0, False, (9, -1, 2, -3, 4)),))
+        self.assertTrue(sheet_text.write(whole).startswith("version 2\n\nallowance p 0..1\n"))
+        self.assertEqual(sheet_text.parse(FOUR.format(0))[0].ranges[3], (0, 0))
+        one, two = (sheet_text.parse(f"version {k}\nallowance p 0..1\nwatch w\nstage a: w <= p\nroute\n")[0] for k in (1, 2))
+        self.assertEqual(one, two._replace(version=1))
+        self.assertEqual(len(sheet_file.write(two)), len(sheet_file.write(one)) + 2)
+        self.assertTrue(sheet_text.write(one).startswith("allowance p 0..1\n"))
+
     def test_the_manual(self):
         """Each block of the manual is a good sheet."""
         blocks = re.findall(r"```\n(.*?)```", (DOCS / "TEXT.md").read_text(encoding="utf-8"), re.DOTALL)
@@ -99,6 +114,8 @@ class Accepted(unittest.TestCase):
             sheet_text.parse(block)
 
 
+ALLOWANCES = "allowance p 0..1\nallowance q 0..1\nallowance r 0..1\nallowance s 0..1\n"
+FOUR = "version 2\nwatch w\nallowance p 0..63\nallowance q -3..60\nallowance r 900..963\nallowance s 0..{}\nstage a\nroute\n"
 HEAD = "allowance p 0..10\nwatch v\nwatch w\nstage a\nstage b\n"  # lines 1 to 5
 # a text, the line and column of the fault, and words of the message
 WRONG = [
@@ -106,7 +123,7 @@ WRONG = [
     ("", 1, 1, "without a watch"),
     ("watch w\n", 2, 1, "without a stage"),
     ("watch w\nstage s", 2, 8, "without a route"),
-    (HEAD + "root\n", 6, 1, "found 'root'; expected a line that starts with allowance, watch, stage, move, route"),
+    (HEAD + "root\n", 6, 1, "found 'root'; expected a line that starts with version, allowance, watch, stage, move, route"),
     (HEAD + "  5\n", 6, 3, "found '5'; expected a line that starts with"),
     (HEAD + "when v\n", 6, 1, "found 'when'; expected a line that starts with"),
     (HEAD + "route\nroute\n", 7, 1, "a second route"),
@@ -174,10 +191,21 @@ WRONG = [
     (HEAD + "move m: b -> a\nroute m\n", 7, 7, "expected a move from stage 'a', where the route starts"),
     (HEAD + "move m: a -> a\nroute " + ", ".join(["m"] * 33), 7, 103, "one route move too many; expected at most 32"),
     # counts
-    ("allowance p 0..1\nallowance q 0..1\nallowance r 0..1\nallowance s 0..1\n", 4, 1, "at most 3 allowances"),
+    (ALLOWANCES.format(4), 4, 1, "at most 3 allowances, or the line 'version 2' for a fourth"),
+    ("version 1\n" + ALLOWANCES.format(4), 5, 1, "at most 3 allowances, or the line 'version 2' for a fourth"),
+    ("version 2\n" + ALLOWANCES.format(4) + "allowance t 0..1\n", 6, 1, "one allowance too many; expected at most 4 allowances"),
     ("".join(f"watch w{k}\n" for k in range(5)), 5, 1, "at most 4 watches"),
     ("".join(f"stage s{k}\n" for k in range(17)), 17, 1, "at most 16 stages"),
     ("".join(f"move m{k}: s -> s\n" for k in range(33)), 33, 1, "at most 32 moves"),
+    # versions
+    (HEAD + "version\nroute", 6, 8, "the line ends; expected 1 or 2 after 'version'"),
+    (HEAD + "version 3\nroute", 6, 9, "found '3'; expected 1 or 2 after 'version'"),
+    (HEAD + "version two\nroute", 6, 9, "found 'two'; expected 1 or 2 after 'version'"),
+    (HEAD + "version 2 2\nroute", 6, 11, "found '2'; expected the end of the line after the version"),
+    ("version 1\n" + HEAD + "version 1\nroute", 7, 1, "a second version; expected one line 'version' at most"),
+    (HEAD + "stage version\nroute", 6, 7, "found 'version'; expected a name for this stage"),
+    (FOUR.format(1), 6, 1, "the product of the widths of the ranges comes to 524,288; expected at most 262,144"),
+    (FOUR.format(63), 6, 1, "comes to 16,777,216; expected at most 262,144"),
 ]
 
 
@@ -239,6 +267,11 @@ class Commands(unittest.TestCase):
         for form in ("a.txt", "a.sheet"):
             self.assertIn(b"a good sheet: 1 allowance, 1 watch, 2 stages, 1 move, 1 move on the route, 62 bytes as a file\n",
                           moyanthu("check", SHEETS / form).stdout)
+        text = moyanthu("text", SHEETS / "tent.sheet").stdout
+        self.assertTrue(text.startswith(b"version 2\n\nallowance p 128..143\n"))
+        self.assertEqual(moyanthu("build", given=text).stdout, (SHEETS / "tent.sheet").read_bytes())
+        for form in ("tent.txt", "tent.sheet"):
+            self.assertIn(b"a good sheet of version 2: 4 allowances, 4 watches, ", moyanthu("check", SHEETS / form).stdout)
 
     def test_nothing_is_written_where_the_text_is_wrong(self):
         with tempfile.TemporaryDirectory() as folder:
@@ -259,7 +292,11 @@ class Commands(unittest.TestCase):
     def test_damaged_files_are_refused(self):
         a = (SHEETS / "a.sheet").read_bytes()
         wide = a[:25] + b"\x40" + a[26:]
-        for file, words in ((a[:21], "refused 2 place 0"), (b"\x02" + a[1:], "refused 3 place 0"),
+        far = (SHEETS / "tent.sheet").read_bytes()
+        for at in (25, 29, 33, 37):  # the highest of each range, 63 above the lowest
+            far = far[:at] + (int.from_bytes(far[at - 2:at], "little") + 63).to_bytes(2, "little") + far[at + 2:]
+        for file, words in ((a[:21], "refused 2 place 0"), (b"\x03" + a[1:], "refused 3 place 0"),
+                            (b"\x02" + a[1:], "refused 4 place 43"), (far, "refused 16 place 0"),
                             (wide, "refused 4 place 25"), (a[:-1], "refused 3 place 20"), (a + bytes(5000), "refused 2 place 0")):
             done = moyanthu("text", given=file)
             self.assertEqual((done.returncode, done.stdout), (2, b""))

@@ -11,7 +11,7 @@ use Rattle.cutting.specs.Cutting as cutting
 use Rattle.cutting.specs.DisjointProof.{zones-apart}
 use Rattle.cutting.specs.Held.{holds, at, HeldBy}
 use Rattle.expr.specs.Ranges.{Inside}
-use Rattle.expr.specs.Three.{rangeList}
+use Rattle.expr.specs.Records.{rangeList}
 use Rattle.reading.specs.Accepted.{read-well-formed}
 use Rattle.soundness.specs.TheoremsProof.{matrices-agree, zones-tightest, held-iff-run}
 use Rattle.sweep.specs.Proofs.{reply-entry, sweep-right}

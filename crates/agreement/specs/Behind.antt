@@ -18,7 +18,7 @@ use Rattle.cutting.specs.Held.{InRanges, holds}
 use Rattle.cutting.specs.NumberedProof.{some-number, zones-numbered}
 use Rattle.cutting.specs.ShapeProof.{zones-shaped}
 use Rattle.expr.specs.Ranges.{Inside}
-use Rattle.expr.specs.Three.{rangeList}
+use Rattle.expr.specs.Records.{rangeList}
 use Rattle.reading.specs.File.{Fine, readOf}
 use Rattle.sheet.specs.declared.Sheet.{Sheet}
 use Rattle.sweep.specs.Reply.{SweepReply, blankReply, outside, sheetReply, readReply, replyOf}

@@ -1,6 +1,6 @@
--- The proved rows of paper 01, "Sheets to try", in its order, as one table, and one theorem that the definitions yield every row: each
--- sheet as the bytes of its file; what Windows answers with a table of 32 places, what is in it, and what Sweep answers, by computing;
--- and with that, from the theorems, whether a run follows the route.
+-- The proved rows of paper 01, "Sheets to try", in its order, and one of version 2, as one table, and one theorem that the definitions
+-- yield every row: each sheet as the bytes of its file; what Windows answers with a table of 32 places, what is in it, and what Sweep
+-- answers, by computing; and with that, from the theorems, whether a run follows the route.
 use mathlib.Core.Path.{_≡_}
 use mathlib.Core.Logic.{_↔_}
 use mathlib.Core.List.{List, [], _∷_, map}
@@ -9,9 +9,9 @@ use Prim.Native.Nat.{ℕ}
 use lib.IntN.{ℤ, pos, _+ℤ_, _*ℤ_}
 use lib.ListN.{length, take}
 use lib.Signed.{_≤ℤ_}
-use Rattle.search.specs.Interval.{interval}
+use Rattle.narrowing.specs.Interval.{interval}
 use Rattle.expr.specs.Ranges.{In}
-use Rattle.expr.specs.Three.{affine, rangeList, point}
+use Rattle.expr.specs.Records.{affine, rangeList, point, valuationOf}
 use Rattle.search.specs.Valuations.{count}
 use Rattle.expr.specs.declared.bound.Bound.{Bound}
 use Rattle.expr.specs.declared.number.Expr.{Expr}
@@ -21,7 +21,7 @@ use Rattle.timed.specs.Lists.{AllOf}
 use Rattle.sheet.specs.declared.Sheet.{Sheet}
 use Rattle.timed.specs.Runs.{Run}
 use Rattle.sweep.specs.Theorems.{sheetOf, IsRun, IsVoid}
-use Rattle.agreement.specs.Bytes.{minus, range, constant, withP, withPQ, atMost, under, standing, moving}
+use Rattle.agreement.specs.Bytes.{minus, range, with, constant, withP, withPQ, atMost, under, atMostFour, standing, movingIn, moving}
 use Rattle.agreement.specs.Words.{windowsOf, table, pieceAt}
 use Rattle.answers.specs.Numbers.{numbered}
 use Rattle.answers.specs.declared.windows.Counts.{Counts}
@@ -95,11 +95,15 @@ Yields (inequality r) = IntervalYields r
 -- ---- the table
 -- p alone
 abbrev pub at : ℤ → Valuation
-at p = record { p = p; q = pos 0; r = pos 0 }
+at p = valuationOf (p ∷ [])
 
 -- p and q
 abbrev both : ℤ → ℤ → Valuation
-both p q = record { p = p; q = q; r = pos 0 }
+both p q = valuationOf (p ∷ q ∷ [])
+
+-- all four
+abbrev pub all : ℤ → ℤ → ℤ → ℤ → Valuation
+all p q r s = valuationOf (p ∷ q ∷ r ∷ s ∷ [])
 
 abbrev piece : ℕ → Valuation → List Expr → PieceRow
 piece n v ineqs = record { holds = n; first = v; ineqs = ineqs }
@@ -270,11 +274,27 @@ rowNever =
       voids = at (pos 0) ∷ [];
     }
 
+-- version 2 (paper 02, request (i)): p in 0..1, q in 0..0, r in 0..1, s in 0..3; location 0 has the invariant 1 - 0 ≤ p + s, the
+-- transition the guard 0 - 1 ≤ -3: 6 where p + s - 3 ≥ 0
+abbrev pub rowFour : SheetRow
+rowFour =
+    record {
+      file =
+          movingIn 2 (range (pos 0) (pos 1) ∷ range (pos 0) (pos 0) ∷ range (pos 0) (pos 1) ∷ range (pos 0) (pos 3) ∷ [])
+          (atMostFour 1 0 (with (pos 0) (pos 1 ∷ pos 0 ∷ pos 0 ∷ pos 1 ∷ [])) ∷ []) (atMostFour 0 1 (constant (minus 3)) ∷ []);
+      pieces = piece 6 (all (pos 0) (pos 0) (pos 0) (pos 3)) (with (minus 3) (pos 1 ∷ pos 0 ∷ pos 0 ∷ pos 1 ∷ []) ∷ []) ∷ [];
+      kept = 6;
+      cut = 10;
+      entries = entry 0 0 1 (le (constant (minus 3))) ∷ entry 0 1 0 noBound ∷ [];
+      runs = all (pos 0) (pos 0) (pos 1) (pos 3) ∷ [];
+      voids = all (pos 0) (pos 0) (pos 1) (pos 2) ∷ [];
+    }
+
 abbrev pub rows : List Row
 rows =
     sheet rowA ∷ sheet rowStrict ∷ sheet rowPQ ∷ sheet rowQP ∷ sheet rowFree ∷ sheet rowNone ∷ sheet rowBack ∷ inequality rowDown
     ∷ inequality rowUp
-    ∷ sheet rowTouch ∷ sheet rowApart ∷ sheet rowNever ∷ []
+    ∷ sheet rowTouch ∷ sheet rowApart ∷ sheet rowNever ∷ sheet rowFour ∷ []
 
 -- the statement
 abbrev pub ListedCases : Type 0

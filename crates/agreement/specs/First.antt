@@ -5,7 +5,7 @@ use mathlib.Core.List.{List}
 use Prim.Native.Nat.{ℕ, _≤_, _<_}
 use lib.IntN.{ℤ, pos}
 use lib.ListN.{getD}
-use Rattle.expr.specs.Three.{point}
+use Rattle.expr.specs.Records.{point}
 use Rattle.search.specs.First.{Earlier}
 use Rattle.sweep.specs.Theorems.{sheetOf}
 use Rattle.agreement.specs.Words.{Lists, pieces, pieceAt, InRange, PieceHolds}

@@ -2,19 +2,23 @@
 -- its ranges, and so every zone holds one.
 use mathlib.Core.Path.{_≡_, refl, sym, ap, subst, _∙_}
 use mathlib.Core.List.{List, [], _∷_}
-use Prim.Native.Nat.{ℕ, zero, suc, _≤_, _<_}
+use mathlib.Core.Bool.{Bool, true, false}
+use Prim.Native.Nat.{ℕ, zero, suc, _+_, _≤_, _<_}
 use native.Mathlib.Omega.{arith}
 use lib.IntN.{ℤ, pos}
-use lib.ListN.{length, getD}
+use lib.Dec.{ltb}
+use lib.ListN.{length, getD, List·getD-eq-default}
+use borrow.Author.Tests.{ltb-true, ltb-false}
 use Rattle.integer.specs.Apart.{apart}
 use Rattle.integer.specs.Order.{≤ℤ-antisym}
 use Rattle.cutting.specs.Cutting as cutting
 use Rattle.cutting.specs.FirstHeld.{firstHeld, StartsFirst}
 use Rattle.cutting.specs.FirstHeldProof.{zones-first}
 use Rattle.cutting.specs.Held.{InRanges}
-use Rattle.expr.specs.Ranges.{In}
-use Rattle.expr.specs.Three.{point, rangeList, valuationOf}
-use Rattle.parameters.specs.Right.{RangeRight}
+use Rattle.coded.specs.CodedTests.{inside-length}
+use Rattle.expr.specs.Ranges.{In, Inside}
+use Rattle.expr.specs.Records.{PARAMETERS, placesFrom, blankRange, point, rangeList, valuationOf}
+use Rattle.expr.specs.RecordLaws.{places-same}
 use Rattle.expr.specs.declared.range.Range.{Range}
 use Rattle.reading.specs.Accepted.{read-well-formed}
 use Rattle.reading.specs.File.{Fine, readOf}
@@ -32,28 +36,32 @@ use Rattle.agreement.specs.First.{firstAt, StartsAt, PiecesStart}
 
 -- ---- an accepted sheet's ranges
 -- a parameter that the sheet lacks is 0
-lacking-zero : (n k : ℕ) (r : Range) (x : ℤ) → RangeRight n k r → n ≤ k → In x r → x ≡ pos 0
-lacking-zero n k r x h l i =
-    let j = subst (In x) (h .lacking l) i in
+lacking-range : (s : Sheet) → WellFormed s → (k : ℕ) → s .parameters ≤ k → getD (s .ranges .list) k blankRange ≡ blankRange
+lacking-range s f k h = by (ltb k PARAMETERS) refl
+  where
+    by : (b : Bool) → ltb k PARAMETERS ≡ b → getD (s .ranges .list) k blankRange ≡ blankRange
+    by true e = f .ranges .past k h (ltb-true k PARAMETERS e)
+    by false e = List·getD-eq-default (s .ranges .list) blankRange (rw (f .ranges .long) (ltb-false k PARAMETERS e))
+
+zero-in : (r : Range) (x : ℤ) → r ≡ blankRange → In x r → x ≡ pos 0
+zero-in r x e i =
+    let j = subst (In x) e i in
     ≤ℤ-antisym (j .most) (j .least)
 
-lacking-all : (s : Sheet) (v : List ℤ) → WellFormed s → InRanges s v → (k : ℕ) → s .parameters ≤ k → getD v k (pos 0) ≡ pos 0
-lacking-all s [] f i k l = refl
-lacking-all s (x ∷ []) f i k l = absurd (i .1)
-lacking-all s (x ∷ y ∷ []) f i k l = absurd (i .1 .1)
-lacking-all s (x ∷ y ∷ z ∷ []) f i zero l = lacking-zero _ 0 (s .ranges .p) x (f .p) l (i .0)
-lacking-all s (x ∷ y ∷ z ∷ []) f i (suc zero) l = lacking-zero _ 1 (s .ranges .q) y (f .q) l (i .1 .0)
-lacking-all s (x ∷ y ∷ z ∷ []) f i (suc (suc zero)) l = lacking-zero _ 2 (s .ranges .r) z (f .r) l (i .1 .1 .0)
-lacking-all s (x ∷ y ∷ z ∷ []) f i (suc (suc (suc k))) l = refl
-lacking-all s (x ∷ y ∷ z ∷ u ∷ v) f i k l = absurd (i .1 .1 .1)
+lacking-from : (l : List Range) (m : ℕ) → ((k : ℕ) → m ≤ k → getD l k blankRange ≡ blankRange) → (n i : ℕ) (v : List ℤ)
+    → Inside v (placesFrom blankRange l i n) → (k : ℕ) → m ≤ i + k → getD v k (pos 0) ≡ pos 0
+lacking-from l m h zero i [] a k g = refl
+lacking-from l m h zero i (x ∷ v) a k g = absurd a
+lacking-from l m h (suc n) i [] a k g = absurd a
+lacking-from l m h (suc n) i (x ∷ v) a zero g = zero-in (getD l i blankRange) x (h i (omega arith)) (a .0)
+lacking-from l m h (suc n) i (x ∷ v) a (suc k) g = lacking-from l m h n (suc i) v (a .1) k (omega arith)
 
--- a valuation of three ranges as the code's record, and back
+lacking-all : (s : Sheet) (v : List ℤ) → WellFormed s → InRanges s v → (k : ℕ) → s .parameters ≤ k → getD v k (pos 0) ≡ pos 0
+lacking-all s v f i k l = lacking-from (s .ranges .list) (s .parameters) (lacking-range s f) PARAMETERS 0 v i k (omega arith)
+
+-- a valuation of the ranges as the code's record, and back
 point-of : (s : Sheet) (v : List ℤ) → InRanges s v → point (valuationOf v) ≡ v
-point-of s [] i = absurd i
-point-of s (x ∷ []) i = absurd (i .1)
-point-of s (x ∷ y ∷ []) i = absurd (i .1 .1)
-point-of s (x ∷ y ∷ z ∷ []) i = refl
-point-of s (x ∷ y ∷ z ∷ u ∷ v) i = absurd (i .1 .1 .1)
+point-of s v i = ap (placesFrom (pos 0) v 0) (sym (inside-length v (rangeList (s .ranges)) i)) ∙ places-same (pos 0) v
 
 inside-in-range : (file : List ℕ) (v : List ℤ) → Fine (readOf file) → InRanges (sheetOf file) v → InRange file v
 inside-in-range file v f i = answered-inside file v (sweep-right .right file v f i .answered)

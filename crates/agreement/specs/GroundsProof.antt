@@ -13,7 +13,7 @@ use Rattle.answers.specs.declared.Numbered.{Numbered}
 use Rattle.cutting.specs.Cutting.{Listing, listed, refused, zonesOf, SevenOrEight}
 use Rattle.cutting.specs.Cutting as cutting
 use Rattle.cutting.specs.NumberedProof.{zones-numbered}
-use Rattle.reading.specs.File.{Fine, readOf, TwoToFive}
+use Rattle.reading.specs.File.{Fine, readOf, OfFile}
 use Rattle.reading.specs.Accepted.{read-numbered}
 use Rattle.sheet.specs.declared.Sheet.{Sheet}
 use Rattle.sweep.specs.Theorems.{sheetOf}
@@ -26,15 +26,24 @@ use Rattle.agreement.specs.Grounds.{CutTo, Grounds}
 number-of : {a b : Numbered} → a ≡ b → a .number ≡ b .number
 number-of e = ap (λ (x : Numbered). x .number) e
 
-two-to-five : {m : ℕ} → TwoToFive m → (2 ≤ m) × (m ≤ 5)
-two-to-five (inl e) = (omega arith, omega arith)
-two-to-five (inr (inl e)) = (omega arith, omega arith)
-two-to-five (inr (inr (inl e))) = (omega arith, omega arith)
-two-to-five (inr (inr (inr e))) = (omega arith, omega arith)
+at-least-two : {m : ℕ} → OfFile m → 2 ≤ m
+at-least-two (inl e) = omega arith
+at-least-two (inr (inl e)) = omega arith
+at-least-two (inr (inr (inl e))) = omega arith
+at-least-two (inr (inr (inr (inl e)))) = omega arith
+at-least-two (inr (inr (inr (inr e)))) = omega arith
 
 seven-or-eight : {m : ℕ} → SevenOrEight m → (7 ≤ m) × (m ≤ 8)
 seven-or-eight (inl e) = (omega arith, omega arith)
 seven-or-eight (inr e) = (omega arith, omega arith)
+
+-- no refusal of a file is one of the cutting
+not-both : {m : ℕ} → OfFile m → SevenOrEight m → ⊥
+not-both (inl e) t = omega (arith, seven-or-eight t .0)
+not-both (inr (inl e)) t = omega (arith, seven-or-eight t .0)
+not-both (inr (inr (inl e))) t = omega (arith, seven-or-eight t .0)
+not-both (inr (inr (inr (inl e)))) t = omega (arith, seven-or-eight t .1)
+not-both (inr (inr (inr (inr e)))) t = omega (arith, seven-or-eight t .0)
 
 listed-one : {zs ys : List cutting.Zone} → listed zs ≡ listed ys → zs ≡ ys
 listed-one e = cc
@@ -102,40 +111,40 @@ module _ (file : List ℕ) (n : ℕ) where
   answer-listed : 32 ≤ n → Fine (readOf file) → (zs : List cutting.Zone) → zonesOf s ≡ listed zs → windowsOf file n .answer ≡ numbered 0 0
   answer-listed h f zs e = ap (λ (r : WindowsReply). r .answer) (cut-listed h f zs e)
 
-  read-two : (Fine (readOf file) → ⊥) → TwoToFive (readOf file .answer .number)
+  read-two : (Fine (readOf file) → ⊥) → OfFile (readOf file .answer .number)
   read-two f = by (read-numbered file)
     where
-      by : (readOf file .answer .number ≡ 0) ⊎ TwoToFive (readOf file .answer .number) → TwoToFive (readOf file .answer .number)
+      by : (readOf file .answer .number ≡ 0) ⊎ OfFile (readOf file .answer .number) → OfFile (readOf file .answer .number)
       by (inl e) = absurd (f e)
       by (inr t) = t
 
   from-small : Case → windowsOf file n .answer ≡ numbered 1 0 → n < 32
   from-small (is-small h) e = h
   from-small (is-refused h f) e =
-      let t = two-to-five (read-two f) in let g = number-of (sym (answer-refused h f) ∙ e) in absurd (omega (arith, t .0))
+      let t = at-least-two (read-two f) in let g = number-of (sym (answer-refused h f) ∙ e) in absurd (omega (arith, t))
   from-small (is-cut h f m k q) e =
       let t = seven-or-eight (zones-numbered s m k q) in let g = number-of (sym (cut-refused h f m k q) ∙ e) in absurd (omega (arith, t .0))
   from-small (is-listed h f zs q) e = let g = number-of (sym (answer-listed h f zs q) ∙ e) in absurd (omega arith)
 
-  from-file : (m k : ℕ) → TwoToFive m → Case → windowsOf file n .answer ≡ numbered m k → (32 ≤ n) × (readOf file .answer ≡ numbered m k)
-  from-file m k t (is-small h) e = let u = two-to-five t in let g = number-of (sym (answer-small h) ∙ e) in absurd (omega (arith, u .0))
+  from-file : (m k : ℕ) → OfFile m → Case → windowsOf file n .answer ≡ numbered m k → (32 ≤ n) × (readOf file .answer ≡ numbered m k)
+  from-file m k t (is-small h) e = let u = at-least-two t in let g = number-of (sym (answer-small h) ∙ e) in absurd (omega (arith, u))
   from-file m k t (is-refused h f) e = (h, sym (answer-refused h f) ∙ e)
   from-file m k t (is-cut h f a b q) e =
-      let u = two-to-five t in let w = seven-or-eight (zones-numbered s a b q) in let g = number-of (sym (cut-refused h f a b q) ∙ e) in
-      absurd (omega (arith, u .1, w .0))
+      let g = number-of (sym (cut-refused h f a b q) ∙ e) in
+      absurd (not-both t (subst SevenOrEight g (zones-numbered s a b q)))
   from-file m k t (is-listed h f zs q) e =
-      let u = two-to-five t in let g = number-of (sym (answer-listed h f zs q) ∙ e) in absurd (omega (arith, u .0))
+      let u = at-least-two t in let g = number-of (sym (answer-listed h f zs q) ∙ e) in absurd (omega (arith, u))
 
-  to-file : (m k : ℕ) → TwoToFive m → 32 ≤ n → readOf file .answer ≡ numbered m k → windowsOf file n .answer ≡ numbered m k
+  to-file : (m k : ℕ) → OfFile m → 32 ≤ n → readOf file .answer ≡ numbered m k → windowsOf file n .answer ≡ numbered m k
   to-file m k t h e =
-      let u = two-to-five t in
-      answer-refused h (λ f. let g = number-of e in omega (arith, u .0)) ∙ e
+      let u = at-least-two t in
+      answer-refused h (λ f. let g = number-of e in omega (arith, u)) ∙ e
 
   from-cut : (m k : ℕ) → SevenOrEight m → Case → windowsOf file n .answer ≡ numbered m k → CutTo file n (refused m k)
   from-cut m k t (is-small h) e = let u = seven-or-eight t in let g = number-of (sym (answer-small h) ∙ e) in absurd (omega (arith, u .0))
   from-cut m k t (is-refused h f) e =
-      let u = seven-or-eight t in
-      let w = two-to-five (read-two f) in let g = number-of (sym (answer-refused h f) ∙ e) in absurd (omega (arith, u .0, w .1))
+      let g = number-of (sym (answer-refused h f) ∙ e) in
+      absurd (not-both (read-two f) (subst SevenOrEight (sym g) t))
   from-cut m k t (is-cut h f a b q) e =
       (h, f, q ∙ ap (λ (x : Numbered). refused (x .number) (x .place)) (sym (cut-refused h f a b q) ∙ e))
   from-cut m k t (is-listed h f zs q) e =
@@ -151,9 +160,9 @@ module _ (file : List ℕ) (n : ℕ) where
 
   only-case : Case
       → (windowsOf file n .answer .number ≡ 0) ⊎ (windowsOf file n .answer ≡ numbered 1 0)
-      ⊎ TwoToFive (windowsOf file n .answer .number) ⊎ SevenOrEight (windowsOf file n .answer .number)
+      ⊎ OfFile (windowsOf file n .answer .number) ⊎ SevenOrEight (windowsOf file n .answer .number)
   only-case (is-small h) = inr (inl (answer-small h))
-  only-case (is-refused h f) = inr (inr (inl (subst TwoToFive (number-of (sym (answer-refused h f))) (read-two f))))
+  only-case (is-refused h f) = inr (inr (inl (subst OfFile (number-of (sym (answer-refused h f))) (read-two f))))
   only-case (is-cut h f m k q) = inr (inr (inr (subst SevenOrEight (number-of (sym (cut-refused h f m k q))) (zones-numbered s m k q))))
   only-case (is-listed h f zs q) = inl (number-of (answer-listed h f zs q))
 

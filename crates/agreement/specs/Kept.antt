@@ -7,7 +7,7 @@ use Prim.Native.Nat.{ℕ, _+_}
 use lib.IntN.{ℤ}
 use Rattle.answers.specs.declared.windows.Counts.{Counts}
 use Rattle.cutting.specs.Kept.{Counted}
-use Rattle.expr.specs.Three.{rangeList}
+use Rattle.expr.specs.Records.{rangeList}
 use Rattle.search.specs.Valuations.{widths, valuations}
 use Rattle.sweep.specs.Theorems.{sheetOf}
 use Rattle.timed.specs.Runs.{Run}

@@ -4,7 +4,7 @@ use mathlib.Core.List.{List, List·Memᴰ}
 use Prim.Native.Nat.{ℕ}
 use native.Mathlib.Omega.{arith}
 use lib.IntN.{ℤ}
-use Rattle.expr.specs.Three.{rangeList}
+use Rattle.expr.specs.Records.{rangeList}
 use Rattle.search.specs.Once.{valuations-once}
 use Rattle.search.specs.SearchLaws.{valuations-inside, valuations-all}
 use Rattle.reading.specs.File.{Fine, readOf}

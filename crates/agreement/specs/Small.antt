@@ -3,7 +3,7 @@
 use mathlib.Core.List.{List}
 use Prim.Native.Nat.{ℕ, _≤_, _<_}
 use Rattle.constrain.specs.Rules.{entryC}
-use Rattle.expr.specs.Three.{boundAs}
+use Rattle.expr.specs.Records.{boundAs}
 use Rattle.sizes.specs.Sizes.{AtMostB, ENTRY}
 use Rattle.agreement.specs.Words.{Lists, pieces, pieceAt}
 

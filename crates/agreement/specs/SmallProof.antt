@@ -15,7 +15,7 @@ use Rattle.constrain.specs.Rules.{entryC}
 use Rattle.cutting.specs.Cutting as cutting
 use Rattle.cutting.specs.ShapeProof.{zones-shaped}
 use Rattle.dbm.specs.Matrix.{Outside}
-use Rattle.expr.specs.Three.{boundAs}
+use Rattle.expr.specs.Records.{boundAs}
 use Rattle.expr.specs.declared.bound.Bound.{Bound}
 use Rattle.reading.specs.Accepted.{read-well-formed}
 use Rattle.sheet.specs.WellFormed.{WellFormed}

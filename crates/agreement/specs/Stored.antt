@@ -9,7 +9,7 @@ use Rattle.constrain.specs.Rules.{entryC}
 use Rattle.cutting.specs.Cutting.{listed, zonesOf}
 use Rattle.cutting.specs.Cutting as cutting
 use Rattle.dbm.specs.Matrix.{Outside}
-use Rattle.expr.specs.Three.{zeroBound, zeroExpr}
+use Rattle.expr.specs.Records.{zeroBound, zeroExpr}
 use Rattle.sweep.specs.Theorems.{sheetOf}
 use Rattle.windows.specs.Pieces.{pieceOf, blankPiece}
 use Rattle.agreement.specs.Words.{Lists, pieces, table, pieceAt}

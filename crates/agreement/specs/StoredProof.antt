@@ -17,7 +17,7 @@ use Rattle.cutting.specs.ShapeProof.{zones-shaped}
 use Rattle.dbm.specs.Matrix.{Outside}
 use Rattle.expr.specs.Affine.{Affine}
 use Rattle.weight.specs.Upper.{Upper}
-use Rattle.expr.specs.Three.{exprOf, boundOf, zeroBound, zeroExpr}
+use Rattle.expr.specs.Records.{exprOf, boundOf, zeroBound, zeroExpr}
 use Rattle.reading.specs.File.{readOf}
 use Rattle.sheet.specs.declared.Sheet.{Sheet}
 use Rattle.sweep.specs.Theorems.{sheetOf}

@@ -11,7 +11,7 @@ use Rattle.cutting.specs.Cutting as cutting
 use Rattle.cutting.specs.Kept.{keptOf, cutOf}
 use Rattle.weight.specs.Upper.{Upper}
 use Rattle.expr.specs.Bounds.{atV}
-use Rattle.expr.specs.Three.{affine, boundAs, rangeList}
+use Rattle.expr.specs.Records.{affine, boundAs, rangeList}
 use Rattle.search.specs.Valuations.{satisfies}
 use Rattle.sheet.specs.declared.Sheet.{Sheet}
 use Rattle.sweep.specs.Theorems.{numberAt}

@@ -13,30 +13,32 @@ use Rattle.cutting.specs.Cutting.{startB, tested, putEntry, rowFrom, rowsFrom, 
 use Rattle.cutting.specs.Cutting.{worked, guardZones, onBounds, stepZones, cutSteps, zonesAlong, zonesOf}
 use Rattle.dbm.specs.Matrix.{start, delayed, resetM, resetsM, limitedM, guarded}
 use Rattle.expr.specs.Affine.{dot, value, plusL, minusL, plus, minus, lessOne, opposite}
-use Rattle.search.specs.Interval.{interval}
+use Rattle.narrowing.specs.Interval.{interval}
 use Rattle.expr.specs.Ranges.{In}
-use Rattle.search.specs.IntervalLaws.{interval-exact}
+use Rattle.narrowing.specs.IntervalLaws.{interval-exact}
 use Rattle.weight.specs.Upper.{Upper, none, upper, sumW, tighterW}
 use Rattle.expr.specs.Bounds.{atV, sumB, tighterB}
 use Rattle.search.specs.Valuations.{widths, span, width, before, valuations, satisfies, firstIn, countIn, first, count}
-use Rattle.expr.specs.Three.{point}
+use Rattle.expr.specs.Records.{point}
 use Rattle.expr.specs.declared.number.Valuation.{Valuation}
 use Rattle.expr.specs.declared.range.Range.{Range}
-use Rattle.contents.specs.Contents.{sized, entryField, headOf, oneOf, firstOf, twoOf, secondOf, threeOf, thirdOf, fourOf, contentsOf}
+use Rattle.contents.specs.Contents.{sized, entryField, versionOf, mostParameters, headOf, oneOf, firstOf}
+use Rattle.contents.specs.Contents.{twoOf, secondOf, threeOf, thirdOf, fourOf, contentsOf}
 use Rattle.cursor.specs.Cursor.{shifted, judged, byteTaken, wordTaken, signedTaken, byteField, wordField, signedField, finished}
 use Rattle.cursor.specs.Cursor.{iterate, belowField, signedOf}
 use Rattle.integer.specs.Parts.{p, n}
-use Rattle.parameters.specs.Parameters.{rangeOf, highestRight, highestField, rangeAt, parametersAt}
+use Rattle.parameters.specs.Parameters.{rangeOf, highestRight, highestField, rangeStep, blankRanges, parametersRead, parametersAt}
 use Rattle.automaton.specs.Automaton.{blankLocation, blankLocations, locationStep, locationsRead, locationsAt, resetsRight, resetsField}
 use Rattle.automaton.specs.Automaton.{transitionAt, blankTransition, blankTransitions, transitionStep, transitionsRead, transitionsAt}
 use Rattle.route.specs.Route.{routeStep, routeRead, routeAt, endsAt, linkStep, linksOf}
-use Rattle.reading.specs.File.{blankSheet, refusedBy, bodiesOf, judgedRoute, judgedBodies, readOf}
-use Rattle.guards.specs.Guards.{guardExpr, guardBound, oneZero, rightField, coefficientField, guardAt, blankGuard, blankGuards}
-use Rattle.guards.specs.Guards.{guardStep, guardsAt}
+use Rattle.reading.specs.File.{blankSheet, refusedBy, bodiesOf, judgedRoute, judgedWidths, judgedBodies, readOf}
+use Rattle.guards.specs.Guards.{guardExpr, guardBound, oneZero, rightField, coefStep, zeroCoefs, coefsAt, zeroStep, zerosAt, guardAt}
+use Rattle.guards.specs.Guards.{blankGuard, blankGuards, guardStep, guardsAt}
 use Rattle.sheet.specs.declared.Sheet.{Sheet}
 use Rattle.weight_matrix.specs.Records.{row}
-use Rattle.agreement.specs.Cases.{SheetRow, IntervalRow, countsIn, SheetYields, IntervalYields, at, rowA, rowStrict, rowPQ, rowQP}
-use Rattle.agreement.specs.Cases.{rowFree, rowNone, rowBack, rowDown, rowUp, rowTouch, rowApart, rowNever, ListedCases}
+use Rattle.agreement.specs.Cases.{SheetRow, IntervalRow, countsIn, SheetYields, IntervalYields, at, all, ListedCases}
+use Rattle.agreement.specs.Cases.{rowA, rowStrict, rowPQ, rowQP, rowFree, rowNone, rowBack}
+use Rattle.agreement.specs.Cases.{rowDown, rowUp, rowTouch, rowApart, rowNever, rowFour}
 use Rattle.coded.specs.Records.{rowOf, boundsOf, zoneOf, zonesIn}
 use Rattle.answers.specs.Numbers.{numbered}
 use Rattle.concrete.specs.Walk.{step, walk, sweepAlong, sweepAt}
@@ -104,17 +106,18 @@ bytes-of-A = refl
 -- ---- every row
 pub listed-cases : ListedCases
 unfolding startB tested putEntry rowFrom rowsFrom places pushed guardTree never listZone worked guardZones onBounds stepZones
-    cutSteps zonesAlong zonesOf keptOf firstHeld widths start delayed resetM resetsM limitedM guarded dot value plusL minusL plus minus
-    lessOne opposite atV sumW sumB tighterW tighterB span width before valuations satisfies firstIn countIn first count p
-    n sized entryField headOf oneOf firstOf twoOf secondOf threeOf thirdOf fourOf contentsOf shifted judged byteTaken wordTaken
-    signedTaken byteField wordField signedField finished iterate rangeOf highestRight highestField rangeAt parametersAt blankLocation
-    blankLocations locationStep locationsRead locationsAt belowField resetsRight resetsField transitionAt blankTransition
-    blankTransitions transitionStep transitionsRead transitionsAt routeStep routeRead routeAt blankSheet refusedBy bodiesOf judgedRoute
-    judgedBodies readOf signedOf guardExpr guardBound oneZero rightField coefficientField guardAt blankGuard blankGuards guardStep
-    guardsAt endsAt linkStep linksOf row blankReply swept outside sweep.sheetReply sweep.readReply sweep.replyOf step walk sweepAlong
-    sweepAt arrivalSteps staySteps moveSteps stepsFrom stepsOf invariants guardsOf routeOf listingReply windows.sheetReply
-    windows.readReply windows.replyOf tableOf interval floorZ rowOf boundsOf zoneOf zonesIn
-listed-cases = (a, (strict, (pq, (qp, (free, (empty, (back, (down, (up, (touch, (gap, (early, tt))))))))))))
+    cutSteps zonesAlong zonesOf keptOf firstHeld widths start delayed resetM resetsM limitedM guarded dot value plusL minusL plus
+    minus lessOne opposite atV sumW sumB tighterW tighterB span width before valuations satisfies firstIn countIn first count p n
+    sized entryField versionOf mostParameters headOf oneOf firstOf twoOf secondOf threeOf thirdOf fourOf contentsOf shifted judged
+    byteTaken wordTaken signedTaken byteField wordField signedField finished iterate rangeOf highestRight highestField rangeStep
+    blankRanges parametersRead parametersAt blankLocation blankLocations locationStep locationsRead locationsAt belowField
+    resetsRight resetsField transitionAt blankTransition blankTransitions transitionStep transitionsRead transitionsAt routeStep
+    routeRead routeAt blankSheet refusedBy bodiesOf judgedRoute judgedWidths judgedBodies readOf signedOf guardExpr guardBound
+    oneZero rightField coefStep zeroCoefs coefsAt zeroStep zerosAt guardAt blankGuard blankGuards guardStep guardsAt endsAt linkStep
+    linksOf row blankReply swept outside sweep.sheetReply sweep.readReply sweep.replyOf step walk sweepAlong sweepAt arrivalSteps
+    staySteps moveSteps stepsFrom stepsOf invariants guardsOf routeOf listingReply windows.sheetReply windows.readReply
+    windows.replyOf tableOf interval floorZ rowOf boundsOf zoneOf zonesIn
+listed-cases = (a, (strict, (pq, (qp, (free, (empty, (back, (down, (up, (touch, (gap, (early, (four, tt)))))))))))))
   where
     a : SheetYields rowA
     a =
@@ -165,3 +168,13 @@ listed-cases = (a, (strict, (pq, (qp, (free, (empty, (back, (down, (up, (touch, 
 
     early : SheetYields rowNever
     early = record { lists = refl; pieces = refl; entries = tt; runs = tt; voids = (none-ran rowNever refl (at (pos 0)) refl, tt) }
+
+    four : SheetYields rowFour
+    four =
+        record {
+          lists = refl;
+          pieces = refl;
+          entries = (refl, (refl, tt));
+          runs = (ran rowFour refl (all (pos 0) (pos 0) (pos 1) (pos 3)) refl, tt);
+          voids = (none-ran rowFour refl (all (pos 0) (pos 0) (pos 1) (pos 2)) refl, tt);
+        }

@@ -4,7 +4,7 @@ use Rattle.answers.specs.declared.Numbered.{Numbered}
 use Rattle.answers.specs.declared.file.Checked.{Checked}
 use Rattle.answers.specs.declared.file.Checked.the-variants as checked
 use Rattle.answers.specs.declared.file.Refusal.{Refusal}
-use Rattle.answers.specs.declared.file.Refusal.the-variants.{Size, Contents, Body, Route}
+use Rattle.answers.specs.declared.file.Refusal.the-variants.{Size, Contents, Body, Valuations, Route}
 use Rattle.answers.specs.declared.sweep.Answer.{Answer as SweepAnswer}
 use Rattle.answers.specs.declared.sweep.Answer.the-variants as sweep
 use Rattle.answers.specs.declared.windows.Answer.{Answer as WindowsAnswer}
@@ -15,11 +15,13 @@ use Rattle.answers.specs.declared.windows.Counts.{Counts}
 abbrev pub numbered : ℕ → ℕ → Numbered
 numbered n k = record { number = n; place = k }
 
--- why a file is refused: 3 and 4 have the offset of the first wrong field, 5 that of the route byte
+-- why a file is refused: 3 and 4 have the offset of the first wrong field, 5 that of the route byte; 16 (paper 02, request (i)), too many
+-- valuations, has 0
 abbrev pub refusalAs : Refusal → Numbered
 refusalAs Size = numbered 2 0
 refusalAs (Contents at) = numbered 3 at
 refusalAs (Body at) = numbered 4 at
+refusalAs Valuations = numbered 16 0
 refusalAs (Route at) = numbered 5 at
 
 -- a file that is fine has 0, place 0

@@ -3,11 +3,12 @@ use crate::Numbered;
 ghost use mathlib.Core.Path.{_≡_};
 ghost use Rattle.answers.specs.Numbers.{refusalAs, checkedAs};
 
-// Why a file is refused, with the place where there is one: Size, 2; Contents, 3; Body, 4; Route, 5.
+// Why a file is refused, with the place where there is one: Size, 2; Contents, 3; Body, 4; Valuations, 16; Route, 5.
 pub enum Refusal {
     Size,
     Contents(usize),
     Body(usize),
+    Valuations,
     Route(usize),
 }
 
@@ -33,6 +34,10 @@ pub(crate) fn refusal_numbered(refusal: Refusal) -> Numbered
         Refusal::Body(at) => Numbered {
             number: 4,
             place: at,
+        },
+        Refusal::Valuations => Numbered {
+            number: 16,
+            place: 0,
         },
         Refusal::Route(at) => Numbered {
             number: 5,

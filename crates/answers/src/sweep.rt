@@ -5,7 +5,7 @@ use crate::file::Refusal;
 ghost use mathlib.Core.Path.{_≡_};
 ghost use Rattle.answers.specs.Numbers.{sweepAs};
 
-// A run, void, the file refused by 2 to 5, or the parameter with this index outside its range (6).
+// A run, void, the file refused by 2 to 5 or 16, or the parameter with this index outside its range (6).
 pub enum Answer {
     Run,
     Void,

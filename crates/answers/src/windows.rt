@@ -12,8 +12,8 @@ pub struct Counts {
     pub cut: usize,
 }
 
-// The zones are listed; the table is too small (1); the file is refused (2 to 5); or at a visit a guard would list a 33rd zone (7), or a
-// split would give its parts a 25th inequality (8). 9 was a number that leaves its range; no sheet meets it, and it is not used again.
+// The zones are listed; the table is too small (1); the file is refused (2 to 5, 16); or at a visit a guard would list a 33rd zone (7), or
+// a split would give its parts a 25th inequality (8). 9 was a number that leaves its range; no sheet meets it, and it is not used again.
 pub enum Answer {
     Listed(Counts),
     Small,

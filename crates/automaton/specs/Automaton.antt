@@ -30,9 +30,9 @@ unfoldable pub blankLocations : List Location
 blankLocations = replicate 16 blankLocation
 
 -- location i, where the count has it
-unfoldable pub locationStep : List ℕ → ℕ → ℕ → ℕ → LocationsAt → LocationsAt
-locationStep s end parameters i all =
-    let read = guardsAt s end parameters (all .clocks) (all .cursor) in
+unfoldable pub locationStep : List ℕ → ℕ → ℕ → ℕ → ℕ → LocationsAt → LocationsAt
+locationStep s end most parameters i all =
+    let read = guardsAt s end most parameters (all .clocks) (all .cursor) in
     cond (ltb i (all .count))
     (record {
       cursor = read .cursor;
@@ -43,18 +43,18 @@ locationStep s end parameters i all =
     all
 
 -- its fields: the two counts, then the locations
-unfoldable pub locationsRead : List ℕ → ℕ → ℕ → Cursor → LocationsAt
-locationsRead s end parameters cursor =
+unfoldable pub locationsRead : List ℕ → ℕ → ℕ → ℕ → Cursor → LocationsAt
+locationsRead s end most parameters cursor =
     let clocks = byteField s end 1 4 cursor in
     let count = byteField s end 1 16 clocks in
-    iterate (locationStep s end parameters)
+    iterate (locationStep s end most parameters)
     (record { cursor = count; clocks = clocks .byte; count = count .byte; list = blankLocations })
     16
 
 -- the body: its fields, then its end
-unfoldable pub locationsAt : List ℕ → ℕ → ℕ → Cursor → LocationsAt
-locationsAt s end parameters cursor =
-    let all = locationsRead s end parameters cursor in
+unfoldable pub locationsAt : List ℕ → ℕ → ℕ → ℕ → Cursor → LocationsAt
+locationsAt s end most parameters cursor =
+    let all = locationsRead s end most parameters cursor in
     record { cursor = finished end (all .cursor); clocks = all .clocks; count = all .count; list = all .list }
 
 -- Body 3: count of transitions, 0 to 32; per transition: from, to, resets, count of guards 0 to 6, guards
@@ -68,12 +68,12 @@ unfoldable pub resetsField : List ℕ → ℕ → ℕ → Cursor → Cursor
 resetsField s end clocks cursor = judged cursor (byteField s end 0 255 cursor) (resetsRight clocks (byteField s end 0 255 cursor .byte))
 
 -- a transition: from and to, both below the count of locations, resets, then its guards
-unfoldable pub transitionAt : List ℕ → ℕ → ℕ → ℕ → ℕ → Cursor → TransitionAt
-transitionAt s end parameters clocks locations cursor =
+unfoldable pub transitionAt : List ℕ → ℕ → ℕ → ℕ → ℕ → ℕ → Cursor → TransitionAt
+transitionAt s end most parameters clocks locations cursor =
     let from = belowField s end locations cursor in
     let to = belowField s end locations from in
     let resets = resetsField s end clocks to in
-    let read = guardsAt s end parameters clocks resets in
+    let read = guardsAt s end most parameters clocks resets in
     record {
       cursor = read .cursor;
       transition =
@@ -93,23 +93,23 @@ unfoldable pub blankTransitions : List Transition
 blankTransitions = replicate 32 blankTransition
 
 -- transition i, where the count has it
-unfoldable pub transitionStep : List ℕ → ℕ → ℕ → ℕ → ℕ → ℕ → TransitionsAt → TransitionsAt
-transitionStep s end parameters clocks locations i all =
-    let read = transitionAt s end parameters clocks locations (all .cursor) in
+unfoldable pub transitionStep : List ℕ → ℕ → ℕ → ℕ → ℕ → ℕ → ℕ → TransitionsAt → TransitionsAt
+transitionStep s end most parameters clocks locations i all =
+    let read = transitionAt s end most parameters clocks locations (all .cursor) in
     cond (ltb i (all .count))
     (record { cursor = read .cursor; count = all .count; list = set (all .list) i (read .transition) })
     all
 
 -- its fields: the count, then the transitions
-unfoldable pub transitionsRead : List ℕ → ℕ → ℕ → ℕ → ℕ → Cursor → TransitionsAt
-transitionsRead s end parameters clocks locations cursor =
+unfoldable pub transitionsRead : List ℕ → ℕ → ℕ → ℕ → ℕ → ℕ → Cursor → TransitionsAt
+transitionsRead s end most parameters clocks locations cursor =
     let count = byteField s end 0 32 cursor in
-    iterate (transitionStep s end parameters clocks locations)
+    iterate (transitionStep s end most parameters clocks locations)
     (record { cursor = count; count = count .byte; list = blankTransitions })
     32
 
 -- the body: its fields, then its end
-unfoldable pub transitionsAt : List ℕ → ℕ → ℕ → ℕ → ℕ → Cursor → TransitionsAt
-transitionsAt s end parameters clocks locations cursor =
-    let all = transitionsRead s end parameters clocks locations cursor in
+unfoldable pub transitionsAt : List ℕ → ℕ → ℕ → ℕ → ℕ → ℕ → Cursor → TransitionsAt
+transitionsAt s end most parameters clocks locations cursor =
+    let all = transitionsRead s end most parameters clocks locations cursor in
     record { cursor = finished end (all .cursor); count = all .count; list = all .list }

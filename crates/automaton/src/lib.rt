@@ -1,7 +1,7 @@
 // The timed automaton of a sheet file (paper 01, "The sheet file"): body 2, its clocks (paper: watches) and locations (paper: stages), and
 // body 3, its transitions (paper: moves).
 //
-// Every function is total, and its contract is an equation with a definition of specs/Automaton.
+// Every public function is total, and its contract is an equation with a definition of specs/Automaton.
 pub mod locations;
 pub mod transitions;
 

@@ -17,12 +17,19 @@ pub struct LocationsAt {
 }
 
 // One more location, if the count says so.
-fn location_step(file: &[u8], end: usize, parameters: u8, i: usize, all: LocationsAt) -> LocationsAt
+fn location_step(
+    file: &[u8],
+    end: usize,
+    most: u8,
+    parameters: u8,
+    i: usize,
+    all: LocationsAt,
+) -> LocationsAt
     requires { ⌜ i < 16 ⌝ }
-    ensures { λ r. ⌜ r ≡ locationStep (now (file .entry)) end parameters i all ⌝ }
+    ensures { λ r. ⌜ r ≡ locationStep (now (file .entry)) end most parameters i all ⌝ }
 {
     if i < (all.count as usize) {
-        let read = guards_at(file, end, parameters, all.clocks, all.cursor);
+        let read = guards_at(file, end, most, parameters, all.clocks, all.cursor);
         let mut next = all;
         let cursor = read.cursor;
         next.cursor = cursor;
@@ -38,8 +45,8 @@ fn location_step(file: &[u8], end: usize, parameters: u8, i: usize, all: Locatio
 }
 
 // The fields of body 2.
-fn locations_read(file: &[u8], end: usize, parameters: u8, cursor: Cursor) -> LocationsAt
-    ensures { λ r. ⌜ r ≡ locationsRead (now (file .entry)) end parameters cursor ⌝ }
+fn locations_read(file: &[u8], end: usize, most: u8, parameters: u8, cursor: Cursor) -> LocationsAt
+    ensures { λ r. ⌜ r ≡ locationsRead (now (file .entry)) end most parameters cursor ⌝ }
 {
     let clocks = byte_field(file, end, 1, 4, cursor);
     let count = byte_field(file, end, 1, 16, clocks);
@@ -51,17 +58,23 @@ fn locations_read(file: &[u8], end: usize, parameters: u8, cursor: Cursor) -> Lo
     };
     let mut i: usize = 0;
     while i < 16 {
-        all = location_step(file, end, parameters, i, all);
+        all = location_step(file, end, most, parameters, i, all);
         i += 1;
     }
     all
 }
 
 // Body 2: the clocks and the locations.
-pub fn locations_at(file: &[u8], end: usize, parameters: u8, cursor: Cursor) -> LocationsAt
-    ensures { λ r. ⌜ r ≡ locationsAt (now (file .entry)) end parameters cursor ⌝ }
+pub fn locations_at(
+    file: &[u8],
+    end: usize,
+    most: u8,
+    parameters: u8,
+    cursor: Cursor,
+) -> LocationsAt
+    ensures { λ r. ⌜ r ≡ locationsAt (now (file .entry)) end most parameters cursor ⌝ }
 {
-    let mut all = locations_read(file, end, parameters, cursor);
+    let mut all = locations_read(file, end, most, parameters, cursor);
     all.cursor = finished(end, all.cursor);
     all
 }

@@ -53,17 +53,18 @@ fn resets_field(file: &[u8], end: usize, clocks: u8, cursor: Cursor) -> Cursor
 fn transition_at(
     file: &[u8],
     end: usize,
+    most: u8,
     parameters: u8,
     clocks: u8,
     locations: u8,
     cursor: Cursor,
 ) -> TransitionAt
-    ensures { λ r. ⌜ r ≡ transitionAt (now (file .entry)) end parameters clocks locations cursor ⌝ }
+    ensures { λ r. ⌜ r ≡ transitionAt (now (file .entry)) end most parameters clocks locations cursor ⌝ }
 {
     let from = below_field(file, end, locations, cursor);
     let to = below_field(file, end, locations, from);
     let resets = resets_field(file, end, clocks, to);
-    let read = guards_at(file, end, parameters, clocks, resets);
+    let read = guards_at(file, end, most, parameters, clocks, resets);
     let after = read.cursor;
     let guards = read.guards;
     TransitionAt {
@@ -82,6 +83,7 @@ fn transition_at(
 fn transition_step(
     file: &[u8],
     end: usize,
+    most: u8,
     parameters: u8,
     clocks: u8,
     locations: u8,
@@ -89,10 +91,10 @@ fn transition_step(
     all: TransitionsAt,
 ) -> TransitionsAt
     requires { ⌜ i < 32 ⌝ }
-    ensures { λ r. ⌜ r ≡ transitionStep (now (file .entry)) end parameters clocks locations i all ⌝ }
+    ensures { λ r. ⌜ r ≡ transitionStep (now (file .entry)) end most parameters clocks locations i all ⌝ }
 {
     if i < (all.count as usize) {
-        let read = transition_at(file, end, parameters, clocks, locations, all.cursor);
+        let read = transition_at(file, end, most, parameters, clocks, locations, all.cursor);
         let mut next = all;
         let cursor = read.cursor;
         next.cursor = cursor;
@@ -108,12 +110,13 @@ fn transition_step(
 fn transitions_read(
     file: &[u8],
     end: usize,
+    most: u8,
     parameters: u8,
     clocks: u8,
     locations: u8,
     cursor: Cursor,
 ) -> TransitionsAt
-    ensures { λ r. ⌜ r ≡ transitionsRead (now (file .entry)) end parameters clocks locations cursor ⌝ }
+    ensures { λ r. ⌜ r ≡ transitionsRead (now (file .entry)) end most parameters clocks locations cursor ⌝ }
 {
     let count = byte_field(file, end, 0, 32, cursor);
     let mut all = TransitionsAt {
@@ -123,7 +126,7 @@ fn transitions_read(
     };
     let mut i: usize = 0;
     while i < 32 {
-        all = transition_step(file, end, parameters, clocks, locations, i, all);
+        all = transition_step(file, end, most, parameters, clocks, locations, i, all);
         i += 1;
     }
     all
@@ -133,14 +136,15 @@ fn transitions_read(
 pub fn transitions_at(
     file: &[u8],
     end: usize,
+    most: u8,
     parameters: u8,
     clocks: u8,
     locations: u8,
     cursor: Cursor,
 ) -> TransitionsAt
-    ensures { λ r. ⌜ r ≡ transitionsAt (now (file .entry)) end parameters clocks locations cursor ⌝ }
+    ensures { λ r. ⌜ r ≡ transitionsAt (now (file .entry)) end most parameters clocks locations cursor ⌝ }
 {
-    let mut all = transitions_read(file, end, parameters, clocks, locations, cursor);
+    let mut all = transitions_read(file, end, most, parameters, clocks, locations, cursor);
     all.cursor = finished(end, all.cursor);
     all
 }

@@ -12,7 +12,7 @@ use lib.Seq.{getD-set-same, getD-set-other, ext-getD}
 use Rattle.cutting.specs.Cutting.{Bounds, putEntry}
 use Rattle.expr.specs.Affine.{Affine}
 use Rattle.weight.specs.Upper.{Upper}
-use Rattle.expr.specs.Three.{boundOf, zeroBound}
+use Rattle.expr.specs.Records.{boundOf, zeroBound}
 use Rattle.expr.specs.declared.bound.Bound.{Bound}
 use Rattle.dbm.specs.Entries.{up-to-4}
 use Rattle.constrain.specs.Rules.{entryC}

@@ -16,7 +16,7 @@ use Rattle.cutting.specs.Ways.{Way, Outcome, leads, refuses, listWay, counting,
 use Rattle.cutting.specs.CeilingProof.{zones-more, zones-length, counting-without}
 use Rattle.cutting.specs.NumberedProof.{some-number}
 use Rattle.expr.specs.Affine.{Affine, opposite}
-use Rattle.expr.specs.Three.{affine, exprOf, boundAs, rangeList, zeroExpr}
+use Rattle.expr.specs.Records.{affine, exprOf, boundAs, rangeList, zeroExpr}
 use Rattle.search.specs.Valuations.{first}
 use Rattle.expr.specs.declared.number.Expr.{Expr}
 use Rattle.expr.specs.declared.range.Ranges.{Ranges}

@@ -1,5 +1,5 @@
--- The code's records of expressions lose nothing at valuations of three parameters, and numbers that are small are not saturated. So
--- values, sums, tests and opposites are those of the cutting, and so is what no valuation of a zone satisfies.
+-- The code's records of expressions lose nothing at valuations of as many parameters as they have, and numbers that are small are not
+-- saturated. So values, sums, tests and opposites are those of the cutting, and so is what no valuation of a zone satisfies.
 use mathlib.Core.Path.{_≡_, refl, ap, _∙_}
 use mathlib.Core.List.{List, [], _∷_, _++_, map, List·Memᴰ}
 use mathlib.Core.Bool.{Bool, true, false, _||_, cond}
@@ -7,7 +7,7 @@ use mathlib.Core.Option.{Option}
 use mathlib.Core.Option as option
 use Prim.Native.Nat.{ℕ, zero, suc, _+_, _≤_}
 use native.Mathlib.Omega.{arith}
-use lib.IntN.{ℤ, pos, negℤ, _+ℤ_, _-ℤ_, _*ℤ_, zero-*ℤ, +ℤ-idl, natAbs}
+use lib.IntN.{ℤ, pos, negsuc, negℤ, _+ℤ_, _-ℤ_, _*ℤ_, zero-*ℤ, +ℤ-idl, natAbs}
 use lib.ListN.{length, getD}
 use Rattle.cutting.specs.Cutting.{never}
 use Rattle.expr.specs.Bounds.{atV, sumB, ask, slackE, tighterB, saturatedB}
@@ -16,7 +16,8 @@ use Rattle.weight.specs.Upper.{Upper, none, upper, saturate}
 use Rattle.weight.specs.Laws.{saturate-small}
 use Rattle.expr.specs.Ranges.{Inside}
 use Rattle.search.specs.SearchLaws.{valuations-inside, first-same, count-same}
-use Rattle.expr.specs.Three.{affine, exprOf, boundAs, boundOf, test, rangeList}
+use Rattle.expr.specs.Records.{PARAMETERS, placesFrom, four, affine, exprOf, boundAs, boundOf, test, rangeList}
+use Rattle.expr.specs.RecordLaws.{places-behind}
 use Rattle.search.specs.Valuations.{valuations, satisfies, first, count}
 use Rattle.expr.specs.declared.bound.Bound.{Bound}
 use Rattle.expr.specs.declared.range.Range.{Range}
@@ -25,6 +26,7 @@ use Rattle.integer.specs.Parts.{natAbs-parts, pos-parts}
 use Rattle.integer.specs.Split.{split, split-all}
 use Rattle.sizes.specs.Sizes.{AtMostE, AtMostB, TEST}
 use Rattle.timed.specs.Lists.{AllOf}
+use Rattle.timed.specs.Right.{places-all}
 use Rattle.constrain.specs.Rules.{sumC, tighterC}
 use Rattle.zones.specs.Settled.{oppositeC, isNone}
 
@@ -60,26 +62,30 @@ dot-pad (suc n) [] v h = dot-none (suc n) v
 dot-pad (suc n) (c ∷ cs) [] h = refl
 dot-pad (suc n) (c ∷ cs) (x ∷ v) h = ap (λ (y : ℤ). (c *ℤ x) +ℤ y) (dot-pad n cs v (omega arith))
 
-pad-coefs : (e : Affine) → pad e .coefs ≡ padL 3 (e .coefs)
+-- the code's places are these
+places-none : (n i : ℕ) → placesFrom (pos 0) [] i n ≡ padL n []
 unfolding padL
-pad-coefs e = by (e .coefs)
-  where
-    by : (cs : List ℤ) → (getD cs 0 (pos 0) ∷ getD cs 1 (pos 0) ∷ getD cs 2 (pos 0) ∷ []) ≡ padL 3 cs
-    by [] = refl
-    by (a ∷ []) = refl
-    by (a ∷ b ∷ []) = refl
-    by (a ∷ b ∷ c ∷ cs) = refl
+places-none zero i = refl
+places-none (suc n) i = ap (λ (l : List ℤ). pos 0 ∷ l) (places-none n (suc i))
 
-pub pad-value : (e : Affine) (v : List ℤ) → length v ≡ 3 → value (pad e) v ≡ value e v
+places-pad : (n : ℕ) (cs : List ℤ) → placesFrom (pos 0) cs 0 n ≡ padL n cs
+unfolding padL
+places-pad zero cs = refl
+places-pad (suc n) [] = ap (λ (l : List ℤ). pos 0 ∷ l) (places-none n 1)
+places-pad (suc n) (c ∷ cs) = ap (λ (l : List ℤ). c ∷ l) (places-behind (pos 0) c cs n 0 ∙ places-pad n cs)
+
+pub pad-value : (e : Affine) (v : List ℤ) → length v ≡ PARAMETERS → value (pad e) v ≡ value e v
 unfolding value
-pad-value e v h = ap (λ (x : ℤ). e .constant +ℤ x) (ap (λ (l : List ℤ). dot l v) (pad-coefs e) ∙ dot-pad 3 (e .coefs) v h)
+pad-value e v h =
+    ap (λ (x : ℤ). e .constant +ℤ x)
+    (ap (λ (l : List ℤ). dot l v) (places-pad PARAMETERS (e .coefs)) ∙ dot-pad PARAMETERS (e .coefs) v h)
 
-pub pad-at : (b : Upper Affine) (v : List ℤ) → length v ≡ 3 → atV v (padB b) ≡ atV v b
+pub pad-at : (b : Upper Affine) (v : List ℤ) → length v ≡ PARAMETERS → atV v (padB b) ≡ atV v b
 unfolding atV
 pad-at none v h = refl
 pad-at (upper s e) v h = ap (upper s) (pad-value e v h)
 
-pub pad-satisfies : (es : List Affine) (v : List ℤ) → length v ≡ 3 → satisfies (map affine (map exprOf es)) v ≡ satisfies es v
+pub pad-satisfies : (es : List Affine) (v : List ℤ) → length v ≡ PARAMETERS → satisfies (map affine (map exprOf es)) v ≡ satisfies es v
 unfolding satisfies
 pad-satisfies [] v h = refl
 pad-satisfies (e ∷ es) v h = rw (pad-value e v h, pad-satisfies es v h) refl
@@ -136,13 +142,33 @@ minus-at (c ∷ cs) [] k = minus-zero (getD (c ∷ cs) k (pos 0))
 minus-at (c ∷ cs) (d ∷ ds) zero = refl
 minus-at (c ∷ cs) (d ∷ ds) (suc k) = minus-at cs ds k
 
+-- place by place
+plus-places : (cs ds : List ℤ) (n i : ℕ)
+    → plusL (placesFrom (pos 0) cs i n) (placesFrom (pos 0) ds i n) ≡ placesFrom (pos 0) (plusL cs ds) i n
+unfolding plusL
+plus-places cs ds zero i = refl
+plus-places cs ds (suc n) i = rw (plus-at cs ds i, plus-places cs ds n (suc i)) refl
+
+minus-places : (cs ds : List ℤ) (n i : ℕ)
+    → minusL (placesFrom (pos 0) cs i n) (placesFrom (pos 0) ds i n) ≡ placesFrom (pos 0) (minusL cs ds) i n
+unfolding minusL
+minus-places cs ds zero i = refl
+minus-places cs ds (suc n) i = rw (minus-at cs ds i, minus-places cs ds n (suc i)) refl
+
+neg-places : (ds : List ℤ) (n i : ℕ) → map negℤ (placesFrom (pos 0) ds i n) ≡ placesFrom (pos 0) (map negℤ ds) i n
+neg-places ds zero i = refl
+neg-places ds (suc n) i = rw (neg-at ds i, neg-places ds n (suc i)) refl
+
+abbrev with-coefs : ℤ → List ℤ → Affine
+with-coefs c l = record { constant = c; coefs = l }
+
 pad-plus : (a b : Affine) → plus (pad a) (pad b) ≡ pad (plus a b)
-unfolding plus plusL
-pad-plus a b = rw (plus-at (a .coefs) (b .coefs) 0, plus-at (a .coefs) (b .coefs) 1, plus-at (a .coefs) (b .coefs) 2) refl
+unfolding plus
+pad-plus a b = ap (with-coefs (a .constant +ℤ b .constant)) (plus-places (a .coefs) (b .coefs) PARAMETERS 0)
 
 pad-minus : (a b : Affine) → minus (pad a) (pad b) ≡ pad (minus a b)
-unfolding minus minusL
-pad-minus a b = rw (minus-at (a .coefs) (b .coefs) 0, minus-at (a .coefs) (b .coefs) 1, minus-at (a .coefs) (b .coefs) 2) refl
+unfolding minus
+pad-minus a b = ap (with-coefs (a .constant -ℤ b .constant)) (minus-places (a .coefs) (b .coefs) PARAMETERS 0)
 
 pad-less : (e : Affine) → lessOne (pad e) ≡ pad (lessOne e)
 unfolding lessOne
@@ -188,18 +214,22 @@ pad-size B none h = tt
 pad-size B (upper s e) h =
     record {
       constant = h .constant;
-      coefs = (each-at B (e .coefs) 0 (h .coefs), (each-at B (e .coefs) 1 (h .coefs), (each-at B (e .coefs) 2 (h .coefs), tt)));
+      coefs =
+          places-all (λ (c : ℤ). natAbs c ≤ B) (pos 0) (four (e .coefs)) 0 PARAMETERS
+          (λ k. each-at B (four (e .coefs)) k
+          (places-all (λ (c : ℤ). natAbs c ≤ B) (pos 0) (e .coefs) 0 PARAMETERS (λ j. each-at B (e .coefs) j (h .coefs))));
     }
+
+same-places : (cs : List ℤ) → AllOf (λ (c : ℤ). natAbs c ≤ TEST) cs → (n i : ℕ)
+    → map (saturate LARGEST) (placesFrom (pos 0) cs i n) ≡ placesFrom (pos 0) cs i n
+same-places cs h zero i = refl
+same-places cs h (suc n) i = rw (number-same (getD cs i (pos 0)) (each-at TEST cs i h), same-places cs h n (suc i)) refl
 
 pad-same : (e : Affine) → AtMostE TEST e → saturatedE (pad e) ≡ pad e
 unfolding saturatedE
 pad-same e h =
-    rw (
-      number-same (e .constant) (h .constant),
-      number-same (getD (e .coefs) 0 (pos 0)) (each-at TEST (e .coefs) 0 (h .coefs)),
-      number-same (getD (e .coefs) 1 (pos 0)) (each-at TEST (e .coefs) 1 (h .coefs)),
-      number-same (getD (e .coefs) 2 (pos 0)) (each-at TEST (e .coefs) 2 (h .coefs)),
-    ) refl
+    ap (λ (c : ℤ). with-coefs c (map (saturate LARGEST) (four (e .coefs)))) (number-same (e .constant) (h .constant))
+    ∙ ap (with-coefs (e .constant)) (same-places (e .coefs) (h .coefs) PARAMETERS 0)
 
 padB-same : (b : Upper Affine) → AtMostB TEST b → saturatedB (padB b) ≡ padB b
 unfolding saturatedB
@@ -217,7 +247,9 @@ module _ (a b : Upper Affine) (h : AtMostB TEST a) (k : AtMostB TEST b) where
 -- ---- opposites
 pub opposite-coded : (e : Affine) → AtMostE TEST e → oppositeC (exprOf e) ≡ exprOf (opposite e)
 unfolding oppositeC opposite
-opposite-coded e h = rw (pad-same e h) (rw (neg-at (e .coefs) 0, neg-at (e .coefs) 1, neg-at (e .coefs) 2) refl)
+opposite-coded e h =
+    rw (pad-same e h)
+    (ap (λ (l : List ℤ). exprOf (with-coefs (negsuc 0 -ℤ e .constant) l)) (neg-places (e .coefs) PARAMETERS 0))
 
 -- ---- what no valuation satisfies
 pub never-is : (b : Ranges) (es : List Affine) (e : Affine) → isNone (first (rangeList b) (es ++ (e ∷ []))) ≡ never (rangeList b) es e

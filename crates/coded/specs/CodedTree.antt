@@ -12,10 +12,9 @@ use Rattle.cutting.specs.Cutting.{Bounds, Tree, cut, keep, asks, tested, Place,
 use Rattle.expr.specs.Bounds.{zeroB, sumB, tighterB, Question, yes′, no′, ask, saturatedB}
 use Rattle.expr.specs.Affine.{Affine}
 use Rattle.weight.specs.Upper.{Upper}
-use Rattle.expr.specs.Three.{exprOf, boundAs, boundOf, test, zeroBound}
+use Rattle.expr.specs.Records.{exprOf, boundAs, boundOf, test, noTest, zeroBound}
 use Rattle.expr.specs.declared.bound.Bound.{Bound}
 use Rattle.expr.specs.declared.bound.Test.{Test}
-use Rattle.expr.specs.declared.bound.Test.the-variants.{No}
 use Rattle.dbm.specs.Entries.{up-to-4}
 use Rattle.guards.specs.declared.Guard.{Guard}
 use Rattle.sizes.specs.SizeLaws.{atMostB-more, zero-size}
@@ -168,7 +167,7 @@ module _ (w : ℕ) (g : Guard) (m : Bounds) (four : w ≤ 4) (s : SmallGuard w g
   push-same (suc k) y q new = by (ltb w (y / 5)) (ltb w (y % 5)) refl refl (push-same k (suc y) (omega arith))
     where
       by : (a b : Bool) → ltb w (y / 5) ≡ a → ltb w (y % 5) ≡ b → Pushes k (suc y)
-          → testedC (cond a No (cond b No (tighterC (viaC rule y) (getD (boundsOf m) y zeroBound))))
+          → testedC (cond a noTest (cond b noTest (tighterC (viaC rule y) (getD (boundsOf m) y zeroBound))))
           (λ x. pushC rule k (suc y) (cond x (set (boundsOf new) y (viaC rule y)) (boundsOf new)))
           ≡ treeOf (pushed i j e m
           (cond a (spots w (suc y) k) (cond b (spots w (suc y) k) (record { row = y / 5; column = y % 5 } ∷ spots w (suc y) k))) new)

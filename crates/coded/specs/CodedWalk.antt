@@ -15,7 +15,7 @@ use Rattle.cutting.specs.NumberedProof.{some-number}
 use Rattle.dbm.specs.Entries.{up-to-4, eqb-no, resetBit, bits-resets}
 use Rattle.dbm.specs.Matrix.{delayed, resetM, resetsM}
 use Rattle.weight.specs.Upper.{none}
-use Rattle.expr.specs.Three.{rangeList}
+use Rattle.expr.specs.Records.{rangeList}
 use Rattle.expr.specs.declared.bound.Bound.{Bound}
 use Rattle.expr.specs.declared.range.Ranges.{Ranges}
 use Rattle.guards.specs.declared.Guard.{Guard}

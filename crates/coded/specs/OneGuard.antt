@@ -7,7 +7,7 @@ use lib.ListN.{length}
 use Rattle.cutting.specs.Cutting as cutting
 use Rattle.cutting.specs.Ways.{Outcome, guardWays}
 use Rattle.cutting.specs.Ceiling.{CEILING}
-use Rattle.expr.specs.Three.{boundAs, rangeList}
+use Rattle.expr.specs.Records.{boundAs, rangeList}
 use Rattle.expr.specs.declared.range.Ranges.{Ranges}
 use Rattle.guards.specs.Right.{GuardRight}
 use Rattle.guards.specs.declared.Guard.{Guard}

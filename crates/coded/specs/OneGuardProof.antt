@@ -12,8 +12,10 @@ use Rattle.cutting.specs.Ways.{Way, Outcome, leads, refuses, guardWays}
 use Rattle.cutting.specs.Ceiling.{CEILING}
 use Rattle.cutting.specs.CeilingProof.{ceiling-holds}
 use Rattle.expr.specs.declared.bound.Bound.{Bound}
+use Rattle.expr.specs.declared.bound.Asked.{Asked}
+use Rattle.expr.specs.declared.bound.Asked.the-variants.{Yes, No, Ask}
 use Rattle.expr.specs.declared.bound.Test.{Test}
-use Rattle.expr.specs.declared.bound.Test.the-variants.{Yes, No, Ask}
+use Rattle.expr.specs.declared.number.Expr.{Expr}
 use Rattle.expr.specs.declared.range.Ranges.{Ranges}
 use Rattle.guards.specs.Right.{GuardRight}
 use Rattle.guards.specs.declared.Guard.{Guard}
@@ -26,8 +28,8 @@ use Rattle.timed.specs.Steps.{stepsOf}
 use Rattle.constrain.specs.Rules.{voidTest, tightTest, pushTest}
 use Rattle.constrain.specs.declared.rule.Rule.{Rule}
 use Rattle.split.specs.Guarded.{ruleC, cutC, oneC}
+use Rattle.split.specs.Trees.{TreeC, cutT, keepT, askT, testedBy, testedC, pushC, tightC, treeAt, workedC}
 use Rattle.split.specs.Listed.{nothingAt, noneAt, refusedC, listC}
-use Rattle.split.specs.Trees.{TreeC, cutT, keepT, askT, testedC, pushC, tightC, treeAt, workedC}
 use Rattle.split.specs.declared.list.Counted.{Counted}
 use Rattle.zones.specs.Settled.{oppositeC, neverC}
 use Rattle.zones.specs.Zone.{plusC}
@@ -76,11 +78,14 @@ within-more cutT n h = tt
 within-more (keepT m) n h = tt
 within-more (askT e f) n h = (n, refl, λ b. subst (Within (f b)) (sym (h .1)) (within-more (f b) (h .0) (h .2 b)))
 
+tested-by : (a : Asked) (e : Expr) (f : Bool → TreeC) (n : ℕ) → ((b : Bool) → Within (f b) n) → Within (testedBy a e f) (suc n)
+tested-by Yes e f n h = within-more (f true) n (h true)
+tested-by No e f n h = within-more (f false) n (h false)
+tested-by Ask e f n h = (n, refl, h)
+
 tested-within : (t : Test) (f : Bool → TreeC) (n : ℕ) → ((b : Bool) → Within (f b) n) → Within (testedC t f) (suc n)
 unfolding testedC
-tested-within Yes f n h = within-more (f true) n (h true)
-tested-within No f n h = within-more (f false) n (h false)
-tested-within (Ask e) f n h = (n, refl, h)
+tested-within t f n h = tested-by (t .asked) (t .expr) f n h
 
 push-within : (r : Rule) (k x : ℕ) (new : List Bound) → Within (pushC r k x new) k
 unfolding pushC

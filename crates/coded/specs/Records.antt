@@ -5,7 +5,7 @@ use Prim.Native.Nat.{ℕ, _-_}
 use lib.ListN.{length, replicate}
 use Rattle.cutting.specs.Cutting.{Bounds, Listing, listed, refused}
 use Rattle.cutting.specs.Cutting as cutting
-use Rattle.expr.specs.Three.{exprOf, boundOf, zeroExpr}
+use Rattle.expr.specs.Records.{exprOf, boundOf, zeroExpr}
 use Rattle.expr.specs.declared.bound.Bound.{Bound}
 use Rattle.zones.specs.Zone.{blankZone}
 use Rattle.zones.specs.declared.zone.Zone.{Zone}

@@ -8,7 +8,7 @@ use Rattle.dbm.specs.Entries.{delayed-outside, resets-outside}
 use Rattle.dbm.specs.Guard.{guarded-outside}
 use Rattle.weight.specs.Upper.{Upper, none}
 use Rattle.expr.specs.Bounds.{atV}
-use Rattle.expr.specs.Three.{boundAs}
+use Rattle.expr.specs.Records.{boundAs}
 use Rattle.timed.specs.Automaton.{routeOf}
 use Rattle.timed.specs.Steps.{Step, delay, guard, resets, stepsOf}
 use Rattle.concrete.specs.Walk.{andThen, step, walk, sweepAlong, sweepAt}

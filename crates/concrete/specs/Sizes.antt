@@ -1,4 +1,4 @@
--- How large the numbers of Sweep's matrices grow, where every parameter lies from -1,000 to 1,000: a guard's number is at most 3,001,000
+-- How large the numbers of Sweep's matrices grow, where every parameter lies from -1,000 to 1,000: a guard's number is at most 4,001,000
 -- in size, and after any steps with at most 33 delays every number stays within 2 ^ 57.
 use mathlib.Core.Path.{_≡_, refl, ap, subst}
 use mathlib.Core.Logic.{_⊎_, inl, inr}
@@ -7,7 +7,7 @@ use mathlib.Core.Bool.{Bool, true, false, cond}
 use Prim.Native.Nat.{ℕ, zero, suc, _+_, _*_, _/_, _%_, _^_, _≤_, _<_}
 use native.Mathlib.Omega.{arith}
 use lib.Dec.{eqb}
-use lib.IntN.{ℤ, natAbs, _*ℤ_}
+use lib.IntN.{ℤ, pos, natAbs, _*ℤ_}
 use lib.ListN.{length}
 use Rattle.integer.specs.Parts.{p, n, pos-parts, natAbs-parts}
 use Rattle.integer.specs.Product.{size-in, sum-size, product-size}
@@ -19,7 +19,7 @@ use Rattle.expr.specs.Affine.{dot, value}
 use Rattle.weight.specs.Upper.{Upper, none, upper, zeroW, sumW, tighterW, MOST, saturated}
 use Rattle.expr.specs.Bounds.{atV}
 use Rattle.weight.specs.Laws.{saturate-small}
-use Rattle.expr.specs.Three.{affine, boundAs}
+use Rattle.expr.specs.Records.{PARAMETERS, four, affine, boundAs}
 use Rattle.expr.specs.declared.number.Expr.{Expr}
 use Rattle.guards.specs.declared.Guard.{Guard}
 use Rattle.sheet.specs.declared.Sheet.{Sheet}
@@ -28,7 +28,7 @@ use Rattle.guards.specs.Right.{ExprRight, GuardRight}
 use Rattle.sheet.specs.WellFormed.{WellFormed}
 use Rattle.timed.specs.Automaton.{routeOf}
 use Rattle.timed.specs.Lists.{AllOf}
-use Rattle.timed.specs.Right.{StepRight, steps-right, route-delays}
+use Rattle.timed.specs.Right.{StepRight, filled-at, places-all, steps-right, route-delays}
 use Rattle.timed.specs.Steps.{Step, delay, guard, resets, stepsOf, delays}
 use Rattle.timed.specs.Visits.{after, after-delays, none-more}
 use Rattle.concrete.specs.Walk.{andThen, step, walk, sweepAlong, sweepAt}
@@ -52,19 +52,22 @@ dot-size (c ∷ cs) (x ∷ v) h k =
           (dot-size cs v (h .1) (k .1)),
     )
 
-value-size : {parameters : ℕ} (e : Expr) (v : List ℤ) → ExprRight parameters e → Thousands v → natAbs (value (affine e) v) ≤ 3001000
+value-size : {parameters : ℕ} (e : Expr) (v : List ℤ) → ExprRight parameters e → Thousands v → natAbs (value (affine e) v) ≤ 4001000
 unfolding value
 value-size e v r h =
-    let d = dot-size (e .p ∷ e .q ∷ e .r ∷ []) v (r .p, (r .q, (r .r, tt))) h in
-    rw natAbs-parts (sum-size (e .constant) (dot (e .p ∷ e .q ∷ e .r ∷ []) v) (thousand-size (r .constant)) d)
+    let cs = four (e .coefs) in
+    let zero-small : Thousand (pos 0) = record { least = record { le = tt }; most = record { le = tt } } in
+    let small = places-all Thousand (pos 0) (e .coefs) 0 PARAMETERS (filled-at (r .coefs) Thousand (λ c k. k) zero-small zero-small) in
+    let d = dot-size cs v small h in
+    rw natAbs-parts (sum-size (e .constant) (dot cs v) (thousand-size (r .constant)) d)
 
--- a guard's number is at most 3,001,000 in size
+-- a guard's number is at most 4,001,000 in size
 pub guard-size : {parameters w : ℕ} {g : Guard} (v : List ℤ) → GuardRight parameters w g → Thousands v
-    → AtMost 3001000 (atV v (boundAs (g .bound)))
+    → AtMost 4001000 (atV v (boundAs (g .bound)))
 unfolding atV
 guard-size {parameters} {w} {g} v r h = by (g .bound .none)
   where
-    by : (b : Bool) → AtMost 3001000 (atV v (cond b none (upper (g .bound .strict) (affine (g .bound .expr)))))
+    by : (b : Bool) → AtMost 4001000 (atV v (cond b none (upper (g .bound .strict) (affine (g .bound .expr)))))
     by true = record { size = tt }
     by false = record { size = value-size (g .bound .expr) v (r .expr) h }
 
@@ -72,19 +75,19 @@ guard-size {parameters} {w} {g} v r h = by (g .bound .none)
 -- how large numbers are after k delays, but for what guards add after the last
 unfoldable pub size : ℕ → ℕ
 size zero = 0
-size (suc k) = 2 * (size k + 3001000)
+size (suc k) = 2 * (size k + 4001000)
 
 -- a matrix after k delays, with guards and resets among them
 abbrev pub Visited : ℕ → ℕ → Matrix (Upper ℤ) → Type 0
-Visited w k m = Visit w (size k) 3001000 m
+Visited w k m = Visit w (size k) 4001000 m
 
 pub start-visited : (w : ℕ) → Visited w 0 start
 unfolding start size
-start-visited w = small-visit 3001000 (start-closed w) (λ i j hi hj. record { size = omega arith })
+start-visited w = small-visit 4001000 (start-closed w) (λ i j hi hj. record { size = omega arith })
 
 delayed-visited : {w : ℕ} {m : Matrix (Upper ℤ)} (k : ℕ) → Visited w k m → Visited w (suc k) (delayed w none m)
 unfolding size
-delayed-visited k a = delayed-visit 3001000 (a .closed) (visit-small a)
+delayed-visited k a = delayed-visit 4001000 (a .closed) (visit-small a)
 
 -- ---- guards and resets
 one-clock : {parameters w : ℕ} {g : Guard} → GuardRight parameters w g → (g .left ≡ 0) ⊎ (g .right ≡ 0)
@@ -186,7 +189,7 @@ test-same : {a b : Upper ℤ} {A B : ℕ} → A < 2 ^ 62 → AtMost A a → B < 
     → tighterW (saturated a) (saturated b) ≡ tighterW a b
 test-same {a} {b} f h g k = rw (saturated-same a f h, saturated-same b g k) refl
 
-module _ {w : ℕ} {m : Matrix (Upper ℤ)} {e : Upper ℤ} (h : Small w (2 ^ 57) m) (g : AtMost 3001000 e) where
+module _ {w : ℕ} {m : Matrix (Upper ℤ)} {e : Upper ℤ} (h : Small w (2 ^ 57) m) (g : AtMost 4001000 e) where
   -- e + (j, i), which says whether a guard leaves it void
   pub loop-exact : (i j : ℕ) → i ≤ w → j ≤ w → sumW (saturated e) (saturated (m j i)) ≡ sumW e (m j i)
   loop-exact i j hi hj = rw (saturated-same e (omega arith) g, saturated-same (m j i) (omega arith) (h j i hj hi)) refl

@@ -20,7 +20,7 @@ use Rattle.dbm.specs.Reset.{reset-closed, reset-met, reset-from}
 use Rattle.expr.specs.Affine.{Affine, value}
 use Rattle.weight.specs.Upper.{Upper, none, upper}
 use Rattle.expr.specs.Bounds.{atV}
-use Rattle.expr.specs.Three.{affine, boundAs}
+use Rattle.expr.specs.Records.{affine, boundAs}
 use Rattle.guards.specs.declared.Guard.{Guard}
 use Rattle.guards.specs.Right.{GuardRight}
 use Rattle.timed.specs.Lists.{AllOf}

@@ -6,7 +6,7 @@ use lib.IntN.{ℤ}
 use Rattle.dbm.specs.Matrix.{Matrix, start, delayed, resetsM, Outcome, void, kept, guarded}
 use Rattle.weight.specs.Upper.{Upper, none}
 use Rattle.expr.specs.Bounds.{atV}
-use Rattle.expr.specs.Three.{boundAs}
+use Rattle.expr.specs.Records.{boundAs}
 use Rattle.sheet.specs.declared.Sheet.{Sheet}
 use Rattle.timed.specs.Automaton.{routeOf}
 use Rattle.timed.specs.Steps.{Step, delay, guard, resets, stepsOf}

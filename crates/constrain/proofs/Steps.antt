@@ -6,18 +6,17 @@ use borrow.Author.Tests.{lt-ltb, le-ltb}
 use lib.ListN.{getD}
 use Rattle.expr.specs.declared.bound.Bound.{Bound}
 use Rattle.expr.specs.declared.bound.Test.{Test}
-use Rattle.expr.specs.declared.bound.Test.the-variants.{No}
-use Rattle.expr.specs.Three.{zeroBound}
+use Rattle.expr.specs.Records.{noTest, zeroBound}
 use Rattle.constrain.specs.Rules.{tighterC, voidTest, tightTest, viaC, pushTest, askC}
 use Rattle.constrain.specs.declared.rule.Rule.{Rule}
 
 -- ---- the tests
 module _ (r : Rule) (x : ℕ) where
-  pub push-row : r .clocks < x / 5 → No ≡ pushTest r x
+  pub push-row : r .clocks < x / 5 → noTest ≡ pushTest r x
   unfolding pushTest
   push-row h = rw (lt-ltb (r .clocks) (x / 5) h) refl
 
-  pub push-column : x / 5 ≤ r .clocks → r .clocks < x % 5 → No ≡ pushTest r x
+  pub push-column : x / 5 ≤ r .clocks → r .clocks < x % 5 → noTest ≡ pushTest r x
   unfolding pushTest
   push-column h k = rw (le-ltb (r .clocks) (x / 5) h, lt-ltb (r .clocks) (x % 5) k) refl
 

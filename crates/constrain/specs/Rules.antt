@@ -5,10 +5,9 @@ use Prim.Native.Nat.{ℕ, zero, suc, _+_, _*_, _/_, _%_}
 use lib.Dec.{ltb}
 use lib.ListN.{getD}
 use Rattle.expr.specs.Bounds.{sumB, tighterB, saturatedB}
-use Rattle.expr.specs.Three.{boundAs, boundOf, test, zeroBound}
+use Rattle.expr.specs.Records.{boundAs, boundOf, test, noTest, zeroBound}
 use Rattle.expr.specs.declared.bound.Bound.{Bound}
 use Rattle.expr.specs.declared.bound.Test.{Test}
-use Rattle.expr.specs.declared.bound.Test.the-variants.{No}
 use Rattle.constrain.specs.declared.rule.Rule.{Rule}
 
 -- entry (k, l) of a matrix, five rows of five
@@ -36,7 +35,9 @@ viaC r x = sumC (sumC (entryC (r .old) (x / 5) (r .left)) (r .bound)) (entryC (r
 
 -- against the entry; no, past the clocks
 unfoldable pub pushTest : Rule → ℕ → Test
-pushTest r x = cond (ltb (r .clocks) (x / 5)) No (cond (ltb (r .clocks) (x % 5)) No (tighterC (viaC r x) (getD (r .old) x zeroBound)))
+pushTest r x =
+    cond (ltb (r .clocks) (x / 5)) noTest
+    (cond (ltb (r .clocks) (x % 5)) noTest (tighterC (viaC r x) (getD (r .old) x zeroBound)))
 
 -- the test of a phase
 unfoldable pub askC : Rule → ℕ → Test

@@ -3,7 +3,7 @@ use expr::Bound;
 use expr::Test;
 ghost use mathlib.Core.Path.{_≡_};
 ghost use lib.ListN.{getD};
-ghost use Rattle.expr.specs.Three.{zeroBound};
+ghost use Rattle.expr.specs.Records.{zeroBound};
 ghost use Rattle.constrain.specs.Rules.{entryC, voidTest, tightTest, viaC, pushTest, askC};
 
 // A guard left - right with a bound, for a sheet's clocks, and the matrix that it finds.
@@ -70,10 +70,10 @@ fn push_test(r: Rule, x: usize) -> Test
     ensures { λ t. ⌜ t ≡ pushTest r x ⌝ }
 {
     if r.clocks < x / 5 {
-        return Test::No;
+        return Test::NO;
     }
     if r.clocks < x % 5 {
-        return Test::No;
+        return Test::NO;
     }
     via(r, x).tighter(place(r, x))
 }

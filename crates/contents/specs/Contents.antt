@@ -1,7 +1,8 @@
 -- The contents of a sheet file (paper 01, "The sheet file", first item, and rows 2 and 3 of "When no piece is given").
 use Prim.Native.Nat.{ℕ, _+_, _-_}
 use mathlib.Core.List.{List}
-use mathlib.Core.Bool.{Bool}
+use mathlib.Core.Bool.{Bool, cond}
+use lib.Dec.{eqb}
 use lib.ListN.{length}
 use Rattle.cursor.specs.declared.Cursor.{Cursor}
 use Rattle.contents.specs.declared.Contents.{Contents}
@@ -19,9 +20,17 @@ entryField s kind start least cursor =
     (wordField s 22 start start
     (byteField s 22 kind kind cursor))
 
--- version 1, then the count 4
+-- the version, 1 or 2
+unfoldable pub versionOf : List ℕ → Cursor
+versionOf s = byteField s 22 1 2 (advanced 0 0)
+
+-- how many parameters (paper: allowances) a sheet of this version has at most, and how many coefficients a guard (paper: limit) has
+unfoldable pub mostParameters : ℕ → ℕ
+mostParameters version = cond (eqb version 2) 4 3
+
+-- the version, then the count 4
 unfoldable pub headOf : List ℕ → Cursor
-headOf s = byteField s 22 4 4 (byteField s 22 1 1 (advanced 0 0))
+headOf s = byteField s 22 4 4 (versionOf s)
 
 -- the entry of body 1, which starts at byte 22; then each body starts where the last ended
 unfoldable pub oneOf : List ℕ → Cursor
@@ -51,6 +60,6 @@ thirdOf s = secondOf s + threeOf s .word
 unfoldable pub fourOf : List ℕ → Cursor
 fourOf s = entryField s 4 (thirdOf s) (length s - thirdOf s) (threeOf s)
 
--- the contents: where reading them ended, and the ends of bodies 1, 2 and 3
+-- the contents: where reading them ended, the version, and the ends of bodies 1, 2 and 3
 unfoldable pub contentsOf : List ℕ → Contents
-contentsOf s = record { cursor = fourOf s; first = firstOf s; second = secondOf s; third = thirdOf s }
+contentsOf s = record { cursor = fourOf s; version = versionOf s .byte; first = firstOf s; second = secondOf s; third = thirdOf s }

@@ -1,6 +1,6 @@
 // The contents of a file, its entries judged in order.
 ghost use mathlib.Core.Path.{_≡_};
-ghost use Rattle.contents.specs.Contents.{sized, entryField, contentsOf};
+ghost use Rattle.contents.specs.Contents.{sized, entryField, mostParameters, contentsOf};
 use super::Contents;
 use cursor::Cursor;
 use cursor::byte_field;
@@ -35,7 +35,7 @@ pub fn contents_of(file: &[u8]) -> Contents
         byte: 0,
         word: 0,
     };
-    let version = byte_field(file, 22, 1, 1, start);
+    let version = byte_field(file, 22, 1, 2, start);
     let count = byte_field(file, 22, 4, 4, version);
     let one = entry_field(file, 1, 22, 0, count);
     let first = 22 + (one.word as u32);
@@ -47,8 +47,16 @@ pub fn contents_of(file: &[u8]) -> Contents
     let four = entry_field(file, 4, third as usize, rest, three);
     Contents {
         cursor: four,
+        version: version.byte,
         first,
         second,
         third,
     }
+}
+
+// How many parameters a sheet of this version has at most, and how many coefficients a guard has.
+pub fn most_parameters(version: u8) -> u8
+    ensures { λ r. ⌜ r ≡ mostParameters version ⌝ }
+{
+    if version == 2 { 4 } else { 3 }
 }

@@ -5,10 +5,11 @@ pub mod entries;
 
 use cursor::Cursor;
 
-// The contents: where reading them ended, and where bodies 1, 2 and 3 end. Body 1 starts at byte
-// 22 and body 4 ends with the file.
+// The contents: where reading them ended, the file's version, and where bodies 1, 2 and 3 end. Body
+// 1 starts at byte 22 and body 4 ends with the file.
 pub struct Contents {
     pub cursor: Cursor,
+    pub version: u8,
     pub first: u32,
     pub second: u32,
     pub third: u32,

@@ -7,7 +7,8 @@ use lib.Dec.{ltb, leb}
 use borrow.Author.Tests.{ltb-true, leb-true}
 use Rattle.integer.specs.Apart.{apart}
 use Rattle.cursor.specs.declared.Cursor.{Cursor}
-use Rattle.cursor.specs.Cursor.{within, stop, judged, byteTaken, wordTaken, signedTaken, byteField, belowField, signedField, finished}
+use Rattle.cursor.specs.Cursor.{within, stop, judged, byteTaken, wordTaken, signedTaken, byteField, belowField, wordField}
+use Rattle.cursor.specs.Cursor.{signedField, finished}
 use Rattle.integer.specs.Bools.{and-left, and-right}
 
 -- false is not true
@@ -76,6 +77,12 @@ module _ (s : List ℕ) (end : ℕ) where
         let t = byteTaken s end cursor in
         let j = judged-right cursor t (within low (t .byte) high) h in
         (byteTaken-ok cursor (j .0), rw (j .1 .1) (within-true low (t .byte) high (j .1 .0)))
+
+    pub wordField-ok : wordField s end low high cursor .ok ≡ true → cursor .ok ≡ true
+    unfolding wordField
+    wordField-ok h =
+        let t = wordTaken s end cursor in
+        wordTaken-ok cursor (judged-right cursor t (within low (t .word) high) h .0)
 
     pub signedField-right :
         signedField s end low high cursor .ok ≡ true →

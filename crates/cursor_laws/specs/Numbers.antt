@@ -1,6 +1,6 @@
 -- Laws of a field's number: it is what two's complement says, it is small, and it keeps order and differences.
 use Prim.Native.Nat.{ℕ, zero, suc, _+_, _-_, _%_, _≤_, _<_}
-use mathlib.Core.Path.{_≡_, refl, ap}
+use mathlib.Core.Path.{_≡_, refl}
 use mathlib.Core.Bool.{Bool, true, false, cond}
 use native.Mathlib.Omega.{arith}
 use lib.Dec.{ltb, le→leb}
@@ -42,10 +42,6 @@ small-cases false w e l h = record { least = record { le = tt }; most = record {
 pub small-number : (w : ℕ) → (31768 ≤ w) × (w ≤ 33768) → Small (signedOf w)
 unfolding signedOf
 small-number w h = small-cases (ltb w 32768) w refl (h .0) (h .1)
-
-pub zero-number : (w : ℕ) → w ≡ 32768 → signedOf w ≡ pos 0
-unfolding signedOf
-zero-number w e = ap signedOf e
 
 order-cases : (b c : Bool) (l h : ℕ) → ltb l 32768 ≡ b → ltb h 32768 ≡ c → l ≤ h → signed b l ≤ℤ signed c h
 order-cases true true l h e f le = record { le = le→leb (32768 - suc h) (32768 - suc l) (omega arith) }

@@ -13,7 +13,7 @@ use Rattle.dbm.specs.Matrix.{Matrix, delayed, resetsM}
 use Rattle.expr.specs.Affine.{Affine, opposite}
 use Rattle.weight.specs.Upper.{Upper, none}
 use Rattle.expr.specs.Bounds.{zeroB, sumB, tighterB, Question, yes′, no′, ask}
-use Rattle.expr.specs.Three.{boundAs, rangeList}
+use Rattle.expr.specs.Records.{boundAs, rangeList}
 use Rattle.search.specs.Valuations.{first}
 use Rattle.expr.specs.declared.range.Range.{Range}
 use Rattle.guards.specs.declared.Guard.{Guard}

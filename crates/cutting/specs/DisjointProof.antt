@@ -9,7 +9,7 @@ use lib.ListN.{length, getD, length-append}
 use Rattle.dbm.specs.Matrix.{Matrix, Outcome, void, kept, delayed, resetsM}
 use Rattle.expr.specs.Ranges.{Inside}
 use Rattle.weight.specs.Upper.{Upper, none}
-use Rattle.expr.specs.Three.{rangeList}
+use Rattle.expr.specs.Records.{rangeList}
 use Rattle.search.specs.Valuations.{satisfies}
 use Rattle.expr.specs.declared.range.Range.{Range}
 use Rattle.sheet.specs.declared.Sheet.{Sheet}

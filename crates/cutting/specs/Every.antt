@@ -13,7 +13,7 @@ use lib.ListN.{length, length-append}
 use Rattle.dbm.specs.Matrix.{delayed, resetsM}
 use Rattle.expr.specs.Affine.{Affine, opposite}
 use Rattle.weight.specs.Upper.{Upper, none}
-use Rattle.expr.specs.Three.{boundAs}
+use Rattle.expr.specs.Records.{boundAs}
 use Rattle.expr.specs.declared.range.Range.{Range}
 use Rattle.guards.specs.declared.Guard.{Guard}
 use Rattle.timed.specs.Lists.{AllOf}

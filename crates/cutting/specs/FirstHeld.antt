@@ -4,7 +4,7 @@ use mathlib.Core.Path.{_≡_}
 use mathlib.Core.List.{List, List·Memᴰ}
 use Prim.Native.Nat.{ℕ}
 use lib.IntN.{ℤ}
-use Rattle.expr.specs.Three.{rangeList}
+use Rattle.expr.specs.Records.{rangeList}
 use Rattle.search.specs.First.{IsFirst}
 use Rattle.search.specs.Valuations.{first, numbersIn}
 use Rattle.expr.specs.declared.range.Range.{Range}

@@ -9,7 +9,7 @@ use native.Mathlib.Omega.{arith}
 use lib.IntN.{ℤ}
 use Rattle.expr.specs.Affine.{Affine, opposite}
 use Rattle.expr.specs.Ranges.{Inside}
-use Rattle.expr.specs.Three.{rangeList}
+use Rattle.expr.specs.Records.{rangeList}
 use Rattle.integer.specs.Apart.{apart}
 use Rattle.search.specs.First.{IsFirst}
 use Rattle.search.specs.FirstProof.{search-right}

@@ -5,7 +5,7 @@ use Prim.Native.Nat.{ℕ, suc}
 use lib.ListN.{length}
 use Rattle.integer.specs.Apart.{apart}
 use Rattle.expr.specs.Affine.{Affine}
-use Rattle.expr.specs.Three.{boundAs}
+use Rattle.expr.specs.Records.{boundAs}
 use Rattle.expr.specs.declared.range.Range.{Range}
 use Rattle.guards.specs.declared.Guard.{Guard}
 use Rattle.timed.specs.Steps.{Step}

@@ -14,7 +14,7 @@ use Rattle.dbm.specs.Entries.{delayed-outside, resets-outside}
 use Rattle.expr.specs.Affine.{Affine, opposite}
 use Rattle.weight.specs.Upper.{Upper, none}
 use Rattle.expr.specs.Bounds.{sumB, tighterB, Question, yes′, no′, ask, zeroB}
-use Rattle.expr.specs.Three.{rangeList}
+use Rattle.expr.specs.Records.{rangeList}
 use Rattle.expr.specs.declared.range.Range.{Range}
 use Rattle.timed.specs.Automaton.{routeOf}
 use Rattle.timed.specs.Steps.{Step, stepsOf}

@@ -6,9 +6,10 @@ use Prim.Native.Nat.{ℕ, zero, suc, _+_, _*_, _≤_, _<_, min}
 use native.Mathlib.Numerals.{add-one}
 use native.Mathlib.Omega.{arith}
 use borrow.Author.Tests.{lt-ltb, le-ltb, eq-eqb, ne-eqb}
-use lib.ListN.{length, getD, set}
+use lib.ListN.{length, getD, set, length-set}
 use Rattle.weight.specs.Upper.{none}
-use Rattle.expr.specs.Three.{boundOf, zeroBound}
+use Rattle.expr.specs.Records.{boundOf, noBound, zeroBound}
+use Rattle.expr.specs.RecordLaws.{inside-any}
 use Rattle.expr.specs.declared.bound.Bound.{Bound}
 use Rattle.delay.specs.Delayed.{noneIf, resetPair, resetB, resetIfB, onFirst}
 use Rattle.zones.specs.declared.zone.Zone.{Zone}
@@ -27,11 +28,19 @@ module _ (w r j : ℕ) (m : List Bound) where
   unfolding resetPair
   pair-same h k = rw (le-ltb w j h, eq-eqb j r k) refl
 
-  pub pair-other : j ≤ w → (j ≡ r → ⊥)
-      → set (set m (5 * r + j) (getD m j zeroBound)) (5 * j + r) (getD (set m (5 * r + j) (getD m j zeroBound)) (5 * j) zeroBound)
+  pub pair-other : j ≤ w → (j ≡ r → ⊥) → j < 5 → length m ≡ 25
+      → set (set m (5 * r + j) (getD m j noBound)) (5 * j + r) (getD (set m (5 * r + j) (getD m j noBound)) (5 * j) noBound)
       ≡ resetPair w r j m
   unfolding resetPair
-  pair-other h k = rw (le-ltb w j h, ne-eqb j r k) refl
+  pair-other h k f l =
+      let n = set m (5 * r + j) (getD m j zeroBound) in
+      let long : length n ≡ 25 = length-set m (5 * r + j) (getD m j zeroBound) ∙ l in
+      rw (
+        le-ltb w j h,
+        ne-eqb j r k,
+        inside-any m j noBound zeroBound (omega arith),
+        inside-any n (5 * j) noBound zeroBound (omega arith),
+      ) refl
 
 module _ (w r bit : ℕ) (m : List Bound) where
   pub if-past : bit ≡ 1 → w < r → m ≡ resetIfB w r bit m

@@ -1,21 +1,33 @@
 -- The code's records put together from their numbers.
-use mathlib.Core.Path.{_≡_}
+use mathlib.Core.Path.{_≡_, refl, ap, _∙_}
 use mathlib.Core.Bool.{Bool, false}
-use mathlib.Core.List.{[], _∷_}
-use lib.IntN.{ℤ}
+use mathlib.Core.List.{List, [], _∷_}
+use Prim.Native.Nat.{ℕ, _+_, _≤_, _<_}
+use lib.IntN.{ℤ, pos}
+use lib.ListN.{set, replicate}
 use Rattle.weight.specs.declared.Weight.{Weight}
-use Rattle.expr.specs.Affine.{Affine}
+use Rattle.expr.specs.Records.{PARAMETERS}
+use Rattle.expr.specs.RecordLaws.{filledTo, filled-none, filled-next, filled-all}
 use Rattle.expr.specs.declared.number.Expr.{Expr}
 
--- an expression from its numbers
-pub affine-path : {a b c d a′ b′ c′ d′ : ℤ} → a ≡ a′ → b ≡ b′ → c ≡ c′ → d ≡ d′
-    → _≡_ {A = Affine} (record { constant = a; coefs = b ∷ c ∷ d ∷ [] }) (record { constant = a′; coefs = b′ ∷ c′ ∷ d′ ∷ [] })
-affine-path e f g h = λ i. record { constant = e i; coefs = f i ∷ g i ∷ h i ∷ [] }
+-- an expression whose constant is there, with i coefficients filled in
+abbrev pub filledE : ℤ → (ℕ → ℤ) → ℕ → Expr
+filledE constant f i = record { constant = constant; coefs = filledTo f i }
 
--- an expression's record from its numbers
-pub expr-path : {a b c d a′ b′ c′ d′ : ℤ} → a ≡ a′ → b ≡ b′ → c ≡ c′ → d ≡ d′
-    → _≡_ {A = Expr} (record { constant = a; p = b; q = c; r = d }) (record { constant = a′; p = b′; q = c′; r = d′ })
-expr-path e f g h = λ i. record { constant = e i; p = f i; q = g i; r = h i }
+-- before the first coefficient
+pub expr-start : (c : ℤ) (f : ℕ → ℤ) (x : ℤ) → x ≡ c
+    → _≡_ {A = Expr} (record { constant = x; coefs = replicate PARAMETERS (pos 0) }) (filledE c f 0)
+expr-start c f x e = rw (e, filled-none f) refl
+
+-- one coefficient more
+pub expr-turn : (c : ℤ) (f : ℕ → ℤ) (i : ℕ) (r : Expr) (x : ℤ) → r ≡ filledE c f i → x ≡ f i
+    → _≡_ {A = Expr} (record { constant = r .constant; coefs = set (r .coefs) i x }) (filledE c f (i + 1))
+expr-turn c f i r x e h = rw (e, filled-next f i x h) refl
+
+-- all of them
+pub expr-all : (c : ℤ) (f : ℕ → ℤ) (i : ℕ) (r : Expr) → r ≡ filledE c f i → i ≤ PARAMETERS → (i < PARAMETERS → ⊥)
+    → r ≡ record { constant = c; coefs = f 0 ∷ f 1 ∷ f 2 ∷ f 3 ∷ [] }
+expr-all c f i r e l h = e ∙ ap (λ (k : List ℤ). record { constant = c; coefs = k }) (filled-all f i l h)
 
 -- the code's record of a weight from its number
 pub weight-path : {s t : Bool} {x y : ℤ} → s ≡ t → x ≡ y

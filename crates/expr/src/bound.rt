@@ -4,7 +4,7 @@ use crate::number::Valuation;
 use weight::Weight;
 ghost use mathlib.Core.Path.{_≡_};
 ghost use Rattle.expr.specs.Bounds.{sumB, tighterB, atV, saturatedB};
-ghost use Rattle.expr.specs.Three.{point, boundAs, boundOf, test};
+ghost use Rattle.expr.specs.Records.{point, boundAs, boundOf, test};
 ghost use Rattle.weight.specs.Records.{weightOf};
 
 // A bound: none, or an expression with a strict mark. None has a zero expression and is not strict.
@@ -14,11 +14,25 @@ pub struct Bound {
     pub expr: Expr,
 }
 
-// Whether a bound is tighter than another: yes or no without a test, or exactly if an expression is at least 0.
-pub enum Test {
+// What a comparison of two bounds asks: nothing, the answer being yes or no; or whether an expression is at least 0.
+pub enum Asked {
     Yes,
     No,
-    Ask(Expr),
+    Ask,
+}
+
+// Whether a bound is tighter than another: yes or no without a test, the expression being zero; or exactly if it is at least 0.
+pub struct Test {
+    pub asked: Asked,
+    pub expr: Expr,
+}
+
+impl Test {
+    // No, without a test.
+    pub const NO: Test = Test {
+        asked: Asked::No,
+        expr: Expr::ZERO,
+    };
 }
 
 impl Bound {
@@ -59,15 +73,21 @@ impl Bound {
         ensures { λ r. ⌜ r ≡ test (tighterB (saturatedB (boundAs self)) (saturatedB (boundAs other))) ⌝ }
     {
         if self.none {
-            return Test::No;
+            return Test::NO;
         }
         if other.none {
-            return Test::Yes;
+            return Test {
+                asked: Asked::Yes,
+                expr: Expr::ZERO,
+            };
         }
         let first = self.expr;
         let second = other.expr;
         let only_first = self.strict & !other.strict;
-        Test::Ask(second.less(first).less_one().plus_one_where(only_first))
+        Test {
+            asked: Asked::Ask,
+            expr: second.less(first).less_one().plus_one_where(only_first),
+        }
     }
 
     // The bound with v put in: its expression's value and its mark; none stays none.

@@ -1,31 +1,32 @@
 // Numbers without a wrap, and expressions: a number past ±(2^30 - 1) counts as that end in a sum, and a product is taken at a width that
 // holds it.
 ghost use mathlib.Core.Path.{_≡_};
+ghost use mathlib.Core.Bool.{cond};
 ghost use lib.IntN.{pos, _+ℤ_, _-ℤ_, _*ℤ_};
 ghost use mir.Syntax.{w32};
 ghost use mir.Val.{SFits};
 ghost use Rattle.weight.specs.Upper.{saturate};
-ghost use Rattle.expr.specs.Affine.{value, plus, minus, lessOne, opposite, LARGEST, saturatedE};
-ghost use Rattle.expr.specs.TestBySum.{plusOneWhere};
-ghost use Rattle.expr.specs.Three.{affine, exprOf, point};
+ghost use Rattle.expr.specs.Affine.{value, plus, minus, opposite, LARGEST, saturatedE};
+ghost use Rattle.expr.specs.Records.{affine, exprOf, point};
 
-// An expression: a constant and a coefficient for each of three parameters (paper: allowances).
+// How many parameters (paper: allowances) expressions, valuations and ranges have; those that a sheet lacks are 0.
+pub const PARAMETERS: usize = 4;
+
+// An expression: a constant, and a coefficient for each parameter.
 pub struct Expr {
     pub constant: i32,
-    pub p: i32,
-    pub q: i32,
-    pub r: i32,
+    pub coefs: [i32; PARAMETERS],
 }
 
-// A valuation of three parameters (paper: setting); 0 for one that a sheet lacks.
+// A valuation of the parameters (paper: setting).
 pub struct Valuation {
-    pub p: i16,
-    pub q: i16,
-    pub r: i16,
+    pub numbers: [i16; PARAMETERS],
 }
 
 impl Valuation {
-    pub const ZERO: Valuation = Valuation { p: 0, q: 0, r: 0 };
+    pub const ZERO: Valuation = Valuation {
+        numbers: [0; PARAMETERS],
+    };
 }
 
 // x, or the nearer end of -(2^30 - 1) to 2^30 - 1.
@@ -65,78 +66,81 @@ fn product(x: i32, y: i16) -> i64
 impl Expr {
     pub const ZERO: Expr = Expr {
         constant: 0,
-        p: 0,
-        q: 0,
-        r: 0,
+        coefs: [0; PARAMETERS],
     };
 
     // The value at v: constant + sum of coefficient × parameter.
     pub fn at(self, v: Valuation) -> i64
         ensures { λ r. ⌜ r ≡ value (affine self) (point v) ⌝ }
     {
-        numbers::wide(self.constant)
-            + (product(self.p, v.p) + (product(self.q, v.q) + product(self.r, v.r)))
+        let mut sum = numbers::wide(self.constant);
+        let mut i = 0;
+        while i < PARAMETERS {
+            sum += product(self.coefs[i], v.numbers[i]);
+            i += 1;
+        }
+        sum
     }
 
     // self + other; a number past ±(2^30 - 1) counts as that end.
     pub(crate) fn plus(self, other: Expr) -> Expr
-        ensures { λ r. ⌜ affine r ≡ plus (saturatedE (affine self)) (saturatedE (affine other)) ⌝ }
+        ensures { λ r. ⌜ r ≡ exprOf (plus (saturatedE (affine self)) (saturatedE (affine other))) ⌝ }
     {
-        Expr {
-            constant: sum(self.constant, other.constant),
-            p: sum(self.p, other.p),
-            q: sum(self.q, other.q),
-            r: sum(self.r, other.r),
+        let mut r = Expr::ZERO;
+        r.constant = sum(self.constant, other.constant);
+        let mut i = 0;
+        while i < PARAMETERS {
+            r.coefs[i] = sum(self.coefs[i], other.coefs[i]);
+            i += 1;
         }
+        r
     }
 
     // self - other; a number past ±(2^30 - 1) counts as that end.
     pub(crate) fn less(self, other: Expr) -> Expr
-        ensures { λ r. ⌜ affine r ≡ minus (saturatedE (affine self)) (saturatedE (affine other)) ⌝ }
+        ensures { λ r. ⌜ r ≡ exprOf (minus (saturatedE (affine self)) (saturatedE (affine other))) ⌝ }
     {
-        Expr {
-            constant: difference(self.constant, other.constant),
-            p: difference(self.p, other.p),
-            q: difference(self.q, other.q),
-            r: difference(self.r, other.r),
+        let mut r = Expr::ZERO;
+        r.constant = difference(self.constant, other.constant);
+        let mut i = 0;
+        while i < PARAMETERS {
+            r.coefs[i] = difference(self.coefs[i], other.coefs[i]);
+            i += 1;
         }
+        r
     }
 
     // self - 1.
     pub(crate) fn less_one(self) -> Expr
         requires { ⌜ SFits w32 (self .constant -ℤ pos 1) ⌝ }
-        ensures { λ r. ⌜ affine r ≡ lessOne (affine self) ⌝ }
+        ensures { λ r. ⌜ r ≡ record { constant = self .constant -ℤ pos 1; coefs = self .coefs } ⌝ }
     {
-        Expr {
-            constant: self.constant - 1,
-            p: self.p,
-            q: self.q,
-            r: self.r,
-        }
+        let mut r = self;
+        r.constant = self.constant - 1;
+        r
     }
 
     // self + 1 where b, else self.
     pub(crate) fn plus_one_where(self, b: bool) -> Expr
         requires { ⌜ SFits w32 (self .constant +ℤ pos 1) ⌝ }
-        ensures { λ r. ⌜ affine r ≡ plusOneWhere b (affine self) ⌝ }
+        ensures { λ r. ⌜ r ≡ record { constant = self .constant +ℤ cond b (pos 1) (pos 0); coefs = self .coefs } ⌝ }
     {
-        Expr {
-            constant: self.constant + b as i32,
-            p: self.p,
-            q: self.q,
-            r: self.r,
-        }
+        let mut r = self;
+        r.constant = self.constant + b as i32;
+        r
     }
 
     // The opposite of self ≥ 0, parameters being whole: -self - 1 ≥ 0. A number past ±(2^30 - 1) counts as that end.
     pub fn opposite(self) -> Expr
         ensures { λ r. ⌜ r ≡ exprOf (opposite (saturatedE (affine self))) ⌝ }
     {
-        Expr {
-            constant: difference(-1, self.constant),
-            p: difference(0, self.p),
-            q: difference(0, self.q),
-            r: difference(0, self.r),
+        let mut r = Expr::ZERO;
+        r.constant = difference(-1, self.constant);
+        let mut i = 0;
+        while i < PARAMETERS {
+            r.coefs[i] = difference(0, self.coefs[i]);
+            i += 1;
         }
+        r
     }
 }

@@ -1,4 +1,5 @@
 // Ranges of parameters (paper: allowances).
+use crate::number::PARAMETERS;
 
 // A parameter's range, both ends included.
 pub struct Range {
@@ -6,18 +7,19 @@ pub struct Range {
     pub high: i16,
 }
 
-// The ranges of three parameters; a parameter that a sheet lacks has 0 to 0.
+// The ranges of the parameters; one that a sheet lacks has 0 to 0.
 pub struct Ranges {
-    pub p: Range,
-    pub q: Range,
-    pub r: Range,
+    pub list: [Range; PARAMETERS],
+}
+
+impl Range {
+    // 0 to 0.
+    pub const ZERO: Range = Range { low: 0, high: 0 };
 }
 
 impl Ranges {
     // 0 to 0 for each.
     pub const ZERO: Ranges = Ranges {
-        p: Range { low: 0, high: 0 },
-        q: Range { low: 0, high: 0 },
-        r: Range { low: 0, high: 0 },
+        list: [Range::ZERO; PARAMETERS],
     };
 }

@@ -1,22 +1,26 @@
 -- A guard that was read, and a list of guards, is right: from the definitions of `Guards`.
-use Prim.Native.Nat.{ℕ, _≤_, _<_}
+use Prim.Native.Nat.{ℕ, zero, suc, _≤_, _<_}
 use mathlib.Core.Path.{_≡_, refl, ap}
 use mathlib.Core.Logic.{_⊎_, inl, inr}
 use mathlib.Core.List.{List}
-use mathlib.Core.Bool.{Bool, true, false, not, cond}
+use mathlib.Core.Bool.{Bool, true, false, not, cond, _&&_}
 use native.Mathlib.Omega.{arith}
 use lib.ListN.{set}
-use lib.Dec.{ltb, eqb}
-use borrow.Author.Tests.{ltb-true, eqb-true, eqb-false}
+use lib.Dec.{ltb, leb, eqb}
+use lib.IntN.{ℤ, pos}
+use borrow.Author.Tests.{eqb-true, eqb-false}
+use Rattle.expr.specs.Records.{PARAMETERS}
 use Rattle.cursor.specs.declared.Cursor.{Cursor}
-use Rattle.cursor.specs.Cursor.{byteField, signedField}
+use Rattle.cursor.specs.Cursor.{byteField, numberField, zeroField, signedOf, iterate}
 use Rattle.cursor_laws.specs.Laws.{no, judged-right, byteField-right, signedField-right}
 use Rattle.guards.specs.declared.Guard.{Guard}
 use Rattle.guards.specs.declared.GuardsAt.{GuardsAt}
-use Rattle.guards.specs.Guards.{guardExpr, guardBound, oneZero, rightField, coefficientField, guardAt, noGuard, blankGuard}
-use Rattle.guards.specs.Guards.{blankGuards, guardStep, guardsAt}
+use Rattle.guards.specs.declared.CoefsAt.{CoefsAt}
+use Rattle.guards.specs.Guards.{guardExpr, guardBound, oneZero, rightField, coefStep, zeroCoefs, coefsAt, zeroStep, zerosAt}
+use Rattle.guards.specs.Guards.{guardAt, noGuard, blankGuard, blankGuards, guardStep, guardsAt}
 use Rattle.cursor_laws.specs.FilledLaws.{step, filled}
-use Rattle.cursor_laws.specs.Numbers.{small-number, zero-number}
+use Rattle.cursor_laws.specs.Numbers.{small-number}
+use Rattle.cursor_laws.specs.Right.{Small, Filled}
 use Rattle.guards.specs.Right.{GuardRight, GuardsRight}
 
 one-zero-cases :
@@ -35,10 +39,6 @@ one-zero : (a b : ℕ) → oneZero a b ≡ true → ((a ≡ 0) × (0 < b)) ⊎ (
 unfolding oneZero
 one-zero a b h = one-zero-cases a b (eqb a 0) (eqb b 0) refl refl h
 
--- the word of a coefficient, with 32,768 added
-Coefficient : ℕ → ℕ → ℕ → Type 0
-Coefficient parameters index word = ((31768 ≤ word) × (word ≤ 33768)) × (parameters ≤ index → word ≡ 32768)
-
 module _ (s : List ℕ) (end : ℕ) where
   rightField-right :
       (clocks : ℕ) (a : Cursor) → rightField s end clocks a .ok ≡ true →
@@ -50,89 +50,114 @@ module _ (s : List ℕ) (end : ℕ) where
       let f = byteField-right s end 0 clocks a (j .0) in
       (f .0, rw (j .1 .1) (f .1 .1, j .1 .0))
 
-  coefficient-cases :
-      (parameters index : ℕ) (cursor : Cursor) (b : Bool) → ltb index parameters ≡ b →
-      cond b (signedField s end 31768 33768 cursor) (signedField s end 32768 32768 cursor) .ok ≡ true →
+  -- the coefficients of the sheet's parameters
+  coefsAt-right :
+      (parameters : ℕ) (cursor : Cursor) → (cursor .ok ≡ true → parameters ≤ PARAMETERS) →
+      coefsAt s end parameters cursor .cursor .ok ≡ true →
+      (cursor .ok ≡ true) × Filled PARAMETERS parameters (pos 0) (pos 0) Small (coefsAt s end parameters cursor .coefs)
+  unfolding coefsAt coefStep zeroCoefs
+  coefsAt-right parameters cursor few h =
+      let start : CoefsAt = record { cursor = cursor; coefs = zeroCoefs } in
+      let d =
+      filled {A = CoefsAt} {B = ℤ} PARAMETERS parameters (pos 0) (pos 0) Small (λ x. x .cursor .ok) (λ x. x .coefs) (λ x. x ≡ x)
+      (coefStep s end parameters) start refl refl few
+      (λ i x hi k.
+      let field = numberField s end (x .cursor) in
+      let next : CoefsAt = record { cursor = field; coefs = set (x .coefs) i (signedOf (field .word)) } in
+      step PARAMETERS parameters (pos 0) (pos 0) Small (λ x. x .cursor .ok) (λ x. x .coefs) (λ x. x ≡ x)
+      (coefStep s end parameters) i x next (signedOf (field .word)) refl refl refl refl
+      (λ o.
+      let r = signedField-right s end 31768 33768 (x .cursor) o in
+      (r .0, small-number (field .word) (r .1))))
+      h in
+      (d .0, d .1 .1)
+
+  -- the coefficients that are left
+
+  zero-cases : (b : Bool) (cursor : Cursor) → cond b (zeroField s end cursor) cursor .ok ≡ true → cursor .ok ≡ true
+  zero-cases true cursor h = signedField-right s end 32768 32768 cursor h .0
+  zero-cases false cursor h = h
+
+  zeros-ok :
+      (most parameters : ℕ) (cursor : Cursor) (n : ℕ) → iterate (zeroStep s end most parameters) cursor n .ok ≡ true →
+      cursor .ok ≡ true
+  unfolding iterate zeroStep
+  zeros-ok most parameters cursor zero h = h
+  zeros-ok most parameters cursor (suc n) h =
+      zeros-ok most parameters cursor n
+      (zero-cases (leb parameters n && ltb n most) (iterate (zeroStep s end most parameters) cursor n) h)
+
+  zerosAt-ok : (most parameters : ℕ) (cursor : Cursor) → zerosAt s end most parameters cursor .ok ≡ true → cursor .ok ≡ true
+  unfolding zerosAt
+  zerosAt-ok most parameters cursor h = zeros-ok most parameters cursor PARAMETERS h
+
+  -- the fields before the coefficients
+  head-right :
+      (clocks : ℕ) (cursor : Cursor) →
+      let a = byteField s end 0 clocks cursor in
+      let b = rightField s end clocks a in
+      numberField s end (byteField s end 0 0 (byteField s end 0 1 b)) .ok ≡ true →
       (cursor .ok ≡ true) ×
-      (((31768 ≤ cond b (signedField s end 31768 33768 cursor) (signedField s end 32768 32768 cursor) .word) ×
-      (cond b (signedField s end 31768 33768 cursor) (signedField s end 32768 32768 cursor) .word ≤ 33768)) ×
-      (parameters ≤ index → cond b (signedField s end 31768 33768 cursor) (signedField s end 32768 32768 cursor) .word ≡ 32768))
-  coefficient-cases parameters index cursor true e h =
-      let r = signedField-right s end 31768 33768 cursor h in
-      (r .0, (r .1, λ l. absurd (omega (arith, ltb-true index parameters e))))
-  coefficient-cases parameters index cursor false e h =
-      let r = signedField-right s end 32768 32768 cursor h in
-      (r .0, ((omega arith, omega arith), λ l. omega arith))
-
-  coefficientField-right :
-      (parameters index : ℕ) (cursor : Cursor) → coefficientField s end parameters index cursor .ok ≡ true →
-      (cursor .ok ≡ true) × Coefficient parameters index (coefficientField s end parameters index cursor .word)
-  unfolding coefficientField Coefficient
-  coefficientField-right parameters index cursor h = coefficient-cases parameters index cursor (ltb index parameters) refl h
-
-  guardAt-right :
-      (parameters clocks : ℕ) (cursor : Cursor) → guardAt s end parameters clocks cursor .cursor .ok ≡ true →
-      (cursor .ok ≡ true) × GuardRight parameters clocks (guardAt s end parameters clocks cursor .guard)
-  unfolding guardAt guardExpr guardBound Coefficient
-  guardAt-right parameters clocks cursor h =
+      (((a .byte ≤ clocks) × ((b .byte ≤ clocks) × (oneZero (a .byte) (b .byte) ≡ true))) ×
+      Small (signedOf (numberField s end (byteField s end 0 0 (byteField s end 0 1 b)) .word)))
+  head-right clocks cursor h =
       let a = byteField s end 0 clocks cursor in
       let b = rightField s end clocks a in
       let relation = byteField s end 0 1 b in
       let zeroByte = byteField s end 0 0 relation in
-      let constant = signedField s end 31768 33768 zeroByte in
-      let p = coefficientField s end parameters 0 constant in
-      let q = coefficientField s end parameters 1 p in
-      let r = coefficientField s end parameters 2 q in
-      let hr = coefficientField-right parameters 2 q h in
-      let hq = coefficientField-right parameters 1 p (hr .0) in
-      let hp = coefficientField-right parameters 0 constant (hq .0) in
-      let hc = signedField-right s end 31768 33768 zeroByte (hp .0) in
+      let hc = signedField-right s end 31768 33768 zeroByte h in
       let hz = byteField-right s end 0 0 relation (hc .0) in
       let ho = byteField-right s end 0 1 b (hz .0) in
       let hb = rightField-right clocks a (ho .0) in
-      let ha = byteField-right s end 0 clocks cursor (hb .0) in (
-        ha .0,
-        record {
-          left = ha .1 .1;
-          right = hb .1 .0;
-          one-zero = one-zero (a .byte) (b .byte) (hb .1 .1);
-          some = refl;
-          expr =
-              record {
-                constant = small-number (constant .word) (hc .1);
-                p = small-number (p .word) (hp .1 .0);
-                q = small-number (q .word) (hq .1 .0);
-                r = small-number (r .word) (hr .1 .0);
-                p-lacking = λ l. zero-number (p .word) (hp .1 .1 l);
-                q-lacking = λ l. zero-number (q .word) (hq .1 .1 l);
-                r-lacking = λ l. zero-number (r .word) (hr .1 .1 l);
-              };
-        },
-      )
+      let ha = byteField-right s end 0 clocks cursor (hb .0) in
+      (ha .0, ((ha .1 .1, hb .1), small-number (numberField s end zeroByte .word) (hc .1)))
 
-  -- the guards of a location or a transition
+  module _ (most parameters clocks : ℕ) where
+    guardAt-right :
+        (cursor : Cursor) → (cursor .ok ≡ true → parameters ≤ PARAMETERS) →
+        guardAt s end most parameters clocks cursor .cursor .ok ≡ true →
+        (cursor .ok ≡ true) × GuardRight parameters clocks (guardAt s end most parameters clocks cursor .guard)
+    unfolding guardAt guardExpr guardBound
+    guardAt-right cursor few h =
+        let a = byteField s end 0 clocks cursor in
+        let b = rightField s end clocks a in
+        let constant = numberField s end (byteField s end 0 0 (byteField s end 0 1 b)) in
+        let z = zerosAt-ok most parameters (coefsAt s end parameters constant .cursor) h in
+        let hall = coefsAt-right parameters constant (λ o. few (head-right clocks cursor o .0)) z in
+        let hh = head-right clocks cursor (hall .0) in (
+          hh .0,
+          record {
+            left = hh .1 .0 .0;
+            right = hh .1 .0 .1 .0;
+            one-zero = one-zero (a .byte) (b .byte) (hh .1 .0 .1 .1);
+            some = refl;
+            expr = record { constant = hh .1 .1; coefs = hall .1 };
+          },
+        )
 
-  pub guardsAt-right :
-      (parameters clocks : ℕ) (cursor : Cursor) → guardsAt s end parameters clocks cursor .cursor .ok ≡ true →
-      (cursor .ok ≡ true) ×
-      GuardsRight parameters clocks (guardsAt s end parameters clocks cursor .count) (guardsAt s end parameters clocks cursor .guards)
-  unfolding guardsAt guardStep blankGuards
-  guardsAt-right parameters clocks cursor h =
-      let count = byteField s end 0 6 cursor in
-      let start : GuardsAt = record { cursor = count; count = count .byte; guards = blankGuards } in
-      let d =
-      filled {A = GuardsAt} {B = Guard} 6 (count .byte) noGuard blankGuard (GuardRight parameters clocks) (λ x. x .cursor .ok)
-      (λ x. x .guards) (λ x. x .count ≡ count .byte) (guardStep s end parameters clocks) start refl refl
-      (λ o. byteField-right s end 0 6 cursor o .1 .1)
-      (λ i x hi k.
-      let next : GuardsAt =
-      record {
-        cursor = guardAt s end parameters clocks (x .cursor) .cursor;
-        count = x .count;
-        guards = set (x .guards) i (guardAt s end parameters clocks (x .cursor) .guard);
-      } in
-      step 6 (count .byte) noGuard blankGuard (GuardRight parameters clocks) (λ x. x .cursor .ok) (λ x. x .guards)
-      (λ x. x .count ≡ count .byte) (guardStep s end parameters clocks) i x next (guardAt s end parameters clocks (x .cursor) .guard)
-      (ap (λ (n : ℕ). cond (ltb i n) next x) k) k k refl (λ o. guardAt-right parameters clocks (x .cursor) o))
-      h in
-      (byteField-right s end 0 6 cursor (d .0) .0, rw (d .1 .0) (d .1 .1))
+    -- the guards of a location or a transition
+    pub guardsAt-right :
+        (cursor : Cursor) → (cursor .ok ≡ true → parameters ≤ PARAMETERS) →
+        guardsAt s end most parameters clocks cursor .cursor .ok ≡ true →
+        (cursor .ok ≡ true) ×
+        GuardsRight parameters clocks
+        (guardsAt s end most parameters clocks cursor .count)
+        (guardsAt s end most parameters clocks cursor .guards)
+    unfolding guardsAt guardStep blankGuards
+    guardsAt-right cursor few h =
+        let count = byteField s end 0 6 cursor in
+        let start : GuardsAt = record { cursor = count; count = count .byte; guards = blankGuards } in
+        let d =
+        filled {A = GuardsAt} {B = Guard} 6 (count .byte) noGuard blankGuard (GuardRight parameters clocks) (λ x. x .cursor .ok)
+        (λ x. x .guards) (λ x. (x .count ≡ count .byte) × (x .cursor .ok ≡ true → parameters ≤ PARAMETERS))
+        (guardStep s end most parameters clocks) start (refl, λ o. few (byteField-right s end 0 6 cursor o .0)) refl
+        (λ o. byteField-right s end 0 6 cursor o .1 .1)
+        (λ i x hi k.
+        let read = guardAt s end most parameters clocks (x .cursor) in
+        let next : GuardsAt = record { cursor = read .cursor; count = x .count; guards = set (x .guards) i (read .guard) } in
+        let right = guardAt-right (x .cursor) (k .1) in
+        step 6 (count .byte) noGuard blankGuard (GuardRight parameters clocks) (λ x. x .cursor .ok) (λ x. x .guards)
+        (λ x. (x .count ≡ count .byte) × (x .cursor .ok ≡ true → parameters ≤ PARAMETERS)) (guardStep s end most parameters clocks)
+        i x next (read .guard) (ap (λ (n : ℕ). cond (ltb i n) next x) (k .0)) (k .0, λ o. k .1 (right o .0)) k refl right)
+        h in
+        (byteField-right s end 0 6 cursor (d .0) .0, rw (d .1 .0 .0) (d .1 .1))

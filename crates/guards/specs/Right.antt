@@ -5,6 +5,7 @@ use mathlib.Core.Logic.{_⊎_}
 use mathlib.Core.List.{List}
 use mathlib.Core.Bool.{false}
 use lib.IntN.{pos}
+use Rattle.expr.specs.Records.{PARAMETERS}
 use Rattle.expr.specs.declared.number.Expr.{Expr}
 use Rattle.cursor_laws.specs.Right.{Small, Filled}
 use Rattle.guards.specs.declared.Guard.{Guard}
@@ -13,12 +14,7 @@ use Rattle.guards.specs.Guards.{noGuard, blankGuard}
 -- small numbers; a coefficient is 0 for a parameter (paper: allowance) that the sheet lacks
 pub record ExprRight (parameters : ℕ) (expr : Expr) : Type 0 where
   pub constant : Small (expr .constant)
-  pub p : Small (expr .p)
-  pub q : Small (expr .q)
-  pub r : Small (expr .r)
-  pub p-lacking : parameters ≤ 0 → expr .p ≡ pos 0
-  pub q-lacking : parameters ≤ 1 → expr .q ≡ pos 0
-  pub r-lacking : parameters ≤ 2 → expr .r ≡ pos 0
+  pub coefs : Filled PARAMETERS parameters (pos 0) (pos 0) Small (expr .coefs)
 
 -- a guard (paper: limit): two clocks (paper: watches) of the sheet, exactly one of them 0, and a bound that is not none
 pub record GuardRight (parameters clocks : ℕ) (guard : Guard) : Type 0 where

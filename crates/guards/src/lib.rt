@@ -1,6 +1,6 @@
-// Guards (paper: limits, of 12 bytes) and counted lists of them (paper 01, "The sheet file").
+// Guards (paper: limits, of 12 bytes in version 1 and 14 in version 2) and counted lists of them (paper 01, "The sheet file").
 //
-// Every function is total, and its contract is an equation with a definition of specs/Guards.
+// Every public function is total, and its contract is an equation with a definition of specs/Guards.
 ghost use mathlib.Core.Path.{_≡_};
 ghost use Prim.Native.Nat.{_<_};
 ghost use Rattle.cursor.specs.Cursor.{signedOf};
@@ -8,8 +8,11 @@ ghost use Rattle.guards.specs.Guards.{
   guardExpr,
   oneZero,
   guardBound,
-  coefficientField,
   rightField,
+  coefStep,
+  coefsAt,
+  zeroStep,
+  zerosAt,
   guardAt,
   guardStep,
   guardsAt,
@@ -20,6 +23,7 @@ use cursor::judged;
 use cursor::signed_field;
 use expr::Bound;
 use expr::Expr;
+use expr::PARAMETERS;
 
 // A guard (paper: limit): clock `left` - clock `right` is at most, or below, the bound's
 // expression. Clock 0 is always zero.
@@ -36,6 +40,12 @@ impl Guard {
         right: 0,
         bound: Bound::ZERO,
     };
+}
+
+// The coefficients of a guard, and where reading stands after them.
+pub struct CoefsAt {
+    pub cursor: Cursor,
+    pub coefs: [i32; PARAMETERS],
 }
 
 // A guard, and where reading stands after it.
@@ -58,18 +68,6 @@ fn signed_of(word: u16) -> i32
     (word as i32) - 32768
 }
 
-// An expression from its four fields.
-fn expr_of(constant: u16, p: u16, q: u16, r: u16) -> Expr
-    ensures { λ e. ⌜ e ≡ guardExpr constant p q r ⌝ }
-{
-    Expr {
-        constant: signed_of(constant),
-        p: signed_of(p),
-        q: signed_of(q),
-        r: signed_of(r),
-    }
-}
-
 // Whether exactly one of two clocks is 0.
 fn one_zero(left: u8, right: u8) -> bool
     ensures { λ r. ⌜ r ≡ oneZero left right ⌝ }
@@ -85,14 +83,74 @@ fn right_field(file: &[u8], end: usize, clocks: u8, left: Cursor) -> Cursor
     judged(left, taken, one_zero(left.byte, taken.byte))
 }
 
-// A coefficient: -1,000 to 1,000, and 0 for a parameter that the sheet lacks.
-fn coefficient_field(file: &[u8], end: usize, parameters: u8, index: u8, cursor: Cursor) -> Cursor
-    ensures { λ r. ⌜ r ≡ coefficientField (now (file .entry)) end parameters index cursor ⌝ }
+// One more coefficient, if the sheet has the parameter: -1,000 to 1,000.
+fn coef_step(file: &[u8], end: usize, parameters: u8, i: usize, all: CoefsAt) -> CoefsAt
+    requires { ⌜ i < 4 ⌝ }
+    ensures { λ r. ⌜ r ≡ coefStep (now (file .entry)) end parameters i all ⌝ }
 {
-    if index < parameters {
-        signed_field(file, end, 31768, 33768, cursor)
+    if i < (parameters as usize) {
+        let field = signed_field(file, end, 31768, 33768, all.cursor);
+        let mut next = all;
+        next.cursor = field;
+        next.coefs[i] = signed_of(field.word);
+        next
     } else {
-        signed_field(file, end, 32768, 32768, cursor)
+        all
+    }
+}
+
+// The coefficients of the sheet's parameters, in order.
+fn coefs_at(file: &[u8], end: usize, parameters: u8, cursor: Cursor) -> CoefsAt
+    ensures { λ r. ⌜ r ≡ coefsAt (now (file .entry)) end parameters cursor ⌝ }
+{
+    let mut all = CoefsAt {
+        cursor,
+        coefs: [0; PARAMETERS],
+    };
+    let mut i: usize = 0;
+    while i < PARAMETERS {
+        all = coef_step(file, end, parameters, i, all);
+        i += 1;
+    }
+    all
+}
+
+// A zero, if the sheet lacks the parameter and a guard has a coefficient for it.
+fn zero_step(file: &[u8], end: usize, most: u8, parameters: u8, i: usize, cursor: Cursor) -> Cursor
+    ensures { λ r. ⌜ r ≡ zeroStep (now (file .entry)) end most parameters i cursor ⌝ }
+{
+    if (parameters as usize) <= i {
+        if i < (most as usize) {
+            signed_field(file, end, 32768, 32768, cursor)
+        } else {
+            cursor
+        }
+    } else {
+        cursor
+    }
+}
+
+// The zeros of the parameters that the sheet lacks.
+fn zeros_at(file: &[u8], end: usize, most: u8, parameters: u8, cursor: Cursor) -> Cursor
+    ensures { λ r. ⌜ r ≡ zerosAt (now (file .entry)) end most parameters cursor ⌝ }
+{
+    let mut after = cursor;
+    let mut i: usize = 0;
+    while i < PARAMETERS {
+        after = zero_step(file, end, most, parameters, i, after);
+        i += 1;
+    }
+    after
+}
+
+// An expression from its constant's field and its coefficients.
+fn expr_of(constant: u16, all: CoefsAt) -> Expr
+    ensures { λ e. ⌜ e ≡ guardExpr constant (all .coefs) ⌝ }
+{
+    let coefs = all.coefs;
+    Expr {
+        constant: signed_of(constant),
+        coefs,
     }
 }
 
@@ -107,22 +165,27 @@ fn bound_of(relation: u8, expr: Expr) -> Bound
     }
 }
 
-// The guard at a cursor.
-fn guard_at(file: &[u8], end: usize, parameters: u8, clocks: u8, cursor: Cursor) -> GuardAt
-    ensures { λ r. ⌜ r ≡ guardAt (now (file .entry)) end parameters clocks cursor ⌝ }
+// The guard at a cursor, with `most` coefficients.
+fn guard_at(
+    file: &[u8],
+    end: usize,
+    most: u8,
+    parameters: u8,
+    clocks: u8,
+    cursor: Cursor,
+) -> GuardAt
+    ensures { λ r. ⌜ r ≡ guardAt (now (file .entry)) end most parameters clocks cursor ⌝ }
 {
     let left = byte_field(file, end, 0, clocks as usize, cursor);
     let right = right_field(file, end, clocks, left);
     let relation = byte_field(file, end, 0, 1, right);
     let zero = byte_field(file, end, 0, 0, relation);
     let constant = signed_field(file, end, 31768, 33768, zero);
-    let p = coefficient_field(file, end, parameters, 0, constant);
-    let q = coefficient_field(file, end, parameters, 1, p);
-    let r = coefficient_field(file, end, parameters, 2, q);
-    let expr = expr_of(constant.word, p.word, q.word, r.word);
+    let all = coefs_at(file, end, parameters, constant);
+    let expr = expr_of(constant.word, all);
     let bound = bound_of(relation.byte, expr);
     GuardAt {
-        cursor: r,
+        cursor: zeros_at(file, end, most, parameters, all.cursor),
         guard: Guard {
             left: left.byte,
             right: right.byte,
@@ -135,16 +198,17 @@ fn guard_at(file: &[u8], end: usize, parameters: u8, clocks: u8, cursor: Cursor)
 fn guard_step(
     file: &[u8],
     end: usize,
+    most: u8,
     parameters: u8,
     clocks: u8,
     i: usize,
     list: GuardsAt,
 ) -> GuardsAt
     requires { ⌜ i < 6 ⌝ }
-    ensures { λ r. ⌜ r ≡ guardStep (now (file .entry)) end parameters clocks i list ⌝ }
+    ensures { λ r. ⌜ r ≡ guardStep (now (file .entry)) end most parameters clocks i list ⌝ }
 {
     if i < list.count {
-        let read = guard_at(file, end, parameters, clocks, list.cursor);
+        let read = guard_at(file, end, most, parameters, clocks, list.cursor);
         let mut next = list;
         let cursor = read.cursor;
         next.cursor = cursor;
@@ -156,9 +220,16 @@ fn guard_step(
     }
 }
 
-// The guards at a cursor: a count, 0 to 6, then the guards.
-pub fn guards_at(file: &[u8], end: usize, parameters: u8, clocks: u8, cursor: Cursor) -> GuardsAt
-    ensures { λ r. ⌜ r ≡ guardsAt (now (file .entry)) end parameters clocks cursor ⌝ }
+// The guards at a cursor: a count, 0 to 6, then the guards, each with `most` coefficients.
+pub fn guards_at(
+    file: &[u8],
+    end: usize,
+    most: u8,
+    parameters: u8,
+    clocks: u8,
+    cursor: Cursor,
+) -> GuardsAt
+    ensures { λ r. ⌜ r ≡ guardsAt (now (file .entry)) end most parameters clocks cursor ⌝ }
 {
     let count = byte_field(file, end, 0, 6, cursor);
     let mut list = GuardsAt {
@@ -168,7 +239,7 @@ pub fn guards_at(file: &[u8], end: usize, parameters: u8, clocks: u8, cursor: Cu
     };
     let mut i: usize = 0;
     while i < 6 {
-        list = guard_step(file, end, parameters, clocks, i, list);
+        list = guard_step(file, end, most, parameters, clocks, i, list);
         i += 1;
     }
     list

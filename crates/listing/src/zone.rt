@@ -11,18 +11,20 @@ use windows::Piece;
 // The line of the first valuation.
 fn print_first(ok: bool, v: Valuation) -> bool {
     let name = text::word(ok, b"first");
-    let p = text::signed(name, wide16(v.p));
-    let q = text::signed(p, wide16(v.q));
-    let r = text::signed(q, wide16(v.r));
-    text::word(r, b"\n")
+    let p = text::signed(name, wide16(v.numbers[0]));
+    let q = text::signed(p, wide16(v.numbers[1]));
+    let r = text::signed(q, wide16(v.numbers[2]));
+    let s = text::signed(r, wide16(v.numbers[3]));
+    text::word(s, b"\n")
 }
 
-// The constant and the three coefficients.
+// The constant and the four coefficients.
 fn print_expr(ok: bool, e: Expr) -> bool {
     let constant = text::signed(ok, wide(e.constant));
-    let p = text::signed(constant, wide(e.p));
-    let q = text::signed(p, wide(e.q));
-    text::signed(q, wide(e.r))
+    let p = text::signed(constant, wide(e.coefs[0]));
+    let q = text::signed(p, wide(e.coefs[1]));
+    let r = text::signed(q, wide(e.coefs[2]));
+    text::signed(r, wide(e.coefs[3]))
 }
 
 // The line of an inequality.

@@ -1,22 +1,25 @@
 // Body 1 of a sheet file (paper 01, "The sheet file"): the parameters (paper: allowances) with their ranges.
 //
-// Every function is total, and its contract is an equation with a definition of specs/Parameters.
+// Every public function is total, and its contract is an equation with a definition of specs/Parameters.
 ghost use mathlib.Core.Path.{_≡_};
+ghost use Prim.Native.Nat.{_<_};
 ghost use Rattle.cursor.specs.Cursor.{signedOf};
-ghost use Rattle.parameters.specs.Parameters.{rangeOf, highestRight, highestField, rangeAt, parametersAt};
+ghost use Rattle.parameters.specs.Parameters.{
+  rangeOf,
+  highestRight,
+  highestField,
+  rangeStep,
+  parametersRead,
+  parametersAt,
+};
 use cursor::Cursor;
 use cursor::byte_field;
 use cursor::finished;
 use cursor::judged;
 use cursor::signed_field;
+use expr::PARAMETERS;
 use expr::Range;
 use expr::Ranges;
-
-// A parameter's range, and where reading stands after it.
-pub struct RangeAt {
-    pub cursor: Cursor,
-    pub range: Range,
-}
 
 // Body 1: where reading stands after it, how many parameters, and their ranges.
 pub struct ParametersAt {
@@ -57,42 +60,49 @@ fn highest_field(file: &[u8], end: usize, low: Cursor) -> Cursor
     judged(low, taken, highest_right(low.word, taken.word))
 }
 
-// The range of one parameter, 0 to 0 if the sheet lacks it.
-fn range_at(file: &[u8], end: usize, count: u8, index: u8, cursor: Cursor) -> RangeAt
-    ensures { λ r. ⌜ r ≡ rangeAt (now (file .entry)) end count index cursor ⌝ }
+// One more range, if the count says so.
+fn range_step(file: &[u8], end: usize, i: usize, all: ParametersAt) -> ParametersAt
+    requires { ⌜ i < 4 ⌝ }
+    ensures { λ r. ⌜ r ≡ rangeStep (now (file .entry)) end i all ⌝ }
 {
-    if index < count {
-        let low = signed_field(file, end, 31768, 33768, cursor);
+    if i < (all.count as usize) {
+        let low = signed_field(file, end, 31768, 33768, all.cursor);
         let high = highest_field(file, end, low);
-        let range = range_of(low.word, high.word);
-        RangeAt {
+        let mut ranges = all.ranges;
+        ranges.list[i] = range_of(low.word, high.word);
+        ParametersAt {
             cursor: high,
-            range,
+            count: all.count,
+            ranges,
         }
     } else {
-        let range = range_of(32768, 32768);
-        RangeAt { cursor, range }
+        all
     }
 }
 
-// Body 1: the parameters.
-pub fn parameters_at(file: &[u8], end: usize, cursor: Cursor) -> ParametersAt
-    ensures { λ r. ⌜ r ≡ parametersAt (now (file .entry)) end cursor ⌝ }
+// The fields of body 1.
+fn parameters_read(file: &[u8], end: usize, most: u8, cursor: Cursor) -> ParametersAt
+    ensures { λ r. ⌜ r ≡ parametersRead (now (file .entry)) end most cursor ⌝ }
 {
-    let count = byte_field(file, end, 0, 3, cursor);
-    let p = range_at(file, end, count.byte, 0, count);
-    let q = range_at(file, end, count.byte, 1, p.cursor);
-    let r = range_at(file, end, count.byte, 2, q.cursor);
-    let first = p.range;
-    let second = q.range;
-    let third = r.range;
-    ParametersAt {
-        cursor: finished(end, r.cursor),
+    let count = byte_field(file, end, 0, most as usize, cursor);
+    let mut all = ParametersAt {
+        cursor: count,
         count: count.byte,
-        ranges: Ranges {
-            p: first,
-            q: second,
-            r: third,
-        },
+        ranges: Ranges::ZERO,
+    };
+    let mut i: usize = 0;
+    while i < PARAMETERS {
+        all = range_step(file, end, i, all);
+        i += 1;
     }
+    all
+}
+
+// Body 1: the parameters, at most `most`.
+pub fn parameters_at(file: &[u8], end: usize, most: u8, cursor: Cursor) -> ParametersAt
+    ensures { λ r. ⌜ r ≡ parametersAt (now (file .entry)) end most cursor ⌝ }
+{
+    let mut all = parameters_read(file, end, most, cursor);
+    all.cursor = finished(end, all.cursor);
+    all
 }

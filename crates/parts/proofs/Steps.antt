@@ -8,10 +8,11 @@ use borrow.Author.Tests.{lt-ltb, le-ltb}
 use lib.ListN.{length}
 use lib.Seq.{set-out}
 use Rattle.expr.specs.declared.bound.Bound.{Bound}
+use Rattle.expr.specs.declared.bound.Asked.{Asked}
+use Rattle.expr.specs.declared.bound.Asked.the-variants.{Yes, No, Ask}
 use Rattle.expr.specs.declared.bound.Test.{Test}
-use Rattle.expr.specs.declared.bound.Test.the-variants.{Yes, No, Ask}
 use Rattle.expr.specs.declared.range.Ranges.{Ranges}
-use Rattle.parts.specs.Parts.{pushedC, answeredC, haltedC, testsIn, countedC, forwardC, standing, putC, withBounds}
+use Rattle.parts.specs.Parts.{pushedC, answeredC, haltedC, testsBy, testsIn, countedC, forwardC, standing, putC, withBounds}
 use Rattle.constrain.specs.Rules.{viaC, askC}
 use Rattle.zones.specs.Settled.{settledC}
 use Rattle.parts.specs.declared.part.Part.{Part}
@@ -67,10 +68,13 @@ module _ (r : Rule) (p : Part) (b : Bool) where
     unfolding answeredC
     push-answer k = rw (le-ltb (p .phase) 1 h, le-ltb (p .phase) 2 k) refl
 
+few-by : (a : Asked) → testsBy a ≤ 1
+few-by Yes = omega arith
+few-by No = omega arith
+few-by Ask = omega arith
+
 pub tests-few : (t : Test) → testsIn t ≤ 1
-tests-few Yes = omega arith
-tests-few No = omega arith
-tests-few (Ask e) = omega arith
+tests-few t = few-by (t .asked)
 
 module _ (b : Ranges) (r : Rule) (p : Part) (t : Test) (ht : t ≡ askC r (p .phase)) (v : Verdict) (hv : v ≡ settledC b (p .zone) t)
     (q : Part) (hq : q ≡ countedC p t) where

@@ -7,8 +7,9 @@ use lib.ListN.{set}
 use Rattle.constrain.specs.Rules.{viaC, askC}
 use Rattle.constrain.specs.declared.rule.Rule.{Rule}
 use Rattle.expr.specs.declared.bound.Bound.{Bound}
+use Rattle.expr.specs.declared.bound.Asked.{Asked}
+use Rattle.expr.specs.declared.bound.Asked.the-variants.{Yes, No, Ask}
 use Rattle.expr.specs.declared.bound.Test.{Test}
-use Rattle.expr.specs.declared.bound.Test.the-variants.{Yes, No, Ask}
 use Rattle.expr.specs.declared.number.Expr.{Expr}
 use Rattle.expr.specs.declared.range.Ranges.{Ranges}
 use Rattle.parts.specs.declared.part.Part.{Part}
@@ -47,10 +48,13 @@ abbrev pub haltedC : Part → Verdict → Part
 haltedC p v = record { phase = p .phase; halt = v .kind; tests = p .tests; test = v .test; zone = p .zone }
 
 -- how many tests a test is: an answer that comes without asking is none
+abbrev pub testsBy : Asked → ℕ
+testsBy Yes = 0
+testsBy No = 0
+testsBy Ask = 1
+
 abbrev pub testsIn : Test → ℕ
-testsIn Yes = 0
-testsIn No = 0
-testsIn (Ask e) = 1
+testsIn t = testsBy (t .asked)
 
 -- the part with its test counted; one that goes on has asked 26 at most
 unfoldable pub countedC : Part → Test → Part

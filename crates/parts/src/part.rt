@@ -1,10 +1,12 @@
 // A part of a zone on its way through the tests of a guard.
 ghost use mathlib.Core.Bool.{cond};
 use constrain::Rule;
+use expr::Asked;
 use expr::Bound;
 use expr::Expr;
 use expr::Ranges;
 use expr::Test;
+use expr::Valuation;
 use zones::Verdict;
 use zones::Zone;
 ghost use mathlib.Core.Path.{_≡_};
@@ -114,10 +116,11 @@ fn halted(p: Part, v: Verdict) -> Part
 fn tests_in(test: Test) -> usize
     ensures { λ n. ⌜ n ≡ testsIn test ⌝ }
 {
-    match test {
-        Test::Yes => 0,
-        Test::No => 0,
-        Test::Ask(_) => 1,
+    let asked = test.asked;
+    match asked {
+        Asked::Yes => 0,
+        Asked::No => 0,
+        Asked::Ask => 1,
     }
 }
 
@@ -136,13 +139,14 @@ fn counted(p: Part, test: Test) -> Part
     }
 }
 
-// The part after its test, if that is settled; else it stops there.
-pub fn forward(b: Ranges, r: Rule, p: Part) -> Part
+// The part after its test, if that is settled; else it stops there. Whatever the guess is, it comes out the same; a valuation that the
+// part's zone holds saves a search.
+pub fn forward(b: Ranges, guess: Valuation, r: Rule, p: Part) -> Part
     ensures { λ q. ⌜ q ≡ forwardC b r p ⌝ }
 {
     let zone = p.zone;
     let test = constrain::asked(r, p.phase);
-    let v = zones::settled(b, zone, test);
+    let v = zones::settled(b, guess, zone, test);
     let q = counted(p, test);
     if v.kind < 1 {
         return answered(r, q, false);

@@ -2,7 +2,11 @@
 //
 // Every function is total, and its contract is an equation with a definition of specs/File.
 ghost use mathlib.Core.Path.{_≡_};
-ghost use Rattle.reading.specs.File.{blankSheet, bodiesOf, judgedRoute, judgedBodies, readOf, readAs};
+ghost use Rattle.reading.specs.File.{blankSheet, bodiesOf, judgedRoute, judgedWidths, judgedBodies, readOf, readAs};
+ghost use lib.Dec.{leb};
+ghost use Rattle.expr.specs.Records.{rangeList};
+ghost use Rattle.search.specs.Valuations.{widths};
+ghost use Rattle.sheet.specs.WellFormed.{MOST_VALUATIONS};
 ghost use Rattle.answers.specs.Numbers.{refusalAs};
 use answers::file::Checked;
 use answers::file::Refusal;
@@ -10,8 +14,10 @@ use automaton::locations::locations_at;
 use automaton::transitions::transitions_at;
 use contents::Contents;
 use contents::entries::contents_of;
+use contents::entries::most_parameters;
 use contents::entries::sized;
 use cursor::Cursor;
+use expr::Ranges;
 use parameters::parameters_at;
 use route::links_of;
 use route::route_at;
@@ -49,11 +55,13 @@ fn bodies_of(file: &[u8], contents: Contents) -> SheetAt
         byte: 0,
         word: 0,
     };
-    let one = parameters_at(file, contents.first as usize, start);
-    let two = locations_at(file, contents.second as usize, one.count, one.cursor);
+    let most = most_parameters(contents.version);
+    let one = parameters_at(file, contents.first as usize, most, start);
+    let two = locations_at(file, contents.second as usize, most, one.count, one.cursor);
     let three = transitions_at(
         file,
         contents.third as usize,
+        most,
         one.count,
         two.clocks,
         two.count,
@@ -68,6 +76,7 @@ fn bodies_of(file: &[u8], contents: Contents) -> SheetAt
     SheetAt {
         cursor,
         sheet: Sheet {
+            version: contents.version as usize,
             parameters: one.count as usize,
             ranges,
             clocks: two.clocks as usize,
@@ -81,7 +90,7 @@ fn bodies_of(file: &[u8], contents: Contents) -> SheetAt
     }
 }
 
-// The reading of a file whose body 4 starts at `third`: its fields are right, its route is judged.
+// The reading of a file whose body 4 starts at `third`: its fields and ranges are right, its route is judged.
 fn judged_route(third: u32, sheet: Sheet) -> Reading
     ensures { λ r. ⌜ readAs r ≡ judgedRoute third sheet ⌝ }
 {
@@ -98,13 +107,33 @@ fn judged_route(third: u32, sheet: Sheet) -> Reading
     }
 }
 
+// Whether the ranges have at most 262,144 valuations.
+fn few_valuations(b: Ranges) -> bool
+    ensures { λ r. ⌜ r ≡ leb (widths (rangeList b)) MOST_VALUATIONS ⌝ }
+{
+    let none = [0i32; 1];
+    search::count(b, &none, 0) <= 262144
+}
+
+// The reading of a file whose body 4 starts at `third`: its fields are right, its ranges and then its route are judged.
+fn judged_widths(third: u32, sheet: Sheet) -> Reading
+    ensures { λ r. ⌜ readAs r ≡ judgedWidths third sheet ⌝ }
+{
+    let ranges = sheet.ranges;
+    if few_valuations(ranges) {
+        judged_route(third, sheet)
+    } else {
+        refused(Refusal::Valuations)
+    }
+}
+
 // The reading of a file whose body 4 starts at `third`: its bodies have been read.
 fn judged_bodies(third: u32, bodies: SheetAt) -> Reading
     ensures { λ r. ⌜ readAs r ≡ judgedBodies third bodies ⌝ }
 {
     let cursor = bodies.cursor;
     if cursor.ok {
-        judged_route(third, bodies.sheet)
+        judged_widths(third, bodies.sheet)
     } else {
         refused(Refusal::Body(cursor.at))
     }

@@ -1,7 +1,7 @@
 // The route of a sheet file (paper 01, "The sheet file", Body 4), and whether it links: its first move starts in location 0, each other
 // where the last arrived.
 //
-// Every function is total, and its contract is an equation with a definition of specs/Route.
+// Every public function is total, and its contract is an equation with a definition of specs/Route.
 ghost use mathlib.Core.Path.{_≡_};
 ghost use Prim.Native.Nat.{_<_};
 ghost use Rattle.route.specs.Route.{routeStep, routeRead, routeAt, endsAt, linkStep, linksOf};

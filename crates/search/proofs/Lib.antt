@@ -1,7 +1,7 @@
 -- Laws that the proofs of several functions cite.
-pub mod Corners
-pub mod Cuts
-pub mod Floors
+pub mod Answers
+pub mod Caps
 pub mod Loops
-pub mod Totals
+pub mod Nodes
+pub mod Parts
 pub mod Widths

@@ -1,41 +1,102 @@
--- The loops over the inequalities: what is left of the list, from i on, narrows the range to what the whole list does.
-use mathlib.Core.Path.{_≡_, refl, sym, _∙_, ap}
-use mathlib.Core.List.{List, [], _∷_, map}
-use Prim.Native.Nat.{ℕ, suc, _+_, _≤_, _<_, min}
+-- The loops over a range's members: what was found so far, with what is left from i on, is the whole.
+use mathlib.Core.Path.{_≡_, refl, sym, _∙_}
+use mathlib.Core.Bool.{Bool, true, false, _&&_}
+use mathlib.Core.List.{List}
+use mathlib.Core.Option.{Option, none}
+use Prim.Native.Nat.{ℕ, suc, _+_, _-_, _≤_, _<_}
 use native.Mathlib.Numerals.{add-one}
 use native.Mathlib.Omega.{arith}
-use lib.ListN.{length, getD, take, drop, length-take, drop-of-length-le}
-use lib.Seq.{drop-cons, getD-take}
-use Rattle.expr.specs.Affine.{Affine}
-use Rattle.search.specs.Interval.{narrow, narrowed}
-use Rattle.expr.specs.declared.number.Expr.{Expr}
+use lib.IntN.{ℤ, pos, _+ℤ_, +ℤ-idr}
+use lib.Signed.{leZ, _≤ℤ_, _<ℤ_}
+use Rattle.integer.specs.Order.{true-leZ, false-leZ}
+use Rattle.integer.specs.Split.{split, split-all}
 use Rattle.expr.specs.declared.range.Range.{Range}
+use Rattle.narrowing.specs.Flat.{exprAt}
+use Rattle.narrowing.specs.Interval.{bestOf}
+use Rattle.search.specs.Boxes.{canHold}
+use Rattle.search.specs.SearchLaws.{total, firstOver, orElse}
+use Rattle.search.specs.System.{exprsFrom}
 
-pub map-map : {A B C : Type 0} (f : A → B) (g : B → C) (xs : List A) → map g (map f xs) ≡ map (λ x. g (f x)) xs
-map-map f g [] = refl
-map-map f g (x ∷ xs) = ap (λ (l : List _). g (f x) ∷ l) (map-map f g xs)
+next : (x : ℤ) (i : ℕ) → (x +ℤ pos i) +ℤ pos 1 ≡ x +ℤ pos (i + 1)
+next x i = rw (split x) (simp split-all (omega arith))
 
--- how many inequalities count
-pub size-is : (n k : ℕ) (xs : List Expr) → n ≡ min k 25 → length xs ≡ 25 → (n ≤ 25) × (n ≡ length (take k xs))
-size-is n k xs e l = (omega arith, rw (length-take k xs, l) e)
+left : (n i : ℕ) → i < n → n - i ≡ suc (n - (i + 1))
+left n i h = omega arith
 
-module _ (g : Expr → Affine) (rs : List Range) where
-  narrow-cons : (l : List Expr) (e : Expr) (rest : List Expr) (r : Range) → l ≡ e ∷ rest
-      → narrowed (map g l) r rs ≡ narrowed (map g rest) (narrow (g e) r rs) rs
-  unfolding narrowed
-  narrow-cons l e rest r h = rw h refl
+-- ---- a sum
+module _ (f : ℤ → ℕ) (x : ℤ) where
+  pub total-start : (n : ℕ) → 0 + total f (x +ℤ pos 0) (n - 0) ≡ total f x n
+  total-start n =
+      let e : n - 0 ≡ n = omega arith in
+      rw (e, +ℤ-idr x) (omega arith)
 
-  -- one turn
-  pub narrow-turn : (xs : List Expr) (k i : ℕ) (r r′ w : Range) (d : Expr) → i < length (take k xs)
-      → narrowed (map g (drop i (take k xs))) r rs ≡ w → r′ ≡ narrow (g (getD xs i d)) r rs
-      → narrowed (map g (drop (i + 1) (take k xs))) r′ rs ≡ w
-  narrow-turn xs k i r r′ w d h e f =
-      let m : i < k = omega (arith, length-take k xs) in
-      rw (add-one i, f, ← getD-take k xs i d m)
-      (sym (narrow-cons (drop i (take k xs)) (getD (take k xs) i d) (drop (suc i) (take k xs)) r (drop-cons (take k xs) i d h)) ∙ e)
+  total-step : (y : ℤ) (m : ℕ) → total f y (suc m) ≡ f y + total f (y +ℤ pos 1) m
+  unfolding total
+  total-step y m = refl
 
-  -- the end
-  pub narrow-done : (xs : List Expr) (k i : ℕ) (r w : Range) → length (take k xs) ≤ i → narrowed (map g (drop i (take k xs))) r rs ≡ w
-      → r ≡ w
-  unfolding narrowed
-  narrow-done xs k i r w h e = rw (drop-of-length-le (take k xs) h) at e
+  pub total-split : (n i : ℕ) → i < n → total f (x +ℤ pos i) (n - i) ≡ f (x +ℤ pos i) + total f (x +ℤ pos (i + 1)) (n - (i + 1))
+  total-split n i h = rw (left n i h, total-step (x +ℤ pos i) (n - (i + 1)), next x i) refl
+
+  pub total-end : (n i : ℕ) → n ≤ i → total f (x +ℤ pos i) (n - i) ≡ 0
+  unfolding total
+  total-end n i h =
+      let e : n - i ≡ 0 = omega arith in
+      rw e refl
+
+-- ---- the first
+module _ (g : ℤ → Option (List ℤ)) (x : ℤ) where
+  pub first-start : (n : ℕ) → firstOver g (x +ℤ pos 0) (n - 0) ≡ firstOver g x n
+  first-start n =
+      let e : n - 0 ≡ n = omega arith in
+      rw (e, +ℤ-idr x) refl
+
+  pub first-turn : (n i : ℕ) → i < n
+      → firstOver g (x +ℤ pos i) (n - i) ≡ orElse (g (x +ℤ pos i)) (firstOver g (x +ℤ pos (i + 1)) (n - (i + 1)))
+  unfolding firstOver
+  first-turn n i h = rw (left n i h, next x i) refl
+
+  -- nothing at i: the rest is what is left
+  pub first-next : (n i : ℕ) (w : Option (List ℤ)) → i < n → g (x +ℤ pos i) ≡ none → firstOver g (x +ℤ pos i) (n - i) ≡ w
+      → firstOver g (x +ℤ pos (i + 1)) (n - (i + 1)) ≡ w
+  first-next n i w h e k =
+      let t : firstOver g (x +ℤ pos i) (n - i) ≡ firstOver g (x +ℤ pos (i + 1)) (n - (i + 1)) = rw (first-turn n i h, e) refl in
+      sym t ∙ k
+
+  pub first-done : (n i : ℕ) (w : Option (List ℤ)) → n ≤ i → firstOver g (x +ℤ pos i) (n - i) ≡ w → none ≡ w
+  unfolding firstOver
+  first-done n i w h k =
+      let e : n - i ≡ 0 = omega arith in
+      let s : firstOver g (x +ℤ pos i) (n - i) ≡ none = rw e refl in
+      sym s ∙ k
+
+-- ---- the loop over inequalities: those from k on can hold exactly if all can
+module _ (l : List ℤ) (n k : ℕ) (rs : List Range) (x : ℤ) (w : Bool) where
+  hold-turn : k < n
+      → canHold (exprsFrom l k (n - k)) rs ≡ (leZ (pos 0) (bestOf (exprAt l k) rs) && canHold (exprsFrom l (k + 1) (n - (k + 1))) rs)
+  unfolding canHold exprsFrom
+  hold-turn h = rw (left n k h, add-one) refl
+
+  pub hold-stop : k < n → x ≡ bestOf (exprAt l k) rs → x <ℤ pos 0 → canHold (exprsFrom l k (n - k)) rs ≡ w → false ≡ w
+  hold-stop h e g q =
+      let f : leZ (pos 0) (bestOf (exprAt l k) rs) ≡ false = false-leZ (rw e at g) in
+      let t : canHold (exprsFrom l k (n - k)) rs ≡ false = rw (hold-turn h, f) refl in
+      sym t ∙ q
+
+  pub hold-next : k < n → x ≡ bestOf (exprAt l k) rs → pos 0 ≤ℤ x → canHold (exprsFrom l k (n - k)) rs ≡ w
+      → canHold (exprsFrom l (k + 1) (n - (k + 1))) rs ≡ w
+  hold-next h e g q =
+      let f : leZ (pos 0) (bestOf (exprAt l k) rs) ≡ true = true-leZ (rw e at g) in
+      let t : canHold (exprsFrom l k (n - k)) rs ≡ canHold (exprsFrom l (k + 1) (n - (k + 1))) rs = rw (hold-turn h, f) refl in
+      sym t ∙ q
+
+  pub hold-done : n ≤ k → canHold (exprsFrom l k (n - k)) rs ≡ w → true ≡ w
+  unfolding canHold exprsFrom
+  hold-done h q =
+      let e : n - k ≡ 0 = omega arith in
+      let t : canHold (exprsFrom l k (n - k)) rs ≡ true = rw e refl in
+      sym t ∙ q
+
+pub hold-start : (l : List ℤ) (n : ℕ) (rs : List Range) → canHold (exprsFrom l 0 (n - 0)) rs ≡ canHold (exprsFrom l 0 n) rs
+hold-start l n rs =
+    let e : n - 0 ≡ n = omega arith in
+    rw e refl

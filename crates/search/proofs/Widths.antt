@@ -17,7 +17,13 @@ use Rattle.expr.specs.Ranges.{In}
 use Rattle.search.specs.SearchLaws.{width-in, width-zero}
 use Rattle.search.specs.Valuations.{width}
 use Rattle.expr.specs.declared.range.Range.{Range}
-use Rattle.search.proofs.Cuts.{tested}
+
+-- a test at locals that hold its numbers
+tested : (a b x y : ℤ) (t : Bool) → a ≡ x → b ≡ y → leZ a b ≡ t → leZ x y ≡ t
+tested a b x y t e f h = rw (e, f) at h
+
+pub range-path : {a b c d : ℤ} → a ≡ c → b ≡ d → _≡_ {A = Range} (record { low = a; high = b }) (record { low = c; high = d })
+range-path e f = λ i. record { low = e i; high = f i }
 
 pub one-more-fits : (h : ℤ) → SFits w16 h → SFits w64 (h +ℤ pos 1)
 one-more-fits h = rw (split h) (simp split-all (omega arith))

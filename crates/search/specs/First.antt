@@ -1,11 +1,11 @@
 -- What the search answers, for any number of parameters (paper 02, request (c), "A setting to start from"): the first valuation of the
--- ranges that meets the inequalities, comparing parameter 1, then 2, then 3 and so on, smaller first; and nothing exactly if no valuation
+-- ranges that meets the inequalities, comparing parameter 1, then 2 and so on, smaller first; and nothing exactly if no valuation
 -- of the ranges meets them. Its proof is in FirstProof.
 use mathlib.Core.Path.{_≡_}
 use mathlib.Core.Logic.{_↔_, _⊎_}
 use mathlib.Core.List.{List, [], _∷_}
 use mathlib.Core.Bool.{true, false}
-use mathlib.Core.Option.{Option, none, some}
+use mathlib.Core.Option.{none, some}
 use lib.IntN.{ℤ}
 use lib.Signed.{_<ℤ_}
 use Rattle.expr.specs.Affine.{Affine}

@@ -1,20 +1,19 @@
 -- The proof of First, parameter by parameter: at the first parameter the search goes over its range from the lowest number on, and
 -- stops where the later ones have a solution.
 use mathlib.Core.Path.{_≡_, refl, sym, ap, subst, _∙_}
-use mathlib.Core.Logic.{_↔_, _⊎_, inl, inr}
+use mathlib.Core.Logic.{_⊎_, inl, inr}
 use mathlib.Core.List.{List, [], _∷_, map}
 use mathlib.Core.Bool.{Bool, true, false}
 use mathlib.Core.Option.{Option, none, some}
 use Prim.Native.Nat.{ℕ, zero, suc}
 use lib.IntN.{ℤ, pos, _+ℤ_}
-use lib.Signed.{ltZ, _≤ℤ_, _<ℤ_, ≤ℤ-refl, clashℤ}
+use lib.Signed.{ltZ, _≤ℤ_, _<ℤ_, clashℤ}
 use Rattle.integer.specs.Apart.{apart}
 use Rattle.integer.specs.Order.{ltZ-true, ltZ-false, ≤ℤ-antisym}
 use Rattle.expr.specs.Affine.{Affine}
 use Rattle.expr.specs.Ranges.{Inside}
-use Rattle.search.specs.First.{Earlier, IsFirst, FirstRight, SearchRight}
-use Rattle.search.specs.Interval.{fix}
-use Rattle.search.specs.SearchLaws.{up-step, orElse, firstOver, lead, satisfies-fix, first-whole, first-sound, first-inside}
+use Rattle.search.specs.First.{Earlier, IsFirst, SearchRight}
+use Rattle.search.specs.SearchLaws.{fix, up-step, orElse, firstOver, lead, satisfies-fix, first-whole, first-sound, first-inside}
 use Rattle.search.specs.SearchLaws.{first-none}
 use Rattle.search.specs.Valuations.{width, satisfies, first}
 use Rattle.expr.specs.declared.range.Range.{Range}

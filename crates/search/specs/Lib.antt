@@ -1,9 +1,10 @@
 -- What is read first: Valuations (satisfiability, for any number of parameters), First (what the search answers: the first valuation in
--- order), Interval (an inequality's interval) and System (the code's records). The other files are laws of these.
+-- order) and System (what the code reads and answers). Boxes is what the search's steps promise; the other files are laws of these.
+pub mod BoxLaws
+pub mod Boxes
 pub mod First
 pub mod FirstProof
-pub mod Interval
-pub mod IntervalLaws
+pub mod LastLaws
 pub mod Once
 pub mod SearchLaws
 pub mod System

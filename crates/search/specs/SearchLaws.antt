@@ -1,5 +1,4 @@
--- Counting and searching valuations one parameter at a time: a step over the first parameter's narrowed range, and what the first found
--- and the count say. For any number of parameters.
+-- Counting and searching valuations one parameter at a time, and what the first found and the count say. For any number of parameters.
 use mathlib.Core.Path.{_≡_, refl, sym, ap, subst, _∙_}
 use mathlib.Core.Logic.{_↔_, _⊎_, inl, inr}
 use mathlib.Core.List.{List, [], _∷_, _++_, map, List·Memᴰ, List·Memᴰ·head, List·Memᴰ·tail, List·Memᴰ·not-nil, List·Memᴰ·cases-cons}
@@ -7,21 +6,19 @@ use mathlib.Core.List.{List·Memᴰ·append-cases, List·Memᴰ·eq-of-singleton
 use mathlib.Core.List.{Memᴰ·of-map}
 use mathlib.Core.Bool.{Bool, true, false, _&&_, cond}
 use mathlib.Core.Option.{Option, none, some}
-use Prim.Native.Nat.{ℕ, zero, suc, _+_, _*_}
+use Prim.Native.Nat.{ℕ, zero, suc, _+_, _*_, _≤_}
 use native.Mathlib.Nat.{zero-add}
 use native.Mathlib.Omega.{arith}
-use lib.IntN.{ℤ, pos, negsuc, _+ℤ_, _-ℤ_}
+use lib.IntN.{ℤ, pos, negsuc, _+ℤ_, _-ℤ_, _*ℤ_}
 use lib.ListN.{length, length-append, length-map}
 use lib.Signed.{leZ, _≤ℤ_, _<ℤ_, ≤ℤ-refl}
 use Rattle.integer.specs.Apart.{apart}
 use Rattle.integer.specs.Order.{zts, leZ-true, leZ-false}
 use Rattle.integer.specs.Parts.{p, n, zs, +-parts, -parts}
 use Rattle.integer.specs.Split.{split, split-all}
-use Rattle.expr.specs.Affine.{Affine, value}
+use Rattle.expr.specs.Affine.{Affine, dot, value}
 use Rattle.search.specs.Valuations.{span, width, before, valuations, satisfies, firstIn, countIn, first, count, widths}
-use Rattle.search.specs.Interval.{fix, narrowed}
 use Rattle.expr.specs.Ranges.{In, Inside}
-use Rattle.search.specs.IntervalLaws.{fix-value, narrowed-in, narrowed-keeps, narrowed-last}
 use Rattle.expr.specs.declared.range.Range.{Range}
 
 -- ---- what a loop over one parameter computes, as what remains of it
@@ -45,6 +42,26 @@ lead x none = none
 lead x (some v) = some (x ∷ v)
 
 -- ---- the first parameter put in
+-- an expression with its first parameter put in
+unfoldable pub fixL : ℤ → ℤ → List ℤ → Affine
+fixL x c [] = record { constant = c; coefs = [] }
+fixL x c (a ∷ cs) = record { constant = c +ℤ (a *ℤ x); coefs = cs }
+
+unfoldable pub fix : ℤ → Affine → Affine
+fix x e = fixL x (e .constant) (e .coefs)
+
+sum-moved : (c d e : ℤ) → (c +ℤ d) +ℤ e ≡ c +ℤ (d +ℤ e)
+sum-moved c d e = rw (split c, split d, split e) (simp split-all (omega arith))
+
+fixL-value : (x c : ℤ) (cs v : List ℤ) → value (fixL x c cs) v ≡ c +ℤ dot cs (x ∷ v)
+unfolding value fixL dot
+fixL-value x c [] v = refl
+fixL-value x c (a ∷ cs) v = sum-moved c (a *ℤ x) (dot cs v)
+
+fix-value : (x : ℤ) (e : Affine) (v : List ℤ) → value (fix x e) v ≡ value e (x ∷ v)
+unfolding fix value
+fix-value x e v = fixL-value x (e .constant) (e .coefs) v
+
 pub satisfies-fix : (x : ℤ) (es : List Affine) (v : List ℤ) → satisfies (map (fix x) es) v ≡ satisfies es (x ∷ v)
 unfolding satisfies
 satisfies-fix x [] v = refl
@@ -56,16 +73,16 @@ satisfies-fix x (e ∷ es) v =
 next-end : (x y : ℤ) (k : ℕ) → y <ℤ (x +ℤ pos (suc k)) → y <ℤ ((x +ℤ pos 1) +ℤ pos k)
 next-end x y k = rw (split x, split y) (simp split-all (omega arith))
 
-back-end : (x y : ℤ) (k : ℕ) → y <ℤ ((x +ℤ pos 1) +ℤ pos k) → y <ℤ (x +ℤ pos (suc k))
+pub back-end : (x y : ℤ) (k : ℕ) → y <ℤ ((x +ℤ pos 1) +ℤ pos k) → y <ℤ (x +ℤ pos (suc k))
 back-end x y k = rw (split x, split y) (simp split-all (omega arith))
 
-own-end : (x : ℤ) (k : ℕ) → x <ℤ (x +ℤ pos (suc k))
+pub own-end : (x : ℤ) (k : ℕ) → x <ℤ (x +ℤ pos (suc k))
 own-end x k = rw (split x) (simp split-all (omega arith))
 
 below-end : (x y : ℤ) → x ≤ℤ y → y <ℤ (x +ℤ pos 0) → ⊥
 below-end x y = rw (split x, split y) (simp split-all (omega arith))
 
-step-up : (x y : ℤ) → (x +ℤ pos 1) ≤ℤ y → x ≤ℤ y
+pub step-up : (x y : ℤ) → (x +ℤ pos 1) ≤ℤ y → x ≤ℤ y
 step-up x y = rw (split x, split y) (simp split-all (omega arith))
 
 pub up-step : (x y : ℤ) → x <ℤ y → (x +ℤ pos 1) ≤ℤ y
@@ -111,18 +128,14 @@ pub width-suc : (l h : ℤ) → l ≤ℤ h → width (record { low = l; high = h
 unfolding width
 width-suc l h g = suc-of l h ((h +ℤ pos 1) -ℤ l) ((h +ℤ pos 1) -ℤ (l +ℤ pos 1)) refl refl g
 
--- ---- a fold over a range, from its first number to its last
-over : {A : Type 0} → A → (A → A → A) → (ℤ → A) → ℤ → ℕ → A
-over e op f x zero = e
-over e op f x (suc n) = op (f x) (over e op f (x +ℤ pos 1) n)
-
+-- ---- a sum over a range, from its first number to its last
 -- all of s is among n numbers from x on
 abbrev Covers : ℤ → ℕ → Range → Type 0
 Covers x n s = (y : ℤ) → In y s → (x ≤ℤ y) × (y <ℤ (x +ℤ pos n))
 
--- f is e at those of n numbers from x on that are not in s
-abbrev Blank : {A : Type 0} → A → (ℤ → A) → ℤ → ℕ → Range → Type 0
-Blank e f x n s = (y : ℤ) → x ≤ℤ y → y <ℤ (x +ℤ pos n) → (In y s → ⊥) → f y ≡ e
+-- f is 0 at those of n numbers from x on that are not in s
+abbrev Blank : (ℤ → ℕ) → ℤ → ℕ → Range → Type 0
+Blank f x n s = (y : ℤ) → x ≤ℤ y → y <ℤ (x +ℤ pos n) → (In y s → ⊥) → f y ≡ 0
 
 covers-next : (x : ℤ) (k : ℕ) (s : Range) → Covers x (suc k) s → (In x s → ⊥) → Covers (x +ℤ pos 1) k s
 covers-next x k s c out y m = (go (leZ y x) refl, next-end x y k (c y m .1))
@@ -143,28 +156,28 @@ covers-next x k s c out y m = (go (leZ y x) refl, next-end x y k (c y m .1))
     go true e = absurd (here e)
     go false e = up-step x y (leZ-false e)
 
-module _ {A : Type 0} (e : A) (op : A → A → A) (left : (a : A) → op e a ≡ a) (f : ℤ → A) where
+module _ (f : ℤ → ℕ) where
   -- x itself is not in s
   skip-one : (k : ℕ) (x : ℤ) (s : Range)
-      → (Covers (x +ℤ pos 1) k s → Blank e f (x +ℤ pos 1) k s → over e op f (x +ℤ pos 1) k ≡ over e op f (s .low) (width s))
-      → Covers x (suc k) s → Blank e f x (suc k) s → (In x s → ⊥) → over e op f x (suc k) ≡ over e op f (s .low) (width s)
-  unfolding over
+      → (Covers (x +ℤ pos 1) k s → Blank f (x +ℤ pos 1) k s → total f (x +ℤ pos 1) k ≡ total f (s .low) (width s))
+      → Covers x (suc k) s → Blank f x (suc k) s → (In x s → ⊥) → total f x (suc k) ≡ total f (s .low) (width s)
+  unfolding total
   skip-one k x s ih c b out =
-      ap (λ (a : A). op a (over e op f (x +ℤ pos 1) k)) (b x (≤ℤ-refl x) (own-end x k) out)
-      ∙ left (over e op f (x +ℤ pos 1) k)
+      ap (λ (a : ℕ). a + total f (x +ℤ pos 1) k) (b x (≤ℤ-refl x) (own-end x k) out)
+      ∙ zero-add (total f (x +ℤ pos 1) k)
       ∙ ih (covers-next x k s c out) (λ y g h o. b y (step-up x y g) (back-end x y k h) o)
 
   -- x is the first of s
   take-one : (k : ℕ) (x l h : ℤ)
-      → ((s : Range) → Covers (x +ℤ pos 1) k s → Blank e f (x +ℤ pos 1) k s → over e op f (x +ℤ pos 1) k ≡ over e op f (s .low) (width s))
-      → Covers x (suc k) (record { low = l; high = h }) → Blank e f x (suc k) (record { low = l; high = h }) → l ≤ℤ x → x ≤ℤ h
-      → over e op f x (suc k) ≡ over e op f l (width (record { low = l; high = h }))
-  unfolding over
+      → ((s : Range) → Covers (x +ℤ pos 1) k s → Blank f (x +ℤ pos 1) k s → total f (x +ℤ pos 1) k ≡ total f (s .low) (width s))
+      → Covers x (suc k) (record { low = l; high = h }) → Blank f x (suc k) (record { low = l; high = h }) → l ≤ℤ x → x ≤ℤ h
+      → total f x (suc k) ≡ total f l (width (record { low = l; high = h }))
+  unfolding total
   take-one k x l h ih c b g m =
-      ap (λ (a : A). op (f x) a) (ih (record { low = x +ℤ pos 1; high = h })
+      ap (λ (a : ℕ). f x + a) (ih (record { low = x +ℤ pos 1; high = h })
       (λ y i. (i .least, next-end x y k (c y (record { least = lower y i; most = i .most }) .1)))
       (λ y i j o. b y (step-up x y i) (back-end x y k j) (λ q. o (record { least = i; most = q .most }))))
-      ∙ sym (ap (λ (z : ℤ). over e op f z (width (record { low = z; high = h }))) same ∙ ap (λ (j : ℕ). over e op f x j) (width-suc x h m))
+      ∙ sym (ap (λ (z : ℤ). total f z (width (record { low = z; high = h }))) same ∙ ap (λ (j : ℕ). total f x j) (width-suc x h m))
     where
       first-in : x ≤ℤ l
       first-in = c l (record { least = ≤ℤ-refl l; most = omega zs }) .0
@@ -175,10 +188,10 @@ module _ {A : Type 0} (e : A) (op : A → A → A) (left : (a : A) → op e a �
       lower : (y : ℤ) → In y (record { low = x +ℤ pos 1; high = h }) → l ≤ℤ y
       lower y i = let q : x ≤ℤ y = step-up x y (i .least) in omega zs
 
-  -- a fold over n numbers is the fold over a part of them, outside of which f is e
-  skip : (n : ℕ) (x : ℤ) (s : Range) → Covers x n s → Blank e f x n s → over e op f x n ≡ over e op f (s .low) (width s)
-  unfolding over
-  skip zero x s c b = sym (ap (λ (j : ℕ). over e op f (s .low) j) (width-zero s (go (leZ (s .low) (s .high)) refl)))
+  -- a sum over n numbers is the sum over a part of them, outside of which f is 0
+  skip : (n : ℕ) (x : ℤ) (s : Range) → Covers x n s → Blank f x n s → total f x n ≡ total f (s .low) (width s)
+  unfolding total
+  skip zero x s c b = sym (ap (λ (j : ℕ). total f (s .low) j) (width-zero s (go (leZ (s .low) (s .high)) refl)))
     where
       go : (d : Bool) → leZ (s .low) (s .high) ≡ d → s .high <ℤ s .low
       go true q =
@@ -188,37 +201,16 @@ module _ {A : Type 0} (e : A) (op : A → A → A) (left : (a : A) → op e a �
   skip (suc k) x s c b = go (leZ (s .low) x) (leZ x (s .high)) refl refl (λ t. skip k (x +ℤ pos 1) t)
     where
       go : (d g : Bool) → leZ (s .low) x ≡ d → leZ x (s .high) ≡ g
-          → ((t : Range) → Covers (x +ℤ pos 1) k t → Blank e f (x +ℤ pos 1) k t
-          → over e op f (x +ℤ pos 1) k ≡ over e op f (t .low) (width t))
-          → over e op f x (suc k) ≡ over e op f (s .low) (width s)
+          → ((t : Range) → Covers (x +ℤ pos 1) k t → Blank f (x +ℤ pos 1) k t
+          → total f (x +ℤ pos 1) k ≡ total f (t .low) (width t))
+          → total f x (suc k) ≡ total f (s .low) (width s)
       go true true q r ih = take-one k x (s .low) (s .high) ih c b (leZ-true q) (leZ-true r)
       go true false q r ih = skip-one k x s (ih s) c b (λ i. omega zts)
       go false g q r ih = skip-one k x s (ih s) c b (λ i. omega zts)
 
-  skip-range : (r s : Range) → ((y : ℤ) → In y s → In y r) → ((y : ℤ) → In y r → (In y s → ⊥) → f y ≡ e)
-      → over e op f (r .low) (width r) ≡ over e op f (s .low) (width s)
-  skip-range r s c b = skip (width r) (r .low) s (λ y i. width-in r y .0 (c y i)) (λ y g h o. b y (width-in r y .1 (g, h)) o)
-
-total-over : (f : ℤ → ℕ) (x : ℤ) (n : ℕ) → total f x n ≡ over 0 _+_ f x n
-unfolding total over
-total-over f x zero = refl
-total-over f x (suc n) = ap (λ (k : ℕ). f x + k) (total-over f (x +ℤ pos 1) n)
-
-firstOver-over : (f : ℤ → Option (List ℤ)) (x : ℤ) (n : ℕ) → firstOver f x n ≡ over none orElse f x n
-unfolding firstOver over
-firstOver-over f x zero = refl
-firstOver-over f x (suc n) = ap (λ (o : Option (List ℤ)). orElse (f x) o) (firstOver-over f (x +ℤ pos 1) n)
-
--- a sum over a range is the sum over a part of it, outside of which f is 0
-pub total-skip : (f : ℤ → ℕ) (r s : Range) → ((y : ℤ) → In y s → In y r) → ((y : ℤ) → In y r → (In y s → ⊥) → f y ≡ 0)
-    → total f (r .low) (width r) ≡ total f (s .low) (width s)
-total-skip f r s c b =
-    total-over f (r .low) (width r) ∙ skip-range 0 _+_ zero-add f r s c b ∙ sym (total-over f (s .low) (width s))
-
-pub firstOver-skip : (f : ℤ → Option (List ℤ)) (r s : Range) → ((y : ℤ) → In y s → In y r)
-    → ((y : ℤ) → In y r → (In y s → ⊥) → f y ≡ none) → firstOver f (r .low) (width r) ≡ firstOver f (s .low) (width s)
-firstOver-skip f r s c b =
-    firstOver-over f (r .low) (width r) ∙ skip-range none orElse (λ o. refl) f r s c b ∙ sym (firstOver-over f (s .low) (width s))
+  pub total-skip : (r s : Range) → ((y : ℤ) → In y s → In y r) → ((y : ℤ) → In y r → (In y s → ⊥) → f y ≡ 0)
+      → total f (r .low) (width r) ≡ total f (s .low) (width s)
+  total-skip r s c b = skip (width r) (r .low) s (λ y i. width-in r y .0 (c y i)) (λ y g h o. b y (width-in r y .1 (g, h)) o)
 
 -- ---- the members of the lists: exactly the valuations inside the ranges
 span-in : {y : ℤ} (n : ℕ) (x : ℤ) → List·Memᴰ y (span x n) → (x ≤ℤ y) × (y <ℤ (x +ℤ pos n))
@@ -318,7 +310,7 @@ count-map t u x (v ∷ vs) h =
     ap (λ (m : ℕ). cond (t (x ∷ v)) (suc m) m) (count-map t u x vs h)
     ∙ ap (λ (b : Bool). cond b (suc (countIn u vs)) (countIn u vs)) (sym (h v))
 
-count-none : (t : List ℤ → Bool) (vs : List (List ℤ)) → ((v : List ℤ) → List·Memᴰ v vs → t v ≡ false) → countIn t vs ≡ 0
+pub count-none : (t : List ℤ → Bool) (vs : List (List ℤ)) → ((v : List ℤ) → List·Memᴰ v vs → t v ≡ false) → countIn t vs ≡ 0
 unfolding countIn
 count-none t [] h = refl
 count-none t (v ∷ vs) h =
@@ -340,38 +332,6 @@ pub count-whole : (es : List Affine) (r : Range) (rs : List Range)
     → count (r ∷ rs) es ≡ total (λ (x : ℤ). count rs (map (fix x) es)) (r .low) (width r)
 unfolding count valuations
 count-whole es r rs = count-fold es (valuations rs) (width r) (r .low)
-
-not-true : (b : Bool) → (b ≡ true → ⊥) → b ≡ false
-not-true true h = absurd (h refl)
-not-true false h = refl
-
--- outside the narrowed range of the first parameter no valuation meets the inequalities
-outside : (es : List Affine) (r : Range) (rs : List Range) (x : ℤ) → In x r → (In x (narrowed es r rs) → ⊥) → (v : List ℤ)
-    → List·Memᴰ v (valuations rs) → satisfies (map (fix x) es) v ≡ false
-outside es r rs x h o v m =
-    satisfies-fix x es v ∙ not-true (satisfies es (x ∷ v)) (λ e. o (narrowed-keeps es r rs x v (h, valuations-inside rs v m) e))
-
-pub count-step : (es : List Affine) (r : Range) (rs : List Range)
-    → count (r ∷ rs) es ≡ total (λ (x : ℤ). count rs (map (fix x) es)) (narrowed es r rs .low) (width (narrowed es r rs))
-unfolding count
-count-step es r rs =
-    count-whole es r rs
-    ∙ total-skip (λ (x : ℤ). count rs (map (fix x) es)) r (narrowed es r rs) (λ y i. narrowed-in es r rs i)
-    (λ y i o. count-none (satisfies (map (fix y) es)) (valuations rs) (outside es r rs y i o))
-
-total-ones : (f : ℤ → ℕ) (n : ℕ) (x : ℤ) → ((y : ℤ) → x ≤ℤ y → y <ℤ (x +ℤ pos n) → f y ≡ 1) → total f x n ≡ n
-unfolding total
-total-ones f zero x h = refl
-total-ones f (suc n) x h =
-    omega (arith, h x (≤ℤ-refl x) (own-end x n), total-ones f n (x +ℤ pos 1) (λ y g m. h y (step-up x y g) (back-end x y n m)))
-
--- with no later parameter: all of the narrowed range
-pub count-last : (es : List Affine) (r : Range) → count (r ∷ []) es ≡ width (narrowed es r [])
-unfolding count valuations countIn
-count-last es r =
-    count-step es r []
-    ∙ total-ones (λ (x : ℤ). count [] (map (fix x) es)) (width (narrowed es r [])) (narrowed es r [] .low)
-    (λ y g h. ap (λ (b : Bool). cond b 1 0) (satisfies-fix y es [] ∙ narrowed-last es r y (width-in (narrowed es r []) y .1 (g, h))))
 
 -- ---- searching over lists
 pick-else : (b : Bool) (v : List ℤ) (m k j : Option (List ℤ)) → m ≡ orElse k j → cond b (some v) m ≡ orElse (cond b (some v) k) j
@@ -417,36 +377,6 @@ pub first-whole : (es : List Affine) (r : Range) (rs : List Range)
     → first (r ∷ rs) es ≡ firstOver (λ (x : ℤ). lead x (first rs (map (fix x) es))) (r .low) (width r)
 unfolding first valuations
 first-whole es r rs = first-fold es (valuations rs) (width r) (r .low)
-
-pub first-step : (es : List Affine) (r : Range) (rs : List Range)
-    → first (r ∷ rs) es ≡ firstOver (λ (x : ℤ). lead x (first rs (map (fix x) es))) (narrowed es r rs .low) (width (narrowed es r rs))
-unfolding first
-first-step es r rs =
-    first-whole es r rs
-    ∙ firstOver-skip (λ (x : ℤ). lead x (first rs (map (fix x) es))) r (narrowed es r rs) (λ y i. narrowed-in es r rs i)
-    (λ y i o. ap (λ (m : Option (List ℤ)). lead y m) (first-empty (satisfies (map (fix y) es)) (valuations rs) (outside es r rs y i o)))
-
-firstOver-begin : (f : ℤ → Option (List ℤ)) (l h : ℤ) (v : List ℤ) (b : Bool) → leZ l h ≡ b → (l ≤ℤ h → f l ≡ some v)
-    → firstOver f l (width (record { low = l; high = h })) ≡ cond b (some v) none
-unfolding firstOver
-firstOver-begin f l h v true e k =
-    ap (λ (j : ℕ). firstOver f l j) (width-suc l h (leZ-true e))
-    ∙ ap (λ (o : Option (List ℤ)). orElse o (firstOver f (l +ℤ pos 1) (width (record { low = l +ℤ pos 1; high = h })))) (k (leZ-true e))
-firstOver-begin f l h v false e k = ap (λ (j : ℕ). firstOver f l j) (width-zero (record { low = l; high = h }) (leZ-false e))
-
--- with no later parameter: the lowest of the narrowed range
-pub first-last : (es : List Affine) (r : Range)
-    → first (r ∷ []) es ≡ cond (leZ (narrowed es r [] .low) (narrowed es r [] .high)) (some (narrowed es r [] .low ∷ [])) none
-unfolding first valuations firstIn
-first-last es r =
-    first-step es r []
-    ∙ firstOver-begin (λ (x : ℤ). lead x (first [] (map (fix x) es))) (narrowed es r [] .low) (narrowed es r [] .high)
-    (narrowed es r [] .low ∷ [])
-    (leZ (narrowed es r [] .low) (narrowed es r [] .high)) refl
-    (λ k.
-    ap (λ (b : Bool). lead (narrowed es r [] .low) (cond b (some []) none))
-    (satisfies-fix (narrowed es r [] .low) es []
-    ∙ narrowed-last es r (narrowed es r [] .low) (record { least = ≤ℤ-refl (narrowed es r [] .low); most = k })))
 
 -- ---- tests that say the same of every valuation of a list
 pub first-same : (t u : List ℤ → Bool) (vs : List (List ℤ)) → ((v : List ℤ) → List·Memᴰ v vs → t v ≡ u v) → firstIn t vs ≡ firstIn u vs
@@ -520,3 +450,28 @@ count-zero rs es = (
   none-counted (satisfies es) (valuations rs),
   λ h. count-none (satisfies es) (valuations rs) (none-passes (satisfies es) (valuations rs) h),
 )
+
+-- ---- counts and the product of the widths
+count-few-in : (t : List ℤ → Bool) (vs : List (List ℤ)) → countIn t vs ≤ length vs
+unfolding countIn
+count-few-in t [] = omega arith
+count-few-in t (v ∷ vs) = by (t v) (count-few-in t vs)
+  where
+    by : (b : Bool) → countIn t vs ≤ length vs → cond b (suc (countIn t vs)) (countIn t vs) ≤ suc (length vs)
+    by true h = omega arith
+    by false h = omega arith
+
+-- no count is more than the product of the widths
+pub count-few : (rs : List Range) (es : List Affine) → count rs es ≤ widths rs
+unfolding count
+count-few rs es = let l = count-few-in (satisfies es) (valuations rs) in let k = valuations-length rs in omega arith
+
+count-every : (vs : List (List ℤ)) → countIn (satisfies []) vs ≡ length vs
+unfolding countIn satisfies
+count-every [] = refl
+count-every (v ∷ vs) = ap suc (count-every vs)
+
+-- without inequalities it is that product
+pub count-all : (rs : List Range) → count rs [] ≡ widths rs
+unfolding count
+count-all rs = count-every (valuations rs) ∙ valuations-length rs

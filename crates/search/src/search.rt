@@ -1,173 +1,136 @@
-// Satisfiability of inequalities over the ranges of three parameters: parameter by parameter in order, each inequality narrows the next
-// parameter's range with the best that the later ones can do, so that the last range is exact and hopeless branches are never entered.
+// The search: what the inequalities leave of a box is tried at its lowest corner; then, number by number, the first range that has several
+// is put in. Each step loses no solution, so that every one of them may be left out.
+use crate::boxes;
+use crate::opposite;
 use crate::ranges;
-use expr::Expr;
-use expr::Range;
+use expr::PARAMETERS;
 use expr::Ranges;
 use expr::Valuation;
 ghost use mathlib.Core.Path.{_≡_};
+ghost use lib.ListN.{length};
 ghost use Prim.Native.Nat.{min, _≤_};
-ghost use mathlib.Core.List.{[], _∷_, map};
-ghost use Rattle.search.specs.Interval.{fix, narrowed};
-ghost use Rattle.search.specs.SearchLaws.{lead};
-ghost use Rattle.search.specs.System.{exprs, firstOf};
-ghost use Rattle.expr.specs.Three.{rangeList};
+ghost use Rattle.expr.specs.Records.{rangeList};
+ghost use Rattle.narrowing.specs.Boxes.{Points};
+ghost use Rattle.search.specs.System.{exprsIn, solutionOf, isSome};
 ghost use Rattle.search.specs.Valuations.{first, count};
 
-// Inequalities: the first count expressions of the list, of which all 25 at most, are each to be at least 0.
-pub struct System {
-    pub count: usize,
-    pub list: [Expr; 25],
+// The first valuation that was found; zeros if nothing was.
+pub struct Solution {
+    pub found: bool,
+    pub valuation: Valuation,
 }
 
-// The first valuation that was found, or nothing.
-pub enum Solution {
-    Found(Valuation),
-    Nothing,
+impl Solution {
+    const NOTHING: Solution = Solution {
+        found: false,
+        valuation: Valuation::ZERO,
+    };
 }
 
-// How many expressions of s count.
-fn size(s: System) -> usize
-    ensures { λ n. ⌜ n ≡ min (s .count) 25 ⌝ }
+// The first valuation of the box that meets the inequalities; the ranges before `start` have one number at most.
+fn first_from(b: Ranges, flat: &[i32], n: usize, start: usize) -> Solution
+    requires { ⌜ (n ≤ length (now flat)) × ((start ≤ 4) × Points start (b .list)) ⌝ }
+    ensures { λ r. ⌜ r ≡ solutionOf (first (b .list) (exprsIn (now (flat .entry)) n)) ⌝ }
 {
-    let n = s.count;
-    if n < 25 {
-        return n;
+    let c = boxes::narrowed(b, flat, n);
+    let v = narrowing::corner(c);
+    if !narrowing::inside(c, v) {
+        return Solution::NOTHING;
     }
-    25
-}
-
-// The part of p's range in which all inequalities can still be met.
-fn narrowed_p(b: Ranges, s: System) -> Range
-    ensures { λ r. ⌜ r ≡ narrowed (exprs s) (b .p) (b .q ∷ b .r ∷ []) ⌝ }
-{
-    let n = size(s);
-    let mut range = b.p;
+    if boxes::can_hold(narrowing::points(v), flat, n) {
+        return Solution {
+            found: true,
+            valuation: v,
+        };
+    }
+    let w = narrowing::wide(c, start);
+    if PARAMETERS <= w {
+        return Solution::NOTHING;
+    }
+    let range = c.list[w];
+    let m = ranges::width(range);
     let mut i = 0;
-    while i < n {
-        let e = s.list[i];
-        range = ranges::narrow_p(e, b, range);
+    while i < m {
+        let mut d = c;
+        d.list[w] = ranges::point(range, i);
+        let s = first_from(d, flat, n, w + 1);
+        if s.found {
+            return s;
+        }
         i += 1;
     }
-    range
+    Solution::NOTHING
 }
 
-// The same for q, p being at its lowest.
-fn narrowed_q(b: Ranges, s: System) -> Range
-    ensures { λ r. ⌜ r ≡ narrowed (map (fix (b .p .low)) (exprs s)) (b .q) (b .r ∷ []) ⌝ }
+// How many valuations of the box meet the inequalities; the ranges before `start` have one number at most.
+fn count_from(b: Ranges, flat: &[i32], n: usize, start: usize) -> usize
+    requires { ⌜ (n ≤ length (now flat)) × ((start ≤ 4) × Points start (b .list)) ⌝ }
+    ensures { λ r. ⌜ r ≡ min (count (b .list) (exprsIn (now (flat .entry)) n)) 18446744073709551615 ⌝ }
 {
-    let n = size(s);
-    let mut range = b.q;
-    let mut i = 0;
-    while i < n {
-        let e = s.list[i];
-        range = ranges::narrow_q(e, b, range);
-        i += 1;
+    let place = numbers::at_most(narrowing::wide(b, start), 3);
+    if narrowing::alone(b, place) {
+        return boxes::count_last(b, flat, n, place);
     }
-    range
-}
-
-// The same for r, p and q being at their lowest: in this range all inequalities are met.
-fn narrowed_r(b: Ranges, s: System) -> Range
-    ensures { λ r. ⌜ r ≡ narrowed (map (fix (b .q .low)) (map (fix (b .p .low)) (exprs s))) (b .r) [] ⌝ }
-{
-    let n = size(s);
-    let mut range = b.r;
-    let mut i = 0;
-    while i < n {
-        let e = s.list[i];
-        range = ranges::narrow_r(e, b, range);
-        i += 1;
+    let c = boxes::narrowed(b, flat, n);
+    let v = boxes::volume(c);
+    if v == 0 {
+        return 0;
     }
-    range
-}
-
-// How many r meet s, p and q being at their lowest.
-fn count_r(b: Ranges, s: System) -> usize
-    ensures { λ n. ⌜ n ≡ count (b .r ∷ []) (map (fix (b .q .low)) (map (fix (b .p .low)) (exprs s))) ⌝ }
-    ensures small { λ n. ⌜ n ≤ 65536 ⌝ }
-{
-    ranges::width(narrowed_r(b, s))
-}
-
-// How many q and r meet s, p being at its lowest.
-fn count_q(b: Ranges, s: System) -> usize
-    ensures { λ n. ⌜ n ≡ count (b .q ∷ b .r ∷ []) (map (fix (b .p .low)) (exprs s)) ⌝ }
-    ensures small { λ n. ⌜ n ≤ 4294967296 ⌝ }
-{
-    let range = narrowed_q(b, s);
-    let n = ranges::width(range);
+    if boxes::can_hold(narrowing::turned(c), flat, n) {
+        return v;
+    }
+    let w = narrowing::wide(c, start);
+    if PARAMETERS <= w {
+        return 0;
+    }
+    let range = c.list[w];
+    let m = ranges::width(range);
     let mut total = 0;
     let mut i = 0;
-    while i < n {
-        total += count_r(ranges::with_q(b, ranges::point(range, i)), s);
+    while i < m {
+        let mut d = c;
+        d.list[w] = ranges::point(range, i);
+        total = narrowing::plus(total, count_from(d, flat, n, w + 1));
         i += 1;
     }
     total
 }
 
-// How many valuations of b meet s.
-pub fn count(b: Ranges, s: System) -> usize
-    ensures { λ n. ⌜ n ≡ count (rangeList b) (exprs s) ⌝ }
+// The first valuation of b, in lexicographic order, that meets the first n inequalities of the flat list.
+pub fn first(b: Ranges, flat: &[i32], n: usize) -> Solution
+    ensures { λ r. ⌜ r ≡ solutionOf (first (rangeList b) (exprsIn (now (flat .entry)) n)) ⌝ }
 {
-    let range = narrowed_p(b, s);
-    let n = ranges::width(range);
-    let mut total = 0;
-    let mut i = 0;
-    while i < n {
-        total += count_q(ranges::with_p(b, ranges::point(range, i)), s);
-        i += 1;
+    let m = numbers::at_most(n, flat.len());
+    if opposite::opposed(flat, m) {
+        return Solution::NOTHING;
     }
-    total
+    first_from(b, flat, m, 0)
 }
 
-// The first r that meets s, p and q being at their lowest.
-fn first_r(b: Ranges, s: System) -> Solution
-    ensures { λ v.
-        ⌜ v
-        ≡ firstOf (lead (b .p .low) (lead (b .q .low) (first (b .r ∷ []) (map (fix (b .q .low)) (map (fix (b .p .low)) (exprs s)))))) ⌝ }
+// How many valuations of b meet them; four full ranges of i16 hold one valuation more than a usize counts, hence the cap.
+pub fn count(b: Ranges, flat: &[i32], n: usize) -> usize
+    ensures { λ r. ⌜ r ≡ min (count (rangeList b) (exprsIn (now (flat .entry)) n)) 18446744073709551615 ⌝ }
 {
-    let range = narrowed_r(b, s);
-    if ranges::width(range) == 0 {
-        return Solution::Nothing;
+    let m = numbers::at_most(n, flat.len());
+    if opposite::opposed(flat, m) {
+        return 0;
     }
-    Solution::Found(Valuation {
-        p: ranges::lowest(b.p),
-        q: ranges::lowest(b.q),
-        r: ranges::lowest(range),
-    })
+    count_from(b, flat, m, 0)
 }
 
-// The first q and r that meet s, p being at its lowest.
-fn first_q(b: Ranges, s: System) -> Solution
-    ensures { λ v. ⌜ v ≡ firstOf (lead (b .p .low) (first (b .q ∷ b .r ∷ []) (map (fix (b .p .low)) (exprs s)))) ⌝ }
+// Whether some valuation of b meets them; the guess is tried before a search.
+pub fn some_meets(b: Ranges, guess: Valuation, flat: &[i32], n: usize) -> bool
+    ensures { λ r. ⌜ r ≡ isSome (first (rangeList b) (exprsIn (now (flat .entry)) n)) ⌝ }
 {
-    let range = narrowed_q(b, s);
-    let n = ranges::width(range);
-    let mut i = 0;
-    while i < n {
-        let found = first_r(ranges::with_q(b, ranges::point(range, i)), s);
-        if let Solution::Found(_) = found {
-            return found;
+    if narrowing::inside(b, guess) {
+        if boxes::can_hold(
+            narrowing::points(guess),
+            flat,
+            numbers::at_most(n, flat.len()),
+        ) {
+            return true;
         }
-        i += 1;
     }
-    Solution::Nothing
-}
-
-// The first valuation of b, in lexicographic order, that meets s.
-pub fn first(b: Ranges, s: System) -> Solution
-    ensures { λ v. ⌜ v ≡ firstOf (first (rangeList b) (exprs s)) ⌝ }
-{
-    let range = narrowed_p(b, s);
-    let n = ranges::width(range);
-    let mut i = 0;
-    while i < n {
-        let found = first_q(ranges::with_p(b, ranges::point(range, i)), s);
-        if let Solution::Found(_) = found {
-            return found;
-        }
-        i += 1;
-    }
-    Solution::Nothing
+    let s = first(b, flat, n);
+    s.found
 }

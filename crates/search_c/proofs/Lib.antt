@@ -1,4 +1,2 @@
--- What the proofs of several functions use.
-mod Answers
-mod Read
-mod Signs
+-- Laws that the proofs of several functions cite.
+pub mod Filled

@@ -2,20 +2,28 @@
 -- theorem of reading/specs/Accepted.
 use Prim.Native.Nat.{ℕ, _≤_, _<_}
 use mathlib.Core.Path.{_≡_}
+use mathlib.Core.Logic.{_⊎_}
 use lib.ListN.{getD}
 use Rattle.cursor_laws.specs.Right.{Filled}
-use Rattle.parameters.specs.Right.{RangeRight}
+use Rattle.contents.specs.Contents.{mostParameters}
+use Rattle.expr.specs.Records.{rangeList}
+use Rattle.parameters.specs.Right.{RangesRight}
+use Rattle.search.specs.Valuations.{widths}
 use Rattle.automaton.specs.Automaton.{noLocation, blankLocation, noTransition, blankTransition}
 use Rattle.automaton.specs.Right.{LocationRight, TransitionRight}
 use Rattle.route.specs.Route.{arrivedAt}
 use Rattle.sheet.specs.declared.Sheet.{Sheet}
 
--- an accepted sheet: its counts, ranges, locations, transitions and route, and the route links
+-- how many valuations (paper: settings) the ranges of a sheet have at most
+abbrev pub MOST_VALUATIONS : ℕ
+MOST_VALUATIONS = 262144
+
+-- an accepted sheet: its version, counts, ranges, locations, transitions and route, and the route links
 pub record WellFormed (sheet : Sheet) : Type 0 where
-  pub parameters : sheet .parameters ≤ 3
-  pub p : RangeRight (sheet .parameters) 0 (sheet .ranges .p)
-  pub q : RangeRight (sheet .parameters) 1 (sheet .ranges .q)
-  pub r : RangeRight (sheet .parameters) 2 (sheet .ranges .r)
+  pub version : (sheet .version ≡ 1) ⊎ (sheet .version ≡ 2)
+  pub parameters : sheet .parameters ≤ mostParameters (sheet .version)
+  pub ranges : RangesRight (sheet .parameters) (sheet .ranges .list)
+  pub few-valuations : widths (rangeList (sheet .ranges)) ≤ MOST_VALUATIONS
   pub some-clock : 1 ≤ sheet .clocks
   pub clocks : sheet .clocks ≤ 4
   pub some-location : 1 ≤ sheet .locations

@@ -8,9 +8,10 @@ use automaton::Location;
 use automaton::Transition;
 use expr::Ranges;
 
-// A sheet: parameters (paper: allowances) with their ranges, clocks (paper: watches), locations (paper: stages),
+// A sheet: its version, 1 or 2, parameters (paper: allowances) with their ranges, clocks (paper: watches), locations (paper: stages),
 // transitions (paper: moves), and the route, a list of transition numbers.
 pub struct Sheet {
+    pub version: usize,
     pub parameters: usize,
     pub ranges: Ranges,
     pub clocks: usize,
@@ -25,6 +26,7 @@ pub struct Sheet {
 impl Sheet {
     // A sheet with nothing but zeros.
     pub const BLANK: Sheet = Sheet {
+        version: 0,
         parameters: 0,
         ranges: Ranges::ZERO,
         clocks: 0,

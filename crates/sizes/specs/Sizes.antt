@@ -13,7 +13,7 @@ use Rattle.cutting.specs.Every.{GuardIs}
 use Rattle.expr.specs.Affine.{Affine}
 use Rattle.expr.specs.Bounds.{sumB}
 use Rattle.expr.specs.Ranges.{Inside}
-use Rattle.expr.specs.Three.{boundAs, rangeList}
+use Rattle.expr.specs.Records.{boundAs, rangeList}
 use Rattle.expr.specs.declared.range.Range.{Range}
 use Rattle.guards.specs.declared.Guard.{Guard}
 use Rattle.sheet.specs.WellFormed.{WellFormed}

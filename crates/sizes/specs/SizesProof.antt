@@ -21,7 +21,7 @@ use Rattle.expr.specs.Affine.{Affine, value, opposite}
 use Rattle.expr.specs.Bounds.{sumB, tighterB, zeroB}
 use Rattle.expr.specs.Laws.{opposite-holds}
 use Rattle.expr.specs.Ranges.{Inside}
-use Rattle.expr.specs.Three.{affine, boundAs, rangeList}
+use Rattle.expr.specs.Records.{PARAMETERS, affine, boundAs, rangeList}
 use Rattle.expr.specs.declared.number.Expr.{Expr}
 use Rattle.expr.specs.declared.range.Range.{Range}
 use Rattle.guards.specs.Right.{ExprRight, GuardRight}
@@ -31,7 +31,7 @@ use Rattle.search.specs.Valuations.{satisfies}
 use Rattle.sheet.specs.WellFormed.{WellFormed}
 use Rattle.sheet.specs.declared.Sheet.{Sheet}
 use Rattle.timed.specs.Lists.{AllOf}
-use Rattle.timed.specs.Right.{StepRight, lowest, lowest-inside}
+use Rattle.timed.specs.Right.{StepRight, filled-at, places-all, lowest, lowest-inside}
 use Rattle.timed.specs.Right as right
 use Rattle.timed.specs.Steps.{Step, delay, guard, resets, stepsOf, delays}
 use Rattle.timed.specs.Visits.{steps-delays}
@@ -214,11 +214,14 @@ rules-small w g s m h =
 number-small : (z : ℤ) → Small z → natAbs z ≤ LIMIT
 number-small z h = rw natAbs-parts (size-in (h .least) (h .most))
 
+abbrev Limited : ℤ → Type 0
+Limited z = natAbs z ≤ LIMIT
+
 expr-small : (parameters : ℕ) (x : Expr) → ExprRight parameters x → AtMostE LIMIT (affine x)
 expr-small parameters x h =
     record {
       constant = number-small (x .constant) (h .constant);
-      coefs = (number-small (x .p) (h .p), (number-small (x .q) (h .q), (number-small (x .r) (h .r), tt)));
+      coefs = places-all Limited (pos 0) (x .coefs) 0 PARAMETERS (filled-at (h .coefs) Limited number-small (omega arith) (omega arith));
     }
 
 pub guard-small : (parameters w : ℕ) (g : Guard) → GuardRight parameters w g → SmallGuard w g

@@ -11,7 +11,7 @@ use Rattle.cutting.specs.Works.{append-nil, each, each-kept, delay-found, guard
 use Rattle.dbm.specs.Matrix.{Matrix, start, Outcome, void, kept}
 use Rattle.expr.specs.Ranges.{Inside}
 use Rattle.weight.specs.Upper.{Upper}
-use Rattle.expr.specs.Three.{rangeList}
+use Rattle.expr.specs.Records.{rangeList}
 use Rattle.search.specs.Valuations.{satisfies}
 use Rattle.expr.specs.declared.range.Range.{Range}
 use Rattle.sheet.specs.declared.Sheet.{Sheet}

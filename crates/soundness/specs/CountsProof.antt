@@ -10,7 +10,7 @@ use lib.ListN.{length}
 use Rattle.dbm.specs.Matrix.{Outcome, void, kept}
 use Rattle.search.specs.SearchLaws.{valuations-inside, valuations-length}
 use Rattle.search.specs.Valuations.{widths, valuations, satisfies, countIn, count}
-use Rattle.expr.specs.Three.{rangeList}
+use Rattle.expr.specs.Records.{rangeList}
 use Rattle.expr.specs.declared.range.Range.{Range}
 use Rattle.sheet.specs.declared.Sheet.{Sheet}
 use Rattle.sheet.specs.WellFormed.{WellFormed}

@@ -9,8 +9,9 @@ use borrow.Author.Tests.{lt-ltb, le-ltb, eq-eqb, ne-eqb, ltb-true, ltb-false}
 use lib.Dec.{ltb, eqb}
 use lib.ListN.{set}
 use Rattle.expr.specs.declared.bound.Bound.{Bound}
+use Rattle.expr.specs.declared.bound.Asked.{Asked}
+use Rattle.expr.specs.declared.bound.Asked.the-variants.{Yes, No, Ask}
 use Rattle.expr.specs.declared.bound.Test.{Test}
-use Rattle.expr.specs.declared.bound.Test.the-variants.{Yes, No, Ask}
 use Rattle.expr.specs.declared.number.Expr.{Expr}
 use Rattle.expr.specs.declared.range.Ranges.{Ranges}
 use Rattle.split.specs.Listed.{refusedC, listC}
@@ -423,7 +424,8 @@ module _ (b : Ranges) (r : Rule) where
     few-next : suc (q .tests) ≤ suc (q .phase)
     few-next = omega (arith, g .counted h)
 
-    by-ask : (e : Expr) → askC r (q .phase) ≡ Ask e → Going b r p (by-kind (suc (q .tests)) few-next (onC b (q .zone) e))
+    by-ask : (e : Expr) → askC r (q .phase) ≡ record { asked = Ask; expr = e }
+        → Going b r p (by-kind (suc (q .tests)) few-next (onC b (q .zone) e))
     unfolding by-kind onC testedC
     by-ask e a = first (neverC b (q .zone) e) refl
       where
@@ -482,17 +484,23 @@ module _ (b : Ranges) (r : Rule) where
     as-before : (P : ℕ → Type 0) → P (q .tests) → P (q .tests + 0)
     as-before P h = let none : q .tests + 0 ≡ q .tests = omega arith in rw none h
 
-    by-test : (t : Test) → askC r (q .phase) ≡ t → Going b r p (after t (at (q .tests + testsIn t)))
+    abbrev test-of : Asked → Expr → Test
+    test-of x e = record { asked = x; expr = e }
+
+    by-test : (x : Asked) (e : Expr) → askC r (q .phase) ≡ test-of x e
+        → Going b r p (after (test-of x e) (at (q .tests + testsIn (test-of x e))))
     unfolding by-kind testedC workedC
-    by-test Yes a = as-before (λ k. Going b r p (after Yes (at k))) (answered-going (q .tests) few-now true (told Yes a))
-    by-test No a = as-before (λ k. Going b r p (after No (at k))) (answered-going (q .tests) few-now false (told No a))
-    by-test (Ask e) a = rw (add-one (q .tests)) (by-ask e a)
+    by-test Yes e a =
+        as-before (λ k. Going b r p (after (test-of Yes e) (at k))) (answered-going (q .tests) few-now true (told (test-of Yes e) a))
+    by-test No e a =
+        as-before (λ k. Going b r p (after (test-of No e) (at k))) (answered-going (q .tests) few-now false (told (test-of No e) a))
+    by-test Ask e a = rw (add-one (q .tests)) (by-ask e a)
 
     pub goes-on : Going b r p (forwardC b r q)
     unfolding forwardC
     goes-on =
         subst (λ (c : Part). Going b r p (after (askC r (q .phase)) c)) (sym (counted-is (askC r (q .phase))))
-        (by-test (askC r (q .phase)) refl)
+        (by-test (askC r (q .phase) .asked) (askC r (q .phase) .expr) refl)
 
 -- ---- the way gets shorter
 module _ (b : Ranges) (r : Rule) (p q : Part) (g : Going b r p q) (h : q .halt < 1) where

@@ -13,7 +13,7 @@ use Rattle.expr.specs.declared.range.Ranges.{Ranges}
 use Rattle.split.proofs.Runs.{yes-live, yes-later, yes-count, no-live, no-later, no-count, ran-ended, ran-split, split-leaves}
 use Rattle.split.specs.Guarded.{cutC}
 use Rattle.split.specs.Listed.{refusedC, listC}
-use Rattle.expr.specs.Three.{zeroExpr}
+use Rattle.expr.specs.Records.{noExpr}
 use Rattle.zones.specs.Zone.{plusC}
 use Rattle.parts.specs.Parts.{yesC, noC}
 use Rattle.split.specs.Trees.{TreeC, cutT, keepT, askT, treeAt, workedC, startC, endedC, meant, Live, Ran}
@@ -25,7 +25,7 @@ use Rattle.split.specs.declared.list.Counted.{Counted}
 
 -- what is read past the stack's end
 abbrev pub noPart : Part
-noPart = record { phase = 0; halt = 0; tests = 0; test = zeroExpr; zone = record { count = 0; ineqs = []; bounds = [] } }
+noPart = record { phase = 0; halt = 0; tests = 0; test = noExpr; zone = record { count = 0; ineqs = []; bounds = [] } }
 
 -- the first n parts worked, from the top down
 unfoldable pub drained : Ranges → Rule → List Part → ℕ → Counted → Counted

@@ -8,15 +8,16 @@ use lib.ListN.{set}
 use Rattle.constrain.specs.Rules.{viaC, voidTest, tightTest, pushTest}
 use Rattle.constrain.specs.declared.rule.Rule.{Rule}
 use Rattle.expr.specs.declared.bound.Bound.{Bound}
+use Rattle.expr.specs.declared.bound.Asked.{Asked}
+use Rattle.expr.specs.declared.bound.Asked.the-variants.{Yes, No, Ask}
 use Rattle.expr.specs.declared.bound.Test.{Test}
-use Rattle.expr.specs.declared.bound.Test.the-variants.{Yes, No, Ask}
 use Rattle.expr.specs.declared.number.Expr.{Expr}
 use Rattle.expr.specs.declared.range.Ranges.{Ranges}
 use Rattle.parts.specs.Parts.{withBounds, yesC, noC}
 use Rattle.parts.specs.declared.part.Part.{Part}
 use Rattle.split.specs.Listed.{refusedC, listC}
 use Rattle.zones.specs.Settled.{oppositeC, neverC}
-use Rattle.expr.specs.Three.{zeroExpr}
+use Rattle.expr.specs.Records.{zeroExpr}
 use Rattle.zones.specs.Zone.{plusC}
 use Rattle.zones.specs.declared.zone.Zone.{Zone}
 use Rattle.split.specs.declared.list.Counted.{Counted}
@@ -27,10 +28,13 @@ pub data TreeC : Type 0 where
   keepT : List Bound → TreeC
   askT : Expr → (Bool → TreeC) → TreeC
 
+abbrev pub testedBy : Asked → Expr → (Bool → TreeC) → TreeC
+testedBy Yes e f = f true
+testedBy No e f = f false
+testedBy Ask e f = askT e f
+
 unfoldable pub testedC : Test → (Bool → TreeC) → TreeC
-testedC Yes f = f true
-testedC No f = f false
-testedC (Ask e) f = askT e f
+testedC t f = testedBy (t .asked) (t .expr) f
 
 -- rule (3): k entries are left, the next one is x
 unfoldable pub pushC : Rule → ℕ → ℕ → List Bound → TreeC

@@ -17,9 +17,10 @@ fn run(b: Ranges, r: Rule, p: Part) -> Part
     requires { ⌜ Live p ⌝ }
     ensures { λ q. ⌜ Ran b r p q ⌝ }
 {
+    let guess = zones::first_held(b, p.zone);
     let mut q = p;
     while q.halt < 1 {
-        let next = parts::forward(b, r, q);
+        let next = parts::forward(b, guess, r, q);
         q = next;
     }
     q

@@ -1,25 +1,29 @@
 -- The cases of the reply, with the branches' tests.
 use mathlib.Core.Path.{_≡_, refl, sym, _∙_, ap, subst}
-use mathlib.Core.List.{List, [], _∷_}
+use mathlib.Core.List.{List}
 use mathlib.Core.Bool.{Bool, true, false, not}
 use mathlib.Core.Option.{Option, none, some}
 use native.Mathlib.Omega.{arith}
-use Prim.Native.Nat.{ℕ}
-use lib.IntN.{ℤ}
+use native.Mathlib.Numerals.{add-one}
+use Prim.Native.Nat.{ℕ, suc, _+_, _-_, _≤_, _<_}
+use lib.IntN.{ℤ, pos}
+use lib.ListN.{getD, set}
 use lib.Signed.{leZ}
 use borrow.Author.Tests.{not-true, not-false}
 use mir.Syntax.{w16, w64}
 use mir.Val.{SFits, toZ, ofZ}
 use mir.ValLaws.{toZ-ofZ}
+use Rattle.integer.specs.Apart.{apart}
 use Rattle.integer.specs.Bools.{and-left, and-right}
 use Rattle.expr.specs.declared.range.Range.{Range}
 use Rattle.answers.specs.Numbers.{numbered, checkedAs, refusalAs}
 use Rattle.answers.specs.declared.file.Checked.{Checked}
 use Rattle.answers.specs.declared.file.Checked.the-variants as checked
 use Rattle.answers.specs.declared.file.Refusal.{Refusal}
-use Rattle.answers.specs.declared.file.Refusal.the-variants.{Size, Contents, Body, Route}
-use Rattle.expr.specs.Three.{rangeList, point}
-use Rattle.expr.specs.declared.range.Ranges.{Ranges}
+use Rattle.answers.specs.declared.file.Refusal.the-variants.{Size, Contents, Body, Valuations, Route}
+use Rattle.expr.specs.Records.{PARAMETERS, placesFrom, four, blankRange, rangeList, point, zeroValuation}
+use Rattle.expr.specs.RecordLaws.{filledTo, filled-none, filled-next, filled-all}
+use Rattle.expr.specs.declared.number.Valuation.{Valuation}
 use Rattle.integer.specs.Split.{split, split-all}
 use Rattle.sheet.specs.declared.Sheet.{Sheet}
 use Rattle.reading.specs.declared.Reading.{Reading}
@@ -30,7 +34,6 @@ use Rattle.sweep.specs.Reply.{SweepReply, blankReply, inRange, outside, 
 use Rattle.sweep.specs.TableReply.{placedBy, placedOf, sweptTable, sheetTable}
 use Rattle.walk.specs.Walked.{sweepTable}
 use Rattle.sweep.specs.declared.reply.Placed.{Placed}
-use Rattle.sweep.specs.declared.reply.Placed.the-variants.{Inside, Outside}
 
 -- a number in a range fits as the range's ends do
 between : (a x b : ℤ) → leZ a x ≡ true → leZ x b ≡ true → SFits w16 a → SFits w16 b → SFits w16 x
@@ -65,52 +68,85 @@ told-outside range x b f e h = rw (toZ-ofZ w64 x f) at (sym e ∙ not-true b h)
 pub bits-inside : (range : Range) (x : ℤ) → SFits w64 x → inRange range x ≡ true → inRange range (toZ w64 (ofZ w64 x)) ≡ true
 bits-inside range x f h = rw (toZ-ofZ w64 x f) h
 
-pub three : {a b c a′ b′ c′ : ℤ} → a ≡ a′ → b ≡ b′ → c ≡ c′ → _≡_ {A = List ℤ} (a ∷ b ∷ c ∷ []) (a′ ∷ b′ ∷ c′ ∷ [])
-three d e f = λ i. d i ∷ e i ∷ f i ∷ []
+-- ---- the numbers one after another
+module _ (l : List Range) (xs : List ℤ) where
+  -- the first parameter outside its range, from place i on
+  abbrev left : ℕ → ℕ → Option ℕ
+  left i n = outside i (placesFrom blankRange l i n) (placesFrom (pos 0) xs i n)
 
-module _ (b : Ranges) (p q r : ℤ) where
-  abbrev numbers : List ℤ
-  numbers = p ∷ q ∷ r ∷ []
+  left-none : (i : ℕ) → left i 0 ≡ none
+  unfolding outside
+  left-none i = refl
 
-  pub outside-p : inRange (b .p) p ≡ false → Outside 0 ≡ placedOf (rangeList b) numbers
-  unfolding placedOf outside
-  outside-p h = rw h refl
+  left-in : (i n : ℕ) → inRange (getD l i blankRange) (getD xs i (pos 0)) ≡ true → left i (suc n) ≡ left (suc i) n
+  unfolding outside
+  left-in i n h = rw h refl
 
-  pub outside-q : inRange (b .p) p ≡ true → inRange (b .q) q ≡ false → Outside 1 ≡ placedOf (rangeList b) numbers
-  unfolding placedOf outside
-  outside-q h k = rw (h, k) refl
+  left-out : (i n : ℕ) → inRange (getD l i blankRange) (getD xs i (pos 0)) ≡ false → left i (suc n) ≡ some i
+  unfolding outside
+  left-out i n h = rw h refl
 
-  pub outside-r : inRange (b .p) p ≡ true → inRange (b .q) q ≡ true → inRange (b .r) r ≡ false → Outside 2 ≡ placedOf (rangeList b) numbers
-  unfolding placedOf outside
-  outside-r h k l = rw (h, k, l) refl
+  -- the first i numbers lie in their ranges and are put into the valuation
+  pub record Placing (i : ℕ) (v : Valuation) : Type 0 where
+    pub few : i ≤ PARAMETERS
+    pub rest : left 0 PARAMETERS ≡ left i (PARAMETERS - i)
+    pub filled : v .numbers ≡ filledTo (λ k. getD xs k (pos 0)) i
 
-  pub all-inside : {x y z : ℤ} → x ≡ p → y ≡ q → z ≡ r → inRange (b .p) p ≡ true → inRange (b .q) q ≡ true → inRange (b .r) r ≡ true
-      → Inside (record { p = x; q = y; r = z }) ≡ placedOf (rangeList b) numbers
-  unfolding placedOf outside
-  all-inside d e f h k l = rw (d, e, f, h, k, l) refl
+  pub placing-start : Placing 0 zeroValuation
+  placing-start = record { few = omega arith; rest = refl; filled = sym (filled-none (λ k. getD xs k (pos 0))) }
+
+  one-left : (i : ℕ) → i < PARAMETERS → PARAMETERS - i ≡ suc (PARAMETERS - suc i)
+  one-left i h = omega arith
+
+  pub placing-turn : (i : ℕ) (v : Valuation) (x : ℤ) → i < PARAMETERS → Placing i v
+      → inRange (getD l i blankRange) (getD xs i (pos 0)) ≡ true → x ≡ getD xs i (pos 0)
+      → Placing (i + 1) (record { numbers = set (v .numbers) i x })
+  placing-turn i v x h g r e =
+      record {
+        few = omega arith;
+        rest =
+            g .rest ∙ ap (left i) (one-left i h) ∙ left-in i (PARAMETERS - suc i) r
+            ∙ ap (λ (j : ℕ). left j (PARAMETERS - j)) (sym (add-one i));
+        filled =
+            ap (λ (k : List ℤ). set k i x) (g .filled) ∙ filled-next (λ k. getD xs k (pos 0)) i x e;
+      }
+
+  pub placing-out : (i : ℕ) (v : Valuation) → i < PARAMETERS → Placing i v
+      → inRange (getD l i blankRange) (getD xs i (pos 0)) ≡ false
+      → record { inside = false; index = i; valuation = zeroValuation } ≡ placedOf (placesFrom blankRange l 0 PARAMETERS) (four xs)
+  unfolding placedOf
+  placing-out i v h g r =
+      sym (ap (placedBy (four xs)) (g .rest ∙ ap (left i) (one-left i h) ∙ left-out i (PARAMETERS - suc i) r))
+
+  pub placing-all : (i : ℕ) (v : Valuation) → (i < PARAMETERS → ⊥) → Placing i v
+      → record { inside = true; index = 0; valuation = v } ≡ placedOf (placesFrom blankRange l 0 PARAMETERS) (four xs)
+  unfolding placedOf
+  placing-all i v h g =
+      let k : PARAMETERS ≡ i = omega (arith, g .few) in
+      let none-left : left 0 PARAMETERS ≡ none = g .rest ∙ ap (λ (j : ℕ). left j (PARAMETERS - j)) (sym k) ∙ left-none PARAMETERS in
+      ap (λ (n : List ℤ). record { inside = true; index = 0; valuation = record { numbers = n } })
+      (g .filled ∙ filled-all (λ j. getD xs j (pos 0)) i (g .few) h)
+      ∙ sym (ap (placedBy (four xs)) none-left)
 
 -- ---- the reply for a sheet
-abbrev replied : Sheet → Placed → SweepReply → Type 0
-replied s (Inside v) reply = reply ≡ sweptTable (sweepTable s (point v))
-replied s (Outside k) reply = reply ≡ blankReply (numbered 6 k)
+module _ (s : Sheet) (xs : List ℤ) (x : Placed) (e : x ≡ placedOf (rangeList (s .ranges)) (four xs)) (reply : SweepReply) where
+  pub inside-reply : x .inside ≡ true → reply ≡ sweptTable (sweepTable s (point (x .valuation))) → reply ≡ sheetTable s (four xs)
+  unfolding placedOf sheetTable
+  inside-reply = by (outside 0 (rangeList (s .ranges)) (four xs)) e
+    where
+      by : (o : Option ℕ) → x ≡ placedBy (four xs) o → x .inside ≡ true → reply ≡ sweptTable (sweepTable s (point (x .valuation)))
+          → reply ≡ orOutside (sweptTable (sweepTable s (four xs))) o
+      by none f h g = g ∙ ap (λ (y : Placed). sweptTable (sweepTable s (point (y .valuation)))) f
+      by (some k) f h g = let q = sym h ∙ ap (λ (y : Placed). y .inside) f in apart cc
 
--- the same at numbers that were passed as their bits
-pub same-numbers : (s : Sheet) {p q r p′ q′ r′ : ℤ} → p ≡ p′ → q ≡ q′ → r ≡ r′ → {reply : SweepReply}
-    → reply ≡ sheetTable s (p ∷ q ∷ r ∷ []) → reply ≡ sheetTable s (p′ ∷ q′ ∷ r′ ∷ [])
-same-numbers s d e f h = h ∙ ap (sheetTable s) (three d e f)
-
--- what `in_ranges` answered, and then the sweep or refusal 6
-pub placed-reply : (s : Sheet) (p q r : ℤ) (x : Placed) → x ≡ placedOf (rangeList (s .ranges)) (p ∷ q ∷ r ∷ []) → (reply : SweepReply)
-    → replied s x reply → reply ≡ sheetTable s (p ∷ q ∷ r ∷ [])
-unfolding placedOf sheetTable
-placed-reply s p q r x e reply h = by (outside 0 (rangeList (s .ranges)) v) (subst (λ (y : Placed). replied s y reply) e h)
-  where
-    v : List ℤ
-    v = p ∷ q ∷ r ∷ []
-
-    by : (o : Option ℕ) → replied s (placedBy v o) reply → reply ≡ orOutside (sweptTable (sweepTable s v)) o
-    by none g = g
-    by (some k) g = g
+  pub outside-reply : x .inside ≡ false → reply ≡ blankReply (numbered 6 (x .index)) → reply ≡ sheetTable s (four xs)
+  unfolding placedOf sheetTable
+  outside-reply = by (outside 0 (rangeList (s .ranges)) (four xs)) e
+    where
+      by : (o : Option ℕ) → x ≡ placedBy (four xs) o → x .inside ≡ false → reply ≡ blankReply (numbered 6 (x .index))
+          → reply ≡ orOutside (sweptTable (sweepTable s (four xs))) o
+      by none f h g = let q = sym h ∙ ap (λ (y : Placed). y .inside) f in apart cc
+      by (some k) f h g = g ∙ ap (λ (y : Placed). blankReply (numbered 6 (y .index))) f
 
 -- ---- the whole reply
 pub fine-reply : (file : List ℕ) (v : List ℤ) (reading : Reading) → readAs reading ≡ readOf file → reading .checked ≡ checked.Fine
@@ -127,6 +163,7 @@ unfolding readReply
 refused-as sheet v Size = refl
 refused-as sheet v (Contents at) = refl
 refused-as sheet v (Body at) = refl
+refused-as sheet v Valuations = refl
 refused-as sheet v (Route at) = refl
 
 pub refused-reply : (file : List ℕ) (v : List ℤ) (reading : Reading) → readAs reading ≡ readOf file → (r : Refusal)

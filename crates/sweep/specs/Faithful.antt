@@ -2,14 +2,13 @@
 use mathlib.Core.Path.{_≡_, refl, _∙_, ap}
 use mathlib.Core.List.{List, [], _∷_}
 use mathlib.Core.Option.{Option, none, some}
-use Prim.{Unit}
 use Prim.Native.Nat.{ℕ, zero-le}
 use lib.Dec.{lit≤}
-use lib.IntN.{ℤ}
+use lib.IntN.{ℤ, pos}
 use Rattle.dbm.specs.Matrix.{Matrix, Outcome, void, kept}
 use Rattle.weight.specs.Upper.{Upper, zeroW}
 use Rattle.expr.specs.Ranges.{Inside}
-use Rattle.expr.specs.Three.{rangeList}
+use Rattle.expr.specs.Records.{PARAMETERS, blankRange, rangeList}
 use Rattle.expr.specs.declared.range.Range.{Range}
 use Rattle.integer.specs.Order.{≤ℤ-trans}
 use Rattle.sheet.specs.declared.Sheet.{Sheet}
@@ -24,7 +23,8 @@ use Rattle.sweep.specs.TableReply.{sweptTable, sheetTable}
 use Rattle.walk.specs.Walked.{sweepTable}
 use Rattle.concrete.specs.Walk.{sweepAlong, sweepAt}
 use Rattle.timed.specs.Automaton.{routeOf}
-use Rattle.timed.specs.Right.{steps-right}
+use Rattle.timed.specs.Lists.{AllOf}
+use Rattle.timed.specs.Right.{filled-at, places-all, steps-right}
 use Rattle.timed.specs.Steps.{stepsOf}
 
 -- a matrix that Sweep comes to is zero at (0, 0)
@@ -49,19 +49,21 @@ swept-coded (kept m) z =
     refl
 
 -- ranges of small numbers
-abbrev SmallRanges : List Range → Type 0
-SmallRanges [] = Unit {0}
-SmallRanges (r ∷ rs) = (Small (r .low) × Small (r .high)) × SmallRanges rs
+abbrev SmallRange : Range → Type 0
+SmallRange r = Small (r .low) × Small (r .high)
 
-in-small : (rs : List Range) (v : List ℤ) → SmallRanges rs → Inside v rs → Thousands v
+in-small : (rs : List Range) (v : List ℤ) → AllOf SmallRange rs → Inside v rs → Thousands v
 in-small [] [] f h = tt
 in-small [] (x ∷ v) f h = absurd h
 in-small (r ∷ rs) [] f h = absurd h
 in-small (r ∷ rs) (x ∷ v) f h =
     (record { least = ≤ℤ-trans (f .0 .0 .least) (h .0 .least); most = ≤ℤ-trans (h .0 .most) (f .0 .1 .most) }, in-small rs v (f .1) (h .1))
 
-sheet-small : (s : Sheet) → WellFormed s → SmallRanges (rangeList (s .ranges))
-sheet-small s f = ((f .p .low, f .p .high), ((f .q .low, f .q .high), ((f .r .low, f .r .high), tt)))
+sheet-small : (s : Sheet) → WellFormed s → AllOf SmallRange (rangeList (s .ranges))
+sheet-small s f =
+    let zero : Small (pos 0) = record { least = record { le = tt }; most = record { le = tt } } in
+    places-all SmallRange blankRange (s .ranges .list) 0 PARAMETERS
+    (filled-at (f .ranges) SmallRange (λ r h. (h .low, h .high)) (zero, zero) (zero, zero))
 
 pub sheet-faithful : (s : Sheet) → WellFormed s → (v : List ℤ) → sheetTable s v ≡ sheetReply s v
 unfolding sheetTable sheetReply

@@ -13,7 +13,7 @@ use Rattle.dbm.specs.Matrix.{Matrix, Outcome, void, kept}
 use Rattle.dbm.specs.Entries.{up-to-4}
 use Rattle.weight.specs.Upper.{Upper}
 use Rattle.expr.specs.Ranges.{Inside}
-use Rattle.expr.specs.Three.{rangeList}
+use Rattle.expr.specs.Records.{rangeList}
 use Rattle.reading.specs.File.{Fine, readOf}
 use Rattle.reading.specs.Accepted.{read-well-formed}
 use Rattle.weight_matrix.specs.Records.{row}

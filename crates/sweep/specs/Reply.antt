@@ -1,6 +1,6 @@
--- What Sweep replies, for every file and every valuation (paper 01, rows 2 to 6 of "When no piece is given", and "Runs"), in the paper's
--- numbers: refused by 2 to 5, the whole file for each; else by 6; else 1, void, or 0, a run, with the matrix of tightest bounds. With a
--- refusal or void every entry is zero, not strict.
+-- What Sweep replies, for every file and every valuation (paper 01, rows 2 to 6 of "When no piece is given", and "Runs"), in the
+-- paper's numbers: refused by 2 to 4, 16 or 5, the whole file for each; else by 6; else 1, void, or 0, a run, with the matrix of
+-- tightest bounds. With a refusal or void every entry is zero, not strict.
 use mathlib.Core.List.{List, [], _∷_}
 use mathlib.Core.Bool.{Bool, cond, _&&_}
 use mathlib.Core.Option.{Option, none, some}
@@ -12,7 +12,7 @@ use lib.Signed.{leZ}
 use Rattle.answers.specs.Numbers.{numbered, sweepAs}
 use Rattle.answers.specs.declared.Numbered.{Numbered}
 use Rattle.dbm.specs.Matrix.{Outcome, void, kept}
-use Rattle.expr.specs.Three.{rangeList}
+use Rattle.expr.specs.Records.{rangeList}
 use Rattle.expr.specs.declared.range.Range.{Range}
 use Rattle.weight.specs.declared.Weight.{Weight}
 use Rattle.reading.specs.File.{Read, readOf}
@@ -71,7 +71,7 @@ orOutside reply (some k) = blankReply (numbered 6 k)
 unfoldable pub sheetReply : Sheet → List ℤ → SweepReply
 sheetReply s v = orOutside (swept (sweepAt s v)) (outside 0 (rangeList (s .ranges)) v)
 
--- refusals 2 to 5, else what follows them
+-- refusals 2 to 5 and 16, else what follows them
 unfoldable pub readReply : Read → List ℤ → SweepReply
 readReply r v = cond (eqb (r .answer .number) 0) (sheetReply (r .sheet) v) (blankReply (r .answer))
 

@@ -1,23 +1,22 @@
 -- What the code replies, with its matrix as a table.
 use mathlib.Core.List.{List, [], _∷_}
-use mathlib.Core.Bool.{cond}
+use mathlib.Core.Bool.{true, false, cond}
 use mathlib.Core.Option.{Option, none, some}
 use Prim.Native.Nat.{ℕ}
 use lib.IntN.{ℤ}
 use Rattle.answers.specs.Numbers.{numbered}
-use Rattle.expr.specs.Three.{rangeList, valuationOf}
+use Rattle.expr.specs.Records.{rangeList, valuationOf, zeroValuation}
 use Rattle.expr.specs.declared.range.Range.{Range}
 use Rattle.sheet.specs.declared.Sheet.{Sheet}
 use Rattle.sweep.specs.Reply.{SweepReply, rowRecord, blankReply, outside, orOutside}
 use Rattle.weight_matrix.specs.Tables.{Table, rowOf, isVoid}
 use Rattle.walk.specs.Walked.{sweepTable}
 use Rattle.sweep.specs.declared.reply.Placed.{Placed}
-use Rattle.sweep.specs.declared.reply.Placed.the-variants.{Inside, Outside}
 
 -- a valuation in the ranges, or the first parameter outside
 abbrev pub placedBy : List ℤ → Option ℕ → Placed
-placedBy v none = Inside (valuationOf v)
-placedBy v (some k) = Outside k
+placedBy v none = record { inside = true; index = 0; valuation = valuationOf v }
+placedBy v (some k) = record { inside = false; index = k; valuation = zeroValuation }
 
 unfoldable pub placedOf : List Range → List ℤ → Placed
 placedOf rs v = placedBy v (outside 0 rs v)

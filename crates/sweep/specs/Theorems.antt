@@ -9,7 +9,7 @@ use Rattle.dbm.specs.Matrix.{Outside}
 use Rattle.weight.specs.Upper.{Upper, zeroW}
 use Rattle.expr.specs.Ranges.{Inside}
 use Rattle.weight.specs.Records.{weightAs, zeroWeight}
-use Rattle.expr.specs.Three.{rangeList}
+use Rattle.expr.specs.Records.{rangeList}
 use Rattle.reading.specs.File.{Fine, readOf}
 use Rattle.sheet.specs.declared.Sheet.{Sheet}
 use Rattle.sweep.specs.Reply.{SweepReply, rowRecord, zeroRows, replyOf}

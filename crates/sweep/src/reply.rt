@@ -1,5 +1,6 @@
-// What Sweep replies for a sheet and three numbers.
+// What Sweep replies for a sheet and a number for each parameter.
 use answers::sweep::Answer;
+use expr::PARAMETERS;
 use expr::Range;
 use expr::Ranges;
 use expr::Valuation;
@@ -8,9 +9,8 @@ use weight::Weight;
 ghost use mathlib.Core.Path.{_≡_};
 ghost use Prim.Native.Nat.{_<_};
 ghost use mathlib.Core.Bool.{true};
-ghost use mathlib.Core.List.{[], _∷_};
 ghost use Rattle.answers.specs.Numbers.{sweepAs};
-ghost use Rattle.expr.specs.Three.{rangeList};
+ghost use Rattle.expr.specs.Records.{four, rangeList};
 ghost use Rattle.sweep.specs.Reply.{replyAs, blankReply, inRange};
 ghost use Rattle.sweep.specs.TableReply.{placedOf, sweptTable, sheetTable};
 
@@ -25,10 +25,16 @@ pub struct Reply {
     pub rows: [Row; 5],
 }
 
-// A valuation in the ranges, or the index of the first parameter outside its range.
-pub(crate) enum Placed {
-    Inside(Valuation),
-    Outside(usize),
+// A number for each parameter; 0 for one that the sheet lacks.
+pub struct Numbers {
+    pub list: [i64; PARAMETERS],
+}
+
+// Numbers that lie in the ranges, as a valuation, with index 0; or the index of the first one outside its range, with zeros.
+pub(crate) struct Placed {
+    pub inside: bool,
+    pub index: usize,
+    pub valuation: Valuation,
 }
 
 // An answer without a matrix.
@@ -81,37 +87,40 @@ fn value_in(range: Range, x: i64) -> i16
     x as i16
 }
 
-// Where three numbers stand.
-fn in_ranges(b: Ranges, p: i64, q: i64, r: i64) -> Placed
-    ensures { λ x. ⌜ x ≡ placedOf (rangeList b) (p ∷ q ∷ r ∷ []) ⌝ }
+// Where numbers stand.
+fn in_ranges(b: Ranges, numbers: Numbers) -> Placed
+    ensures { λ x. ⌜ x ≡ placedOf (rangeList b) (four (numbers .list)) ⌝ }
 {
-    let range_p = b.p;
-    let range_q = b.q;
-    let range_r = b.r;
-    if !in_range(range_p, p) {
-        return Placed::Outside(0);
+    let mut v = Valuation::ZERO;
+    let mut i = 0;
+    while i < PARAMETERS {
+        let range = b.list[i];
+        let x = numbers.list[i];
+        if !in_range(range, x) {
+            return Placed {
+                inside: false,
+                index: i,
+                valuation: Valuation::ZERO,
+            };
+        }
+        v.numbers[i] = value_in(range, x);
+        i += 1;
     }
-    if !in_range(range_q, q) {
-        return Placed::Outside(1);
+    Placed {
+        inside: true,
+        index: 0,
+        valuation: v,
     }
-    if !in_range(range_r, r) {
-        return Placed::Outside(2);
-    }
-    Placed::Inside(Valuation {
-        p: value_in(range_p, p),
-        q: value_in(range_q, q),
-        r: value_in(range_r, r),
-    })
 }
 
 // The reply for a sheet: refusal 6, or the sweep.
-pub(crate) fn reply_for(s: Sheet, p: i64, q: i64, r: i64) -> Reply
-    ensures { λ x. ⌜ replyAs x ≡ sheetTable s (p ∷ q ∷ r ∷ []) ⌝ }
+pub(crate) fn reply_for(s: Sheet, numbers: Numbers) -> Reply
+    ensures { λ x. ⌜ replyAs x ≡ sheetTable s (four (numbers .list)) ⌝ }
 {
     let ranges = s.ranges;
-    let placed = in_ranges(ranges, p, q, r);
-    match placed {
-        Placed::Inside(v) => swept(walk::walk(s, v)),
-        Placed::Outside(index) => blank(Answer::Outside(index)),
+    let placed = in_ranges(ranges, numbers);
+    if placed.inside {
+        return swept(walk::walk(s, placed.valuation));
     }
+    blank(Answer::Outside(placed.index))
 }

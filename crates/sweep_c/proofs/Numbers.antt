@@ -7,18 +7,19 @@ use lib.IntN.{ℤ}
 use Rattle.answers.specs.Numbers.{refusalAs, sweepAs}
 use Rattle.answers.specs.declared.Numbered.{Numbered}
 use Rattle.answers.specs.declared.file.Refusal.{Refusal}
-use Rattle.answers.specs.declared.file.Refusal.the-variants.{Size, Contents, Body, Route}
+use Rattle.answers.specs.declared.file.Refusal.the-variants.{Size, Contents, Body, Valuations, Route}
 use Rattle.answers.specs.declared.sweep.Answer.{Answer}
 use Rattle.answers.specs.declared.sweep.Answer.the-variants as answer
 use Rattle.sweep.specs.Reply.{replyOf}
 
-refusal-small : (r : Refusal) → refusalAs r .number ≤ 6
+refusal-small : (r : Refusal) → refusalAs r .number ≤ 16
 refusal-small Size = omega arith
 refusal-small (Contents at) = omega arith
 refusal-small (Body at) = omega arith
+refusal-small Valuations = omega arith
 refusal-small (Route at) = omega arith
 
-answer-small : (a : Answer) → sweepAs a .number ≤ 6
+answer-small : (a : Answer) → sweepAs a .number ≤ 16
 answer-small answer.Run = omega arith
 answer-small answer.Void = omega arith
 answer-small (answer.Refused r) = refusal-small r
@@ -28,6 +29,6 @@ pub fits : (n : Numbered) (a : Answer) → n ≡ sweepAs a → n .number < 2 ^ 6
 fits n a e = rw e (omega (arith, answer-small a))
 
 -- the reply at numbers that were passed as their bits
-pub same-reply : (file : List ℕ) {p q r p′ q′ r′ : ℤ} → p ≡ p′ → q ≡ q′ → r ≡ r′
-    → replyOf file (p ∷ q ∷ r ∷ []) ≡ replyOf file (p′ ∷ q′ ∷ r′ ∷ [])
-same-reply file d e f = λ i. replyOf file (d i ∷ e i ∷ f i ∷ [])
+pub same-reply : (file : List ℕ) {a b c d a′ b′ c′ d′ : ℤ} → a ≡ a′ → b ≡ b′ → c ≡ c′ → d ≡ d′
+    → replyOf file (a ∷ b ∷ c ∷ d ∷ []) ≡ replyOf file (a′ ∷ b′ ∷ c′ ∷ d′ ∷ [])
+same-reply file e f g h = λ i. replyOf file (e i ∷ f i ∷ g i ∷ h i ∷ [])

@@ -8,12 +8,11 @@ use native.Mathlib.Omega.{arith}
 use lib.Dec.{ltb}
 use lib.ListN.{length, getD, take, length-take, List·getD-eq-default}
 use borrow.Author.Tests.{ltb-true, ltb-false}
-use lib.IntN.{ℤ}
-use lib.Signed.{≤ℤ-refl}
-use Rattle.expr.specs.Ranges.{In, Inside}
-use Rattle.expr.specs.Three.{rangeList}
+use lib.IntN.{ℤ, pos}
+use lib.Signed.{_≤ℤ_, ≤ℤ-refl}
+use Rattle.expr.specs.Ranges.{Inside}
+use Rattle.expr.specs.Records.{PARAMETERS, placesFrom, blankRange, rangeList}
 use Rattle.expr.specs.declared.range.Range.{Range}
-use Rattle.parameters.specs.Right.{RangeRight}
 use Rattle.guards.specs.declared.Guard.{Guard}
 use Rattle.sheet.specs.declared.Sheet.{Sheet}
 use Rattle.automaton.specs.Automaton.{blankLocation, blankTransition}
@@ -69,6 +68,11 @@ module _ {A : Type 0} {n count : ℕ} {d blank : A} {P : A → Type 0} {l : List
 
   pub filled-at : (k : ℕ) → Q (getD l k d)
   filled-at k = by-count k (ltb k count) refl
+
+-- a number for each parameter, or whatever stands for it
+pub places-all : {A : Type 0} (P : A → Type 0) (d : A) (l : List A) (i n : ℕ) → ((k : ℕ) → P (getD l k d)) → AllOf P (placesFrom d l i n)
+places-all P d l i zero h = tt
+places-all P d l i (suc n) h = (h i, places-all P d l (suc i) n h)
 
 -- ---- the guards of a sheet
 module _ {s : Sheet} (f : WellFormed s) where
@@ -126,10 +130,14 @@ module _ {s : Sheet} (f : WellFormed s) where
 
 -- ---- its ranges have a valuation: the lowest of each
 abbrev pub lowest : Sheet → List ℤ
-lowest s = s .ranges .p .low ∷ s .ranges .q .low ∷ s .ranges .r .low ∷ []
+lowest s = map (λ r. r .low) (rangeList (s .ranges))
 
-lowest-in : (n k : ℕ) (r : Range) → RangeRight n k r → In (r .low) r
-lowest-in n k r h = record { least = ≤ℤ-refl (r .low); most = h .order }
+places-inside : (l : List Range) (i n : ℕ) → ((k : ℕ) → getD l k blankRange .low ≤ℤ getD l k blankRange .high)
+    → Inside (map (λ r. r .low) (placesFrom blankRange l i n)) (placesFrom blankRange l i n)
+places-inside l i zero h = tt
+places-inside l i (suc n) h = (record { least = ≤ℤ-refl (getD l i blankRange .low); most = h i }, places-inside l (suc i) n h)
 
 pub lowest-inside : (s : Sheet) → WellFormed s → Inside (lowest s) (rangeList (s .ranges))
-lowest-inside s f = (lowest-in _ _ _ (f .p), (lowest-in _ _ _ (f .q), (lowest-in _ _ _ (f .r), tt)))
+lowest-inside s f =
+    places-inside (s .ranges .list) 0 PARAMETERS
+    (filled-at (f .ranges) (λ r. r .low ≤ℤ r .high) (λ r h. h .order) (≤ℤ-refl (pos 0)) (≤ℤ-refl (pos 0)))

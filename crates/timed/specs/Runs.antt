@@ -10,7 +10,7 @@ use lib.IntN.{ℤ, pos, _+ℤ_, _-ℤ_, _*ℤ_}
 use lib.Signed.{_≤ℤ_, _<ℤ_}
 use Rattle.expr.specs.Affine.{value}
 use Rattle.weight.specs.Upper.{Upper, none, upper}
-use Rattle.expr.specs.Three.{affine}
+use Rattle.expr.specs.Records.{affine}
 use Rattle.guards.specs.declared.Guard.{Guard}
 use Rattle.sheet.specs.declared.Sheet.{Sheet}
 use Rattle.timed.specs.Automaton.{invariants, guardsOf, transitionAt, routeOf}

@@ -1,7 +1,7 @@
 // Digests of a sheet and of what `body` hands out. Each number x goes into a digest as x + 2147483648.
 //
-// The numbers of a sheet are all its fields in the file's order, those of the places past a count
-// too. The numbers of the bodies are, for each kind from 0 to 5, the refusal's number and place (0
+// The numbers of a sheet are its version and all fields of its bodies in the file's order, those of
+// the places past a count too. The numbers of the bodies are, for each kind from 0 to 5, the refusal's number and place (0
 // and 0 for none), the length of the part, and its bytes.
 use automaton::Location;
 use automaton::Transition;
@@ -37,9 +37,10 @@ fn with_signed(h: u64, x: i64) -> u64 {
 // The digest with an expression: its constant and its coefficients.
 fn with_expr(h: u64, expr: Expr) -> u64 {
     let constant = with_signed(h, wide(expr.constant));
-    let p = with_signed(constant, wide(expr.p));
-    let q = with_signed(p, wide(expr.q));
-    with_signed(q, wide(expr.r))
+    let p = with_signed(constant, wide(expr.coefs[0]));
+    let q = with_signed(p, wide(expr.coefs[1]));
+    let r = with_signed(q, wide(expr.coefs[2]));
+    with_signed(r, wide(expr.coefs[3]))
 }
 
 // The relation of a bound: 0 at most, 1 below; 2 if there is none, which no guard has.
@@ -77,11 +78,12 @@ fn with_range(h: u64, range: Range) -> u64 {
     with_signed(low, wide16(range.high))
 }
 
-// The digest with the three ranges.
+// The digest with the four ranges.
 fn with_ranges(h: u64, ranges: Ranges) -> u64 {
-    let p = with_range(h, ranges.p);
-    let q = with_range(p, ranges.q);
-    with_range(q, ranges.r)
+    let p = with_range(h, ranges.list[0]);
+    let q = with_range(p, ranges.list[1]);
+    let r = with_range(q, ranges.list[2]);
+    with_range(r, ranges.list[3])
 }
 
 // The digest with a location.
@@ -132,7 +134,8 @@ pub(crate) fn digest(sheet: Sheet) -> u64 {
     let location = sheet.location;
     let transition = sheet.transition;
     let route = sheet.route;
-    let parameters = with_ranges(with_count(0, sheet.parameters), ranges);
+    let version = with_count(0, sheet.version);
+    let parameters = with_ranges(with_count(version, sheet.parameters), ranges);
     let clocks = with_count(parameters, sheet.clocks);
     let locations = with_locations(with_count(clocks, sheet.locations), location);
     let transitions = with_transitions(with_count(locations, sheet.transitions), transition);

@@ -1,12 +1,13 @@
 // Reads the records that are stored one after the other in `sweeps.bin`: the length of a sheet file
 // (two bytes, the low one first) and its bytes, a count of valuations (one byte), and each valuation
-// as three numbers of eight bytes. It writes a line for each record: the length, and what Sweep
+// as four numbers of eight bytes. It writes a line for each record: the length, and what Sweep
 // answers at each valuation as N/P/D, the answer's number, its place and a digest of its matrix. The
 // lines that it must write come from reference/.
 mod digest;
 mod number;
 
 use libc::STDOUT_FILENO;
+use sweep::Numbers;
 
 // Writes a number.
 fn print_number(n: usize) {
@@ -20,8 +21,8 @@ fn not_whole() -> bool {
 }
 
 // Writes what Sweep answers at a valuation.
-fn print_answer(file: &[u8], p: i64, q: i64, r: i64) {
-    let reply = sweep::sweep(file, p, q, r);
+fn print_answer(file: &[u8], numbers: Numbers) {
+    let reply = sweep::sweep(file, numbers);
     let answer = reply.answer;
     let rows = reply.rows;
     let numbered = answers::sweep::numbered(answer);
@@ -35,14 +36,16 @@ fn print_answer(file: &[u8], p: i64, q: i64, r: i64) {
 
 // Reads the next valuation and writes what Sweep answers, and answers whether it was there.
 fn print_next_answer(fd: i32, file: &[u8]) -> bool {
-    let mut bytes = [0u8; 24];
-    if io::read_full(fd, &mut bytes) < 24 {
+    let mut bytes = [0u8; 32];
+    if io::read_full(fd, &mut bytes) < 32 {
         return false;
     }
     let p = number::number_at(bytes, 0);
     let q = number::number_at(bytes, 8);
     let r = number::number_at(bytes, 16);
-    print_answer(file, p, q, r);
+    let s = number::number_at(bytes, 24);
+    let numbers = Numbers { list: [p, q, r, s] };
+    print_answer(file, numbers);
     true
 }
 

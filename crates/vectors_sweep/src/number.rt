@@ -11,8 +11,8 @@ fn signed(n: u64) -> i64 {
 }
 
 // The number with sign of the eight bytes from a place on.
-pub(crate) fn number_at(b: [u8; 24], at: usize) -> i64
-    requires { ⌜ at ≤ 16 ⌝ }
+pub(crate) fn number_at(b: [u8; 32], at: usize) -> i64
+    requires { ⌜ at ≤ 24 ⌝ }
 {
     let first = two_bytes(b[at], b[at + 1]) as u64;
     let second = two_bytes(b[at + 2], b[at + 3]) as u64;

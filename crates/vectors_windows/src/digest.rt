@@ -1,6 +1,6 @@
-// The digest of the places of a table. The numbers of a place are: 1 if it is used and 0 otherwise, the three numbers with sign of its
-// first valuation, the count of inequalities, the four numbers with sign of each of the 24 inequalities, and for each of the 25 bounds in
-// row order 1 if it is none, 1 if it is strict, each 0 otherwise, and its four numbers with sign. A blank table has the digest 0.
+// The digest of the places of a table. The numbers of a place are: 1 if it is used and 0 otherwise, the four numbers with sign of its
+// first valuation, the count of inequalities, the five numbers with sign of each of the 24 inequalities, and for each of the 25 bounds in
+// row order 1 if it is none, 1 if it is strict, each 0 otherwise, and its five numbers with sign. A blank table has the digest 0.
 use expr::Bound;
 use expr::Expr;
 use expr::Valuation;
@@ -11,19 +11,21 @@ use stored::with_signed;
 use windows::Piece;
 ghost use Prim.Native.Nat.{_≤_};
 
-// The digest with the three numbers of a valuation.
+// The digest with the four numbers of a valuation.
 fn with_valuation(h: u64, v: Valuation) -> u64 {
-    let p = with_signed(h, wide16(v.p));
-    let q = with_signed(p, wide16(v.q));
-    with_signed(q, wide16(v.r))
+    let p = with_signed(h, wide16(v.numbers[0]));
+    let q = with_signed(p, wide16(v.numbers[1]));
+    let r = with_signed(q, wide16(v.numbers[2]));
+    with_signed(r, wide16(v.numbers[3]))
 }
 
-// The digest with the four numbers of an expression.
+// The digest with the five numbers of an expression.
 fn with_expr(h: u64, e: Expr) -> u64 {
     let constant = with_signed(h, wide(e.constant));
-    let p = with_signed(constant, wide(e.p));
-    let q = with_signed(p, wide(e.q));
-    with_signed(q, wide(e.r))
+    let p = with_signed(constant, wide(e.coefs[0]));
+    let q = with_signed(p, wide(e.coefs[1]));
+    let r = with_signed(q, wide(e.coefs[2]));
+    with_signed(r, wide(e.coefs[3]))
 }
 
 // The digest with a bound.

@@ -21,9 +21,7 @@ ghost use Prim.Native.Nat.{_≤_};
 fn filled() -> [Piece; 40] {
     let e = Expr {
         constant: -7,
-        p: 5,
-        q: -3,
-        r: 2,
+        coefs: [5, -3, 2, -9],
     };
     let b = Bound {
         none: true,
@@ -32,7 +30,9 @@ fn filled() -> [Piece; 40] {
     };
     let z = Piece {
         used: true,
-        first: Valuation { p: 4, q: -6, r: 8 },
+        first: Valuation {
+            numbers: [4, -6, 8, -1],
+        },
         count: 24,
         ineqs: [e; 24],
         bounds: [b; 25],

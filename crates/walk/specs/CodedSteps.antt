@@ -18,7 +18,7 @@ use Rattle.dbm.specs.Size.{AtMost, Small}
 use Rattle.weight.specs.Upper.{Upper, none, sumW, tighterW, zeroW, saturated}
 use Rattle.expr.specs.Bounds.{atV}
 use Rattle.weight.specs.Records.{weightOf, zeroWeight}
-use Rattle.expr.specs.Three.{boundAs}
+use Rattle.expr.specs.Records.{boundAs}
 use Rattle.weight.specs.declared.Weight.{Weight}
 use Rattle.guards.specs.declared.Guard.{Guard}
 use Rattle.weight_matrix.specs.Tables.{voidTable, rowOf, entryOf, sumC, tighterC, limitedEntry, limitedRow, limitedLine, limitedTable}
@@ -59,7 +59,7 @@ delayed-void w = refl
 
 -- ---- a guard
 module _ {w i j : ℕ} {m : Matrix (Upper ℤ)} {e : Upper ℤ} (four : w ≤ 4) (hi : i ≤ w) (hj : j ≤ w)
-    (small : Small w (2 ^ 57) m) (few : AtMost 3001000 e) where
+    (small : Small w (2 ^ 57) m) (few : AtMost 4001000 e) where
   -- the code's sums are exact here
   way-coded : (k l : ℕ) → k ≤ w → l ≤ w → sumC (sumC (weightOf (m k i)) (weightOf e)) (weightOf (m j l)) ≡ weightOf (way i j e m k l)
   way-coded k l hk hl = ap (λ (a : Weight). sumC a (weightOf (m j l))) (sum-of (m k i) e)

@@ -9,7 +9,7 @@ use Rattle.dbm.specs.Matrix.{Matrix, start, Outcome, void, kept}
 use Rattle.weight.specs.Upper.{Upper}
 use Rattle.expr.specs.Bounds.{atV}
 use Rattle.weight.specs.Records.{weightOf}
-use Rattle.expr.specs.Three.{boundAs}
+use Rattle.expr.specs.Records.{boundAs}
 use Rattle.guards.specs.declared.Guard.{Guard}
 use Rattle.sheet.specs.declared.Sheet.{Sheet}
 use Rattle.automaton.specs.declared.Transition.{Transition}

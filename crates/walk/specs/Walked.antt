@@ -7,7 +7,7 @@ use Rattle.automaton.specs.declared.Location.{Location}
 use Rattle.automaton.specs.declared.Transition.{Transition}
 use Rattle.expr.specs.Bounds.{atV}
 use Rattle.weight.specs.Records.{weightOf}
-use Rattle.expr.specs.Three.{boundAs}
+use Rattle.expr.specs.Records.{boundAs}
 use Rattle.guards.specs.declared.Guard.{Guard}
 use Rattle.sheet.specs.Lookup.{locationC, transitionC}
 use Rattle.sheet.specs.declared.Sheet.{Sheet}

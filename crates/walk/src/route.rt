@@ -8,7 +8,7 @@ use weight::Weight;
 ghost use mathlib.Core.Path.{_≡_};
 ghost use Prim.Native.Nat.{min};
 ghost use lib.ListN.{take};
-ghost use Rattle.expr.specs.Three.{point};
+ghost use Rattle.expr.specs.Records.{point};
 ghost use Rattle.walk.specs.Walked.{guardTable, guardsTable, stayTable, moveTable, startedTable, sweepTable};
 
 // The matrix after a guard (paper: limit) with v put in.

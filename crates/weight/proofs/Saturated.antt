@@ -40,7 +40,8 @@ module _ (a b x y : ℤ) (ea : a ≡ x) (eb : b ≡ y) (mx : Within 461168601842
 
   pub less-one-asks : SFits w64 (toZ w64 (ofZ w64 less) -ℤ pos 1)
   less-one-asks =
-      op-fits _-ℤ_ w64 less (pos 1) (y -ℤ x) (pos 1) less-is refl (difference-fits room y x my mx) (sfits-lit tt) (less-one-fits room y x my mx)
+      op-fits _-ℤ_ w64 less (pos 1) (y -ℤ x) (pos 1) less-is refl (difference-fits room y x my mx) (sfits-lit tt)
+      (less-one-fits room y x my mx)
 
   pub less-one-is : toZ w64 (ofZ w64 less) -ℤ pos 1 ≡ (y -ℤ x) -ℤ pos 1
   less-one-is = op-is _-ℤ_ w64 less (pos 1) (y -ℤ x) (pos 1) less-is refl (difference-fits room y x my mx) (sfits-lit tt)

@@ -7,6 +7,7 @@ use native.Mathlib.Omega.{arith}
 use borrow.Author.Tests.{lt-ltb, le-ltb}
 use lib.ListN.{length, getD, set, drop, length-set, drop-of-length-le}
 use mathlib.Core.Bool.{true}
+use Rattle.expr.specs.RecordLaws.{inside-any}
 use Rattle.expr.specs.declared.number.Valuation.{Valuation}
 use Rattle.expr.specs.declared.range.Ranges.{Ranges}
 use Rattle.windows_reply.specs.declared.Worked.{Worked}
@@ -15,12 +16,6 @@ use Rattle.zones.specs.declared.zone.Zone.{Zone}
 use Rattle.windows.specs.declared.table.Piece.{Piece}
 use Rattle.windows.specs.Pieces.{blankPiece}
 use Rattle.windows.specs.Table.{pieceIn, itemOf, itemsOf, items-length}
-
--- an element that the list has does not depend on the default
-any-default : {A : Type 0} (l : List A) (i : ℕ) (d e : A) → i < length l → getD l i d ≡ getD l i e
-any-default [] i d e h = absurd (not-suc-le-zero h)
-any-default (x ∷ l) zero d e h = refl
-any-default (x ∷ l) (suc i) d e h = any-default l i d e (le-of-suc-le-suc h)
 
 -- a piece with the first valuation that its zone holds
 pub piece-with : (b : Ranges) (z : Zone) (v : Valuation) → v ≡ pieceIn b z .first
@@ -34,7 +29,7 @@ module _ (work : Worked) (n i : ℕ) where
   unfolding itemOf
   item-in d p e l h k =
       rw (lt-ltb i (min (work .pieces) 32) (omega arith)) (k ∙ ap (pieceIn (work .ranges))
-      (any-default (work .zones) i d blankZone (omega arith)))
+      (inside-any (work .zones) i d blankZone (omega arith)))
 
   pub item-past : n ≡ min (work .pieces) 32 → n ≤ i → blankPiece ≡ itemOf work i
   unfolding itemOf

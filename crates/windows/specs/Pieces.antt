@@ -7,7 +7,7 @@ use lib.ListN.{length, replicate}
 use Rattle.coded.specs.Records.{zoneOf}
 use Rattle.cutting.specs.Cutting.{Zone}
 use Rattle.cutting.specs.FirstHeld.{firstHeld}
-use Rattle.expr.specs.Three.{rangeList, valuationOf, zeroBound, zeroExpr, zeroValuation}
+use Rattle.expr.specs.Records.{rangeList, valuationOf, zeroBound, zeroExpr, zeroValuation}
 use Rattle.expr.specs.declared.range.Ranges.{Ranges}
 use Rattle.windows_reply.specs.Reply.{WindowsReply}
 use Rattle.windows.specs.declared.table.Piece.{Piece}

@@ -15,7 +15,7 @@ use Rattle.cutting.specs.Cutting.{Listing, listed, refused, zonesOf}
 use Rattle.cutting.specs.Cutting as cutting
 use Rattle.cutting.specs.FirstHeld.{firstHeld}
 use Rattle.answers.specs.Numbers.{numbered}
-use Rattle.expr.specs.Three.{affine, rangeList, valuationOf}
+use Rattle.expr.specs.Records.{affine, rangeList, valuationOf}
 use Rattle.expr.specs.declared.range.Ranges.{Ranges}
 use Rattle.search.specs.Valuations.{first, numbersIn}
 use Rattle.cutting.specs.ShapeProof.{zones-shaped}

@@ -1,4 +1,4 @@
--- At most 32 pieces are listed, a refusal's number is at most 8, and by the number an answer is counted.
+-- At most 32 pieces are listed, a refusal's number is at most 16, and by the number an answer is counted.
 -- Assumes nothing.
 use mathlib.Core.Path.{_≡_, refl}
 use mathlib.Core.Bool.{Bool, true, false, cond}
@@ -11,7 +11,7 @@ use lib.IntN.{pos, negℤ}
 use Rattle.answers.specs.Numbers.{numbered, refusalAs, windowsAs, countsOf}
 use Rattle.answers.specs.declared.Numbered.{Numbered}
 use Rattle.answers.specs.declared.file.Refusal.{Refusal}
-use Rattle.answers.specs.declared.file.Refusal.the-variants.{Size, Contents, Body, Route}
+use Rattle.answers.specs.declared.file.Refusal.the-variants.{Size, Contents, Body, Valuations, Route}
 use Rattle.answers.specs.declared.windows.Answer.{Answer}
 use Rattle.answers.specs.declared.windows.Answer.the-variants as answer
 use Rattle.cutting.specs.Cutting.{Listing, listed, refused, zonesOf}
@@ -43,13 +43,14 @@ reply-few file n = by (ltb n 32) (eqb (readOf file .answer .number) 0)
 abbrev pub numberOf : Numbered → ℕ
 numberOf a = a .number
 
-refusal-small : (r : Refusal) → refusalAs r .number ≤ 8
+refusal-small : (r : Refusal) → refusalAs r .number ≤ 16
 refusal-small Size = omega arith
 refusal-small (Contents at) = omega arith
 refusal-small (Body at) = omega arith
+refusal-small Valuations = omega arith
 refusal-small (Route at) = omega arith
 
-pub number-small : (a : Answer) → windowsAs a .number ≤ 8
+pub number-small : (a : Answer) → windowsAs a .number ≤ 16
 number-small (answer.Listed c) = omega arith
 number-small answer.Small = omega arith
 number-small (answer.Refused r) = refusal-small r

@@ -11,19 +11,19 @@ use Rattle.answers.specs.Numbers.{numbered, checkedAs, refusalAs}
 use Rattle.answers.specs.declared.file.Checked.{Checked}
 use Rattle.answers.specs.declared.file.Checked.the-variants as checked
 use Rattle.answers.specs.declared.file.Refusal.{Refusal}
-use Rattle.answers.specs.declared.file.Refusal.the-variants.{Size, Contents, Body, Route}
+use Rattle.answers.specs.declared.file.Refusal.the-variants.{Size, Contents, Body, Valuations, Route}
 use Rattle.answers.specs.declared.windows.Answer.{Answer}
 use Rattle.answers.specs.declared.windows.Answer.the-variants as answer
 use Rattle.coded.specs.Records.{zonesIn}
+use Rattle.search.specs.SearchLaws.{count-few}
 use Rattle.search.specs.Valuations.{widths, count}
-use Rattle.expr.specs.Three.{affine, rangeList}
+use Rattle.expr.specs.Records.{affine, rangeList}
 use Rattle.expr.specs.declared.range.Ranges.{Ranges}
 use Rattle.reading.specs.declared.Reading.{Reading}
 use Rattle.sheet.specs.declared.Sheet.{Sheet}
 use Rattle.reading.specs.File.{Fine, Read, readAs, readOf}
 use Rattle.reading.specs.Accepted.{reading-well-formed}
 use Rattle.sheet.specs.WellFormed.{WellFormed}
-use Rattle.windows_reply.specs.Coded.{count-few}
 use Rattle.windows_reply.specs.Reply.{sheetReply, readReply, replyOf}
 use Rattle.windows_reply.specs.Work.{shownOf, blankShown, refusedBy, listedC}
 use Rattle.coded.specs.CodedRead.{keptC}
@@ -71,9 +71,14 @@ module _ (b : Ranges) (xs : List Zone) (k : ℕ) where
 abbrev pub noZone : Zone
 noZone = record { count = 0; ineqs = []; bounds = [] }
 
-pub held-few : (b : Ranges) (z : Zone) (n : ℕ) → n ≡ count (rangeList b) (map affine (take (z .count) (z .ineqs)))
-    → widths (rangeList b) ≤ 262144 → n ≤ 262144
-held-few b z n e h = let k = count-few (rangeList b) (map affine (take (z .count) (z .ineqs))) in omega arith
+-- what a zone holds, where the ranges have few valuations
+module _ (b : Ranges) (z : Zone) (n : ℕ) (e : n ≡ min (count (rangeList b) (map affine (take (z .count) (z .ineqs)))) 18446744073709551615)
+    (h : widths (rangeList b) ≤ 262144) where
+  pub held-is : n ≡ count (rangeList b) (map affine (take (z .count) (z .ineqs)))
+  held-is = let k = count-few (rangeList b) (map affine (take (z .count) (z .ineqs))) in omega arith
+
+  pub held-few : n ≤ 262144
+  held-few = let k = count-few (rangeList b) (map affine (take (z .count) (z .ineqs))) in omega arith
 
 module _ (b : Ranges) (zs : Zones) where
   pub listed-refused : (a : Answer) → 0 < zs .refusal → a ≡ refusedBy (zs .refusal) (zs .visit) → blankShown a ≡ listedC b zs
@@ -119,6 +124,7 @@ unfolding readReply zonesIn
 refused-as sheet Size = refl
 refused-as sheet (Contents at) = refl
 refused-as sheet (Body at) = refl
+refused-as sheet Valuations = refl
 refused-as sheet (Route at) = refl
 
 pub refused-reply : (file : List ℕ) (n : ℕ) (reading : Reading) → 32 ≤ n → readAs reading ≡ readOf file → (r : Refusal)

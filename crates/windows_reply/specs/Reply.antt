@@ -1,5 +1,6 @@
 -- What Windows replies, for every file and every count of places (paper 01, "When no piece is given"), in the paper's numbers: refusal
--- 1, then 2 to 5, the whole file for each, then 7 or 8, the first met in the order of cutting; else the zones in order, kept and cut.
+-- 1, then 2 to 4, 16 and 5, the whole file for each, then 7 or 8, the first met in the order of cutting; else the zones in order, kept
+-- and cut.
 use mathlib.Core.List.{List, []}
 use mathlib.Core.Bool.{cond}
 use Prim.Native.Nat.{ℕ}
@@ -11,7 +12,7 @@ use Rattle.answers.specs.declared.windows.Answer.{Answer}
 use Rattle.answers.specs.declared.windows.Counts.{Counts}
 use Rattle.cutting.specs.Cutting.{Zone, Listing, listed, refused, zonesOf}
 use Rattle.cutting.specs.Kept.{keptOf, cutOf}
-use Rattle.expr.specs.Three.{rangeList, zeroRanges}
+use Rattle.expr.specs.Records.{rangeList, zeroRanges}
 use Rattle.expr.specs.declared.range.Ranges.{Ranges}
 use Rattle.reading.specs.File.{Read, readOf}
 use Rattle.sheet.specs.declared.Sheet.{Sheet}
@@ -53,7 +54,7 @@ listingReply s (refused n visit) = refusedReply (numbered n visit)
 unfoldable pub sheetReply : Sheet → WindowsReply
 sheetReply s = listingReply s (zonesOf s)
 
--- refusals 2 to 5, else what follows them
+-- refusals 2 to 5 and 16, else what follows them
 unfoldable pub readReply : Read → WindowsReply
 readReply r = cond (eqb (r .answer .number) 0) (sheetReply (r .sheet)) (refusedReply (r .answer))
 

@@ -11,7 +11,7 @@ use Rattle.answers.specs.declared.windows.Answer.the-variants as answer
 use Rattle.answers.specs.declared.windows.Counts.{Counts}
 use Rattle.coded.specs.Records.{zonesIn}
 use Rattle.coded.specs.CodedRead.{keptC}
-use Rattle.expr.specs.Three.{rangeList, zeroRanges}
+use Rattle.expr.specs.Records.{rangeList, zeroRanges}
 use Rattle.expr.specs.declared.range.Ranges.{Ranges}
 use Rattle.search.specs.Valuations.{count}
 use Rattle.windows_reply.specs.Reply.{WindowsReply}

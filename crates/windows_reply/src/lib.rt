@@ -10,7 +10,7 @@ ghost use mathlib.Core.Path.{_≡_};
 ghost use Prim.Native.Nat.{_≤_};
 ghost use lib.ListN.{take};
 ghost use Rattle.search.specs.Valuations.{widths};
-ghost use Rattle.expr.specs.Three.{rangeList};
+ghost use Rattle.expr.specs.Records.{rangeList};
 ghost use Rattle.sheet.specs.WellFormed.{WellFormed};
 ghost use Rattle.windows_reply.specs.Reply.{sheetReply, replyOf};
 ghost use Rattle.windows_reply.specs.Work.{shown, shownOf, blankShown, refusedBy, listedC};

@@ -4,7 +4,7 @@ use mathlib.Core.Bool.{cond}
 use Prim.Native.Nat.{ℕ, suc}
 use lib.Dec.{eqb}
 use lib.ListN.{set, take, replicate}
-use Rattle.expr.specs.Three.{zeroBound, zeroExpr}
+use Rattle.expr.specs.Records.{zeroBound, zeroExpr}
 use Rattle.expr.specs.declared.range.Ranges.{Ranges}
 use Rattle.guards.specs.declared.Guard.{Guard}
 use Rattle.automaton.specs.declared.Location.{Location}

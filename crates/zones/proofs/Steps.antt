@@ -1,7 +1,7 @@
 -- The cases of the code's steps, with the branches' tests.
 use mathlib.Core.Path.{_≡_, refl, sym, ap, subst, _∙_}
 use mathlib.Core.List.{List, [], _∷_, _++_, map}
-use mathlib.Core.Bool.{Bool, true, false, _&&_}
+use mathlib.Core.Bool.{Bool, true, false, not, _&&_}
 use mathlib.Core.Option.{Option}
 use mathlib.Core.Option as option
 use Prim.Native.Nat.{ℕ, zero, suc, _+_, _≤_, _<_, min}
@@ -12,22 +12,25 @@ use lib.Dec.{ltb}
 use lib.IntN.{ℤ, pos, _+ℤ_, zero-*ℤ}
 use lib.Signed.{leZ}
 use lib.ListN.{length, getD, set, take, replicate}
-use lib.Seq.{take-all, take-suc, take-suc-set}
-use Rattle.integer.specs.Apart.{apart}
+use lib.Seq.{take-all, take-suc}
 use Rattle.expr.specs.Affine.{Affine, value, dot}
-use Rattle.expr.specs.Three.{affine, rangeList, valuationOf, zeroExpr, zeroValuation}
+use Rattle.expr.specs.Records.{PARAMETERS, affine, noExpr, rangeList, valuationOf, zeroExpr}
 use Rattle.search.specs.SearchLaws.{first-same, count-same}
-use Rattle.search.specs.System.{firstOf, exprs}
+use Rattle.search.specs.System.{exprsIn, isSome, solutionOf}
 use Rattle.search.specs.Valuations.{first, numbersIn, satisfies, count, valuations}
 use Rattle.expr.specs.declared.number.Expr.{Expr}
-use Rattle.expr.specs.declared.number.Valuation.{Valuation}
 use Rattle.expr.specs.declared.range.Ranges.{Ranges}
 use Rattle.search.specs.declared.search.Solution.{Solution}
-use Rattle.search.specs.declared.search.Solution.the-variants.{Found, Nothing}
-use Rattle.search.specs.declared.search.System.{System}
+use Rattle.zones.specs.System.{written}
+use Rattle.zones.specs.declared.system.System.{System}
+use Rattle.zones.proofs.Flat.{written-length, written-next}
 use Rattle.zones.specs.Zone.{plusC, moreC}
 use Rattle.zones.specs.Settled.{oppositeC, isNone, neverC, onC}
 use Rattle.zones.specs.declared.zone.Zone.{Zone}
+
+-- how many valuations are counted at most
+abbrev MOST : ℕ
+MOST = 18446744073709551615
 
 module _ (z : Zone) (e : Expr) where
   pub more-in : z .count < 24 → record { count = z .count + 1; ineqs = set (z .ineqs) (z .count) e; bounds = z .bounds } ≡ moreC z e
@@ -39,27 +42,15 @@ module _ (z : Zone) (e : Expr) where
   more-full h = rw (le-ltb (z .count) 24 h) refl
 
 -- ---- settling
-pub nothing-is : (b : Ranges) (z : Zone) (e : Expr) (s : System) (o : Solution)
-    → exprs s ≡ map affine (take (z .count) (z .ineqs) ++ (e ∷ [])) → o ≡ firstOf (first (rangeList b) (exprs s)) → o ≡ Nothing
-    → true ≡ neverC b z e
-unfolding neverC
-nothing-is b z e s o h k n =
-    subst (λ (l : List _). true ≡ isNone (first (rangeList b) l)) h (by (first (rangeList b) (exprs s)) (sym k ∙ n))
-  where
-    by : (v : Option (List ℤ)) → firstOf v ≡ Nothing → true ≡ isNone v
-    by option.none q = refl
-    by (option.some v) q = apart cc
+none-not-some : (o : Option (List ℤ)) → not (isSome o) ≡ isNone o
+none-not-some option.none = refl
+none-not-some (option.some v) = refl
 
-pub something-is : (b : Ranges) (z : Zone) (e : Expr) (s : System) (o : Solution) (x : _)
-    → exprs s ≡ map affine (take (z .count) (z .ineqs) ++ (e ∷ [])) → o ≡ firstOf (first (rangeList b) (exprs s)) → o ≡ Found x
-    → false ≡ neverC b z e
+pub never-is : (b : Ranges) (z : Zone) (e : Expr) (es : List Affine) (m : Bool)
+    → es ≡ map affine (take (z .count) (z .ineqs) ++ (e ∷ [])) → m ≡ isSome (first (rangeList b) es) → not m ≡ neverC b z e
 unfolding neverC
-something-is b z e s o x h k n =
-    subst (λ (l : List _). false ≡ isNone (first (rangeList b) l)) h (by (first (rangeList b) (exprs s)) (sym k ∙ n))
-  where
-    by : (v : Option (List ℤ)) → firstOf v ≡ Found x → false ≡ isNone v
-    by option.none q = apart cc
-    by (option.some v) q = refl
+never-is b z e es m h k =
+    ap not k ∙ none-not-some (first (rangeList b) es) ∙ ap (λ (l : List Affine). isNone (first (rangeList b) l)) h
 
 module _ (b : Ranges) (z : Zone) (e : Expr) (n : Bool) (hn : n ≡ neverC b z e) where
   pub on-no : n ≡ true → record { kind = 0; test = e } ≡ onC b z e
@@ -82,29 +73,43 @@ module _ (b : Ranges) (z : Zone) (e : Expr) (n : Bool) (hn : n ≡ neverC b z e)
     unfolding onC
     on-full h l = rw (sym hn ∙ k, never-opposite false h, le-ltb (z .count) 24 l) refl
 
--- ---- the zone's inequalities and one more, as a system
-pub system-turn : (list xs : List Expr) (i : ℕ) (d : Expr) → i < length list → i < length xs → take i list ≡ take i xs
-    → take (i + 1) (set list i (getD xs i d)) ≡ take (i + 1) xs
-system-turn list xs i d h k e =
-    rw (add-one i) (take-suc-set list i (getD xs i d) h ∙ ap (λ (l : List Expr). l ++ (getD xs i d ∷ [])) e ∙ sym (take-suc xs i d k))
+-- ---- the zone's inequalities and one more, for the search
+-- the first i are there
+pub record Copied (xs : List Expr) (n i : ℕ) (s : System) : Type 0 where
+  pub few : n ≤ 24
+  pub within : i ≤ n
+  pub long : length (s .numbers) ≡ 125
+  pub zone-long : length xs ≡ 24
+  pub same : exprsIn (s .numbers) i ≡ map affine (take i xs)
 
-pub system-done : (list xs : List Expr) (n i k : ℕ) (e : Expr) → n ≡ min k 24 → length xs ≡ 24 → length list ≡ 25 → i ≤ n → n ≤ i
-    → take i list ≡ take i xs
-    → map affine (take (n + 1) (set list n e)) ≡ map affine (take k xs ++ (e ∷ []))
-system-done list xs n i k e en lx ll a b h =
-    let same : i ≡ n = omega arith in
-    let room : n < length list = omega arith in
-    ap (map affine) (whole room (subst (λ (m : ℕ). take m list ≡ take m xs) same h ∙ cut n k en))
+pub copied-turn : (xs : List Expr) (n i : ℕ) (s : System) → Copied xs n i s → i < n
+    → Copied xs n (i + 1) (written s i (getD xs i noExpr))
+copied-turn xs n i s c h =
+    record {
+      few = c .few;
+      within = omega arith;
+      long = written-length s i (getD xs i noExpr) (omega (arith, c .few)) (c .long);
+      zone-long = c .zone-long;
+      same =
+          written-next s i (getD xs i noExpr) (omega (arith, c .few)) (c .long) (take i xs) (c .same)
+          ∙ ap (map affine)
+          (sym (take-suc xs i noExpr (omega (arith, c .few, c .zone-long))) ∙ ap (λ (m : ℕ). take m xs) (sym (add-one i)));
+    }
+
+pub copied-all : (xs : List Expr) (n i k : ℕ) (s : System) (e : Expr) → n ≡ min k 24 → Copied xs n i s → n ≤ i
+    → exprsIn (written s n e .numbers) (written s n e .count) ≡ map affine (take k xs ++ (e ∷ []))
+unfolding written
+copied-all xs n i k s e q c h =
+    let same : i ≡ n = omega (arith, c .within) in
+    written-next s n e (omega (arith, c .few)) (c .long) (take n xs)
+    (subst (λ (m : ℕ). exprsIn (s .numbers) m ≡ map affine (take m xs)) same (c .same))
+    ∙ ap (λ (l : List Expr). map affine (l ++ (e ∷ []))) (cut (ltb k 24) refl)
   where
-    whole : n < length list → take n list ≡ take k xs → take (n + 1) (set list n e) ≡ take k xs ++ (e ∷ [])
-    whole room t = rw (add-one n) (take-suc-set list n e room ∙ ap (λ (l : List Expr). l ++ (e ∷ [])) t)
-
-    cut : (n k : ℕ) → n ≡ min k 24 → take n xs ≡ take k xs
-    cut n k q = by (ltb k 24) refl
-      where
-        by : (t : Bool) → ltb k 24 ≡ t → take n xs ≡ take k xs
-        by true s = let l = ltb-true k 24 s in let same : n ≡ k = omega arith in ap (λ (m : ℕ). take m xs) same
-        by false s = let l = ltb-false k 24 s in take-all n xs (omega arith) ∙ sym (take-all k xs (omega arith))
+    cut : (t : Bool) → ltb k 24 ≡ t → take n xs ≡ take k xs
+    cut true s = let l = ltb-true k 24 s in let same : n ≡ k = omega arith in ap (λ (m : ℕ). take m xs) same
+    cut false s =
+        let l = ltb-false k 24 s in
+        take-all n xs (omega (arith, c .zone-long)) ∙ sym (take-all k xs (omega (arith, c .zone-long)))
 
 -- ---- 0 ≥ 0 is one more inequality that changes nothing
 dot-zeros : (n : ℕ) (v : List ℤ) → dot (replicate n (pos 0)) v ≡ pos 0
@@ -115,7 +120,7 @@ dot-zeros (suc n) (x ∷ v) = rw (zero-*ℤ x, dot-zeros n v) refl
 
 zero-value : (v : List ℤ) → value (affine zeroExpr) v ≡ pos 0
 unfolding value
-zero-value v = ap (λ (x : ℤ). pos 0 +ℤ x) (dot-zeros 3 v)
+zero-value v = ap (λ (x : ℤ). pos 0 +ℤ x) (dot-zeros PARAMETERS v)
 
 zero-satisfied : (xs : List Expr) (v : List ℤ) → satisfies (map affine (xs ++ (zeroExpr ∷ []))) v ≡ satisfies (map affine xs) v
 unfolding satisfies
@@ -123,24 +128,20 @@ zero-satisfied [] v = rw (zero-value v) refl
 zero-satisfied (x ∷ xs) v = ap (λ (b : Bool). leZ (pos 0) (value (affine x) v) && b) (zero-satisfied xs v)
 
 pub held-is : (b : Ranges) (xs : List Expr) (n : ℕ) (es : List Affine) → es ≡ map affine (xs ++ (zeroExpr ∷ []))
-    → n ≡ count (rangeList b) es → n ≡ count (rangeList b) (map affine xs)
+    → n ≡ min (count (rangeList b) es) MOST → n ≡ min (count (rangeList b) (map affine xs)) MOST
 unfolding count
-held-is b xs n es e h = h ∙ ap (count (rangeList b)) e
-    ∙ count-same _ _ (valuations (rangeList b)) (λ v i. zero-satisfied xs v)
+held-is b xs n es e h =
+    h ∙ ap (λ (m : ℕ). min m MOST)
+    (ap (count (rangeList b)) e ∙ count-same _ _ (valuations (rangeList b)) (λ v i. zero-satisfied xs v))
 
--- what the search answers, as a valuation of the code
-abbrev pub valuationAs : Solution → Valuation
-valuationAs (Found v) = v
-valuationAs Nothing = zeroValuation
-
-solution-as : (o : Option (List ℤ)) → valuationAs (firstOf o) ≡ valuationOf (numbersIn o)
+solution-as : (o : Option (List ℤ)) → solutionOf o .valuation ≡ valuationOf (numbersIn o)
 solution-as option.none = refl
 solution-as (option.some v) = refl
 
 pub first-held-is : (b : Ranges) (xs : List Expr) (o : Solution) (es : List Affine) → es ≡ map affine (xs ++ (zeroExpr ∷ []))
-    → o ≡ firstOf (first (rangeList b) es) → valuationAs o ≡ valuationOf (numbersIn (first (rangeList b) (map affine xs)))
+    → o ≡ solutionOf (first (rangeList b) es) → o .valuation ≡ valuationOf (numbersIn (first (rangeList b) (map affine xs)))
 unfolding first
 first-held-is b xs o es e h =
-    ap valuationAs (h ∙ ap (λ (l : List Affine). firstOf (first (rangeList b) l)) e)
+    ap (λ (x : Solution). x .valuation) (h ∙ ap (λ (l : List Affine). solutionOf (first (rangeList b) l)) e)
     ∙ solution-as (first (rangeList b) (map affine (xs ++ (zeroExpr ∷ []))))
     ∙ ap (λ (f : Option (List ℤ)). valuationOf (numbersIn f)) (first-same _ _ (valuations (rangeList b)) (λ v i. zero-satisfied xs v))

@@ -1,3 +1,4 @@
--- Zone has the records, Settled a test on a zone.
+-- Zone has the records, Settled a test on a zone, System inequalities as a flat list of numbers.
 pub mod Settled
+pub mod System
 pub mod Zone

@@ -7,10 +7,11 @@ use lib.Dec.{ltb}
 use lib.IntN.{ℤ}
 use lib.ListN.{take}
 use Rattle.expr.specs.Affine.{opposite, saturatedE}
-use Rattle.expr.specs.Three.{affine, exprOf, rangeList, zeroExpr}
+use Rattle.expr.specs.Records.{affine, exprOf, rangeList, zeroExpr}
 use Rattle.search.specs.Valuations.{first}
+use Rattle.expr.specs.declared.bound.Asked.{Asked}
+use Rattle.expr.specs.declared.bound.Asked.the-variants.{Yes, No, Ask}
 use Rattle.expr.specs.declared.bound.Test.{Test}
-use Rattle.expr.specs.declared.bound.Test.the-variants.{Yes, No, Ask}
 use Rattle.expr.specs.declared.number.Expr.{Expr}
 use Rattle.expr.specs.declared.range.Ranges.{Ranges}
 use Rattle.zones.specs.declared.settle.Verdict.{Verdict}
@@ -36,7 +37,10 @@ onC b z e =
     (cond (ltb (z .count) 24) (record { kind = 3; test = e }) (record { kind = 8; test = e })))
 
 -- the verdict on a test
+abbrev pub settledBy : Ranges → Zone → Asked → Expr → Verdict
+settledBy b z Yes e = record { kind = 1; test = zeroExpr }
+settledBy b z No e = record { kind = 0; test = zeroExpr }
+settledBy b z Ask e = onC b z e
+
 abbrev pub settledC : Ranges → Zone → Test → Verdict
-settledC b z Yes = record { kind = 1; test = zeroExpr }
-settledC b z No = record { kind = 0; test = zeroExpr }
-settledC b z (Ask e) = onC b z e
+settledC b z t = settledBy b z (t .asked) (t .expr)

@@ -3,7 +3,7 @@ use mathlib.Core.Bool.{cond}
 use Prim.Native.Nat.{suc}
 use lib.Dec.{ltb}
 use lib.ListN.{set, replicate}
-use Rattle.expr.specs.Three.{zeroExpr, zeroBound}
+use Rattle.expr.specs.Records.{zeroExpr, zeroBound}
 use Rattle.expr.specs.declared.number.Expr.{Expr}
 use Rattle.zones.specs.declared.zone.Zone.{Zone}
 

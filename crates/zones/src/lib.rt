@@ -1,5 +1,6 @@
 // Zones (paper: pieces) by value, and a test on one: settled, or what is left of the zone on each side of it.
 mod settle;
+mod system;
 mod zone;
 
 pub use settle::Verdict;

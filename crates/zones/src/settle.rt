@@ -1,17 +1,19 @@
 // A test on a zone: settled if all or none of its valuations (paper: settings) satisfy it; otherwise it splits the zone.
+use crate::system;
+use crate::system::System;
 use crate::zone;
 use crate::zone::Zone;
+use expr::Asked;
 use expr::Expr;
 use expr::Ranges;
 use expr::Test;
 use expr::Valuation;
-use search::Solution;
-use search::System;
 ghost use mathlib.Core.Path.{_≡_};
+ghost use Prim.Native.Nat.{min};
 ghost use mathlib.Core.List.{[], _∷_, _++_, map};
 ghost use lib.ListN.{take};
-ghost use Rattle.search.specs.System.{exprs};
-ghost use Rattle.expr.specs.Three.{affine, rangeList, valuationOf};
+ghost use Rattle.search.specs.System.{exprsIn};
+ghost use Rattle.expr.specs.Records.{affine, rangeList, valuationOf};
 ghost use Rattle.search.specs.Valuations.{first, numbersIn, count};
 ghost use Rattle.zones.specs.Zone.{moreC};
 ghost use Rattle.zones.specs.Settled.{oppositeC, neverC, onC, settledC};
@@ -22,59 +24,54 @@ pub struct Verdict {
     pub test: Expr,
 }
 
-// The zone's inequalities and one more.
+// The zone's inequalities and one more, for the search.
 fn system(zone: Zone, e: Expr) -> System
-    ensures { λ r. ⌜ exprs r ≡ map affine (take (zone .count) (zone .ineqs) ++ (e ∷ [])) ⌝ }
+    ensures { λ r. ⌜ exprsIn (r .numbers) (r .count) ≡ map affine (take (zone .count) (zone .ineqs) ++ (e ∷ [])) ⌝ }
 {
     let n = numbers::at_most(zone.count, 24);
-    let mut list = [Expr::ZERO; 25];
+    let mut list = System::EMPTY;
     let mut i = 0;
     while i < n {
         let x = zone.ineqs[i];
-        list[i] = x;
+        list = system::extended(list, i, x);
         i += 1;
     }
-    list[n] = e;
-    System { count: n + 1, list }
+    system::extended(list, n, e)
 }
 
-// How many valuations of the ranges a zone holds: those that meet all its inequalities.
+// How many valuations of the ranges a zone holds, those that meet all its inequalities; 2^64 - 1 if there are more.
 pub fn held(b: Ranges, zone: Zone) -> usize
-    ensures { λ n. ⌜ n ≡ count (rangeList b) (map affine (take (zone .count) (zone .ineqs))) ⌝ }
+    ensures { λ n. ⌜ n ≡ min (count (rangeList b) (map affine (take (zone .count) (zone .ineqs)))) 18446744073709551615 ⌝ }
 {
-    search::count(b, system(zone, Expr::ZERO))
+    let s = system(zone, Expr::ZERO);
+    search::count(b, &s.numbers, s.count)
 }
 
-// The first valuation of the ranges that a zone holds, comparing parameter 1, then 2, then 3, smaller first; zeros if it holds none.
+// The first valuation of the ranges that a zone holds, comparing parameter 1, then 2 and so on, smaller first; zeros if it holds none.
 pub fn first_held(b: Ranges, zone: Zone) -> Valuation
     ensures { λ v. ⌜ v ≡ valuationOf (numbersIn (first (rangeList b) (map affine (take (zone .count) (zone .ineqs))))) ⌝ }
 {
-    let found = search::first(b, system(zone, Expr::ZERO));
-    match found {
-        Solution::Found(v) => v,
-        Solution::Nothing => Valuation::ZERO,
-    }
+    let list = system(zone, Expr::ZERO);
+    let found = search::first(b, &list.numbers, list.count);
+    found.valuation
 }
 
-// Whether no valuation of the zone satisfies e.
-fn never(b: Ranges, zone: Zone, e: Expr) -> bool
+// Whether no valuation of the zone satisfies e; the guess is tried before a search.
+fn never(b: Ranges, guess: Valuation, zone: Zone, e: Expr) -> bool
     ensures { λ r. ⌜ r ≡ neverC b zone e ⌝ }
 {
-    let found = search::first(b, system(zone, e));
-    match found {
-        Solution::Found(_) => false,
-        Solution::Nothing => true,
-    }
+    let s = system(zone, e);
+    !search::some_meets(b, guess, &s.numbers, s.count)
 }
 
 // The verdict on e ≥ 0.
-fn on(b: Ranges, zone: Zone, e: Expr) -> Verdict
+fn on(b: Ranges, guess: Valuation, zone: Zone, e: Expr) -> Verdict
     ensures { λ r. ⌜ r ≡ onC b zone e ⌝ }
 {
-    if never(b, zone, e) {
+    if never(b, guess, zone, e) {
         return Verdict { kind: 0, test: e };
     }
-    if never(b, zone, e.opposite()) {
+    if never(b, guess, zone, e.opposite()) {
         return Verdict { kind: 1, test: e };
     }
     if zone.count < 24 {
@@ -83,20 +80,21 @@ fn on(b: Ranges, zone: Zone, e: Expr) -> Verdict
     Verdict { kind: 8, test: e }
 }
 
-// The verdict on a test.
-pub fn settled(b: Ranges, zone: Zone, test: Test) -> Verdict
+// The verdict on a test. Whatever the guess is, the verdict is the same; a valuation that the zone holds saves a search.
+pub fn settled(b: Ranges, guess: Valuation, zone: Zone, test: Test) -> Verdict
     ensures { λ r. ⌜ r ≡ settledC b zone test ⌝ }
 {
-    match test {
-        Test::Yes => Verdict {
+    let asked = test.asked;
+    match asked {
+        Asked::Yes => Verdict {
             kind: 1,
             test: Expr::ZERO,
         },
-        Test::No => Verdict {
+        Asked::No => Verdict {
             kind: 0,
             test: Expr::ZERO,
         },
-        Test::Ask(e) => on(b, zone, e),
+        Asked::Ask => on(b, guess, zone, test.expr),
     }
 }
 

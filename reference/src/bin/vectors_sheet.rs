@@ -8,7 +8,7 @@
 use reference::family;
 use reference::sheet::Refusal;
 use reference::tool::{run, Stored};
-use reference::vectors::{families, limits, line, stored, LIMITS};
+use reference::vectors::{families, limits, line, stored, version_2, LIMITS, VERSION_2};
 use std::process::ExitCode;
 
 fn main() -> ExitCode {
@@ -27,9 +27,12 @@ fn list() {
         &families(),
         |file| stored(file),
         |family, first| {
-            if family.name == LIMITS {
-                family::list_cases(first, limits::cases().into_iter().map(words));
-            }
+            let cases = match family.name {
+                LIMITS => limits::cases(),
+                VERSION_2 => version_2::cases(),
+                _ => return,
+            };
+            family::list_cases(first, cases.into_iter().map(words));
         },
     );
 }

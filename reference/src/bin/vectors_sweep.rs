@@ -7,7 +7,7 @@
 use reference::family;
 use reference::sweep::sweep;
 use reference::sweeps::paper::{self, Reply};
-use reference::sweeps::{arrivals, families, line, stored, Record, ARRIVALS, PAPER};
+use reference::sweeps::{arrivals, families, line, stored, version_2, Record, ARRIVALS, PAPER};
 use reference::tool::{run, Stored};
 use std::process::ExitCode;
 
@@ -23,25 +23,26 @@ fn vectors() -> Stored {
 /// Prints each family, how often each answer comes, and what each case written by hand tries and must give.
 fn list() {
     family::list(&families(), stored, |family, first| {
-        println!("  answers 0 to 6: {:?}", answers(&family.records));
+        println!("  answers 0 to 6 and 16: {:?}", answers(&family.records));
         let cases = match family.name {
             PAPER => paper::cases(),
             ARRIVALS => arrivals::cases(),
+            version_2::BY_HAND => version_2::cases(),
             _ => return,
         };
         family::list_cases(first, cases.into_iter().map(words));
     });
 }
 
-/// How often each answer comes, from 0, a run, to 6.
-fn answers(records: &[Record]) -> [usize; 7] {
-    let mut counts = [0; 7];
+/// How often each answer comes, from 0, a run, to 6, and 16.
+fn answers(records: &[Record]) -> [usize; 8] {
+    let mut counts = [0; 8];
     for record in records {
         for &v in &record.valuations {
             let number = match sweep(&record.file, v) {
                 Ok(Some(_)) => 0,
                 Ok(None) => 1,
-                Err(refusal) => usize::from(refusal.number),
+                Err(refusal) => usize::from(refusal.number).min(7),
             };
             counts[number] += 1;
         }

@@ -6,8 +6,8 @@
 
 use reference::bound::Expr;
 use reference::cuttings::{
-    answer, arrivals, counts, edges, families, firsts, line, numbers, paper, stored, Case, Left,
-    Reply, ARRIVALS, COUNTS, EDGES, FIRSTS, NUMBERS, PAPER,
+    answer, arrivals, counts, edges, families, firsts, line, numbers, paper, stored, version_2,
+    Case, Left, Reply, ARRIVALS, COUNTS, EDGES, FIRSTS, NUMBERS, PAPER,
 };
 use reference::family;
 use reference::tool::{run, Stored};
@@ -25,14 +25,14 @@ fn vectors() -> Stored {
 
 /// How often each refusal comes, and each count of zones where there is none.
 struct Tally {
-    refused: [usize; 9],
+    refused: [usize; 17],
     zones: [usize; PLACES + 1],
 }
 
 impl Tally {
     fn new() -> Tally {
         Tally {
-            refused: [0; 9],
+            refused: [0; 17],
             zones: [0; PLACES + 1],
         }
     }
@@ -46,7 +46,7 @@ impl Tally {
     }
 
     fn print(&self) {
-        println!("  refusals 1 to 8: {:?}", &self.refused[1..]);
+        println!("  refusals 1 to 16: {:?}", &self.refused[1..]);
         println!("  0 to 32 zones: {:?}", self.zones);
     }
 }
@@ -68,6 +68,8 @@ fn list() {
             ARRIVALS => arrivals::cases(),
             COUNTS => counts::cases(),
             NUMBERS => numbers::cases(),
+            version_2::BY_HAND => version_2::cases(),
+            version_2::SHIFTED => version_2::shifted_cases(),
             _ => return,
         };
         family::list_cases(first, cases.into_iter().map(words));

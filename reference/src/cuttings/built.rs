@@ -67,12 +67,17 @@ pub(super) fn envelopes(random: &mut Random) -> Vec<Record> {
             } else {
                 0
             };
-            let mut guard = at_most(0, clock, k * k, [-2 * k, q, 0]);
+            let mut guard = at_most(0, clock, k * k, [-2 * k, q, 0, 0]);
             guard.strict = random.once_in(5);
             guards.push(guard);
             if random.once_in(12) {
                 let slope = random.from_to(-9, 9);
-                guards.push(at_most(clock, 0, random.from_to(100, 600), [slope, 0, 0]));
+                guards.push(at_most(
+                    clock,
+                    0,
+                    random.from_to(100, 600),
+                    [slope, 0, 0, 0],
+                ));
             }
         }
         let sheet = scattered(random, &parameters, clocks, &guards);
@@ -98,7 +103,7 @@ pub(super) fn shaved(random: &mut Random) -> Vec<Record> {
         };
         let other = if n % 3 > 0 && n % 2 == 0 { 1 } else { 0 };
         let clocks = 1 + random.below(MOST_CLOCKS) as u8;
-        let mut up = at_most(1, 0, 0, [1, other, 0]);
+        let mut up = at_most(1, 0, 0, [1, other, 0, 0]);
         up.strict = random.once_in(4);
         let mut moves: Vec<(u8, Vec<Guard>)> = Vec::new();
         let mut left = 17 + random.below(14);
@@ -108,7 +113,7 @@ pub(super) fn shaved(random: &mut Random) -> Vec<Record> {
             let mut list = Vec::new();
             for _ in 0..count {
                 k += if random.once_in(6) { 2 } else { 1 };
-                let mut down = at_most(0, 1, -k, [0; 3]);
+                let mut down = at_most(0, 1, -k, [0; 4]);
                 if n % 3 > 0 && random.once_in(5) {
                     down.coefficients[1] = random.from_to(-1, 1);
                 }
@@ -137,12 +142,12 @@ pub(super) fn large_numbers(random: &mut Random) -> Vec<Record> {
         let clocks = 2 + (n % 3) as u8;
         let large = |random: &mut Random| random.from_to(900, 1000);
         let upper = |random: &mut Random, clock| {
-            let coefficients = [0; 3].map(|_| large(random));
-            at_most(clock, 0, large(random), coefficients)
+            let [p, q, r] = [0; 3].map(|_| large(random));
+            at_most(clock, 0, large(random), [p, q, r, 0])
         };
         let lower = |random: &mut Random, clock| {
-            let coefficients = [0; 3].map(|_| -random.from_to(0, 300));
-            at_most(0, clock, -random.from_to(0, 800), coefficients)
+            let [p, q, r] = [0; 3].map(|_| -random.from_to(0, 300));
+            at_most(0, clock, -random.from_to(0, 800), [p, q, r, 0])
         };
         let stays = [0; 2].map(|_| (2..=clocks).map(|clock| upper(random, clock)).collect());
         let leaves = [0; 2].map(|_| (2..=clocks).map(|clock| lower(random, clock)).collect());

@@ -60,22 +60,22 @@ fn tried(name: &str, sheet: Sheet, invariants: &[Left], guards: Vec<(Guard, Left
 
 /// Clock 1 at most a number.
 fn upper(c: i16) -> Guard {
-    at_most(1, 0, c, [0; 3])
+    at_most(1, 0, c, [0; 4])
 }
 
 /// Clock 1 below a number.
 fn before(c: i16) -> Guard {
-    below(1, 0, c, [0; 3])
+    below(1, 0, c, [0; 4])
 }
 
 /// Clock 1 at least a number.
 fn lower(c: i16) -> Guard {
-    at_most(0, 1, -c, [0; 3])
+    at_most(0, 1, -c, [0; 4])
 }
 
 /// Clock 1 above a number.
 fn after(c: i16) -> Guard {
-    below(0, 1, -c, [0; 3])
+    below(0, 1, -c, [0; 4])
 }
 
 /// One location with those invariants, and an empty route.
@@ -87,12 +87,12 @@ fn one_stay(parameters: &[Parameter], clocks: u8, invariants: &[Guard]) -> Sheet
 /// rules (1) and (2) alone elsewhere. The invariant itself is not tighter.
 fn ceilings() -> Vec<Case> {
     let one = |((clocks, words), ceiling)| {
-        let by_p = left(&[(&[[9, -1, 0, 0]], ceiling), (&[[-10, 1, 0, 0]], 2)]);
+        let by_p = left(&[(&[[9, -1, 0, 0, 0]], ceiling), (&[[-10, 1, 0, 0, 0]], 2)]);
         tried(
             &format!("at most p, {words} at most 10"),
             one_stay(&[range(0, 20)], clocks, &[upper(10)]),
             &[whole(2)],
-            vec![(at_most(clocks, 0, 0, [1, 0, 0]), by_p)],
+            vec![(at_most(clocks, 0, 0, [1, 0, 0, 0]), by_p)],
         )
     };
     (1..).zip(CLOCKS).zip(CEILINGS).map(one).collect()
@@ -102,25 +102,25 @@ fn ceilings() -> Vec<Case> {
 /// test. At p or more: rule (1) has none, and of the entries (0, l) are asked, l being 1 or more.
 fn without_bounds() -> Vec<Case> {
     let one = |((clocks, words), (upper, lower))| {
-        let p_or_more = left(&[(&[[-1, 1, 0, 0]], lower), (&[[0, -1, 0, 0]], 1)]);
+        let p_or_more = left(&[(&[[-1, 1, 0, 0, 0]], lower), (&[[0, -1, 0, 0, 0]], 1)]);
         tried(
             &format!("at most p, and p or more, {words} without a bound"),
             one_stay(&[range(0, 20)], clocks, &[]),
             &[],
             vec![
-                (at_most(clocks, 0, 0, [1, 0, 0]), whole(upper)),
-                (at_most(0, clocks, 0, [-1, 0, 0]), p_or_more),
+                (at_most(clocks, 0, 0, [1, 0, 0, 0]), whole(upper)),
+                (at_most(0, clocks, 0, [-1, 0, 0, 0]), p_or_more),
             ],
         )
     };
     let counts = [(4, 2), (8, 3), (14, 4), (22, 5)];
     let mut list: Vec<Case> = (1..).zip(CLOCKS).zip(counts).map(one).collect();
-    let from_zero = left(&[(&[[0, 1, 0, 0]], 4)]);
+    let from_zero = left(&[(&[[0, 1, 0, 0, 0]], 4)]);
     list.push(tried(
         "at most p, which is below 0 at first",
         one_stay(&[range(-5, 20)], 1, &[]),
         &[],
-        vec![(at_most(1, 0, 0, [1, 0, 0]), from_zero)],
+        vec![(at_most(1, 0, 0, [1, 0, 0, 0]), from_zero)],
     ));
     list
 }
@@ -175,22 +175,22 @@ fn second_reset(p: Parameter, guards: &[Guard], invariants: &[Guard]) -> Sheet {
 /// Two clocks, the second being reset within 5 minutes, with clock 1 at most 20; and reset at any time,
 /// without an upper bound, so that (1, 2) is none as well.
 fn two_clocks() -> Vec<Case> {
-    let at_most_p = |clock| at_most(clock, 0, 0, [1, 0, 0]);
-    let p_or_more = |clock| at_most(0, clock, 0, [-1, 0, 0]);
+    let at_most_p = |clock| at_most(clock, 0, 0, [1, 0, 0, 0]);
+    let p_or_more = |clock| at_most(0, clock, 0, [-1, 0, 0, 0]);
     // against 20 by rule (2), and against 15 for (1, 0)
     let second_at_most_p = left(&[
-        (&[[19, -1, 0, 0], [14, -1, 0, 0]], 11),
-        (&[[19, -1, 0, 0], [-15, 1, 0, 0]], 11),
-        (&[[-20, 1, 0, 0]], 2),
+        (&[[19, -1, 0, 0, 0], [14, -1, 0, 0, 0]], 11),
+        (&[[19, -1, 0, 0, 0], [-15, 1, 0, 0, 0]], 11),
+        (&[[-20, 1, 0, 0, 0]], 2),
     ]);
     // cut above 20, against 0 by rule (2), and against 5 for (0, 2)
-    let to_20 = [20, -1, 0, 0];
+    let to_20 = [20, -1, 0, 0, 0];
     let first_p_or_more = left(&[
-        (&[to_20, [-1, 1, 0, 0], [-6, 1, 0, 0]], 11),
-        (&[to_20, [-1, 1, 0, 0], [5, -1, 0, 0]], 11),
-        (&[to_20, [0, -1, 0, 0]], 2),
+        (&[to_20, [-1, 1, 0, 0, 0], [-6, 1, 0, 0, 0]], 11),
+        (&[to_20, [-1, 1, 0, 0, 0], [5, -1, 0, 0, 0]], 11),
+        (&[to_20, [0, -1, 0, 0, 0]], 2),
     ]);
-    let or_one = |tests| left(&[(&[[-1, 1, 0, 0]], tests), (&[[0, -1, 0, 0]], 1)]);
+    let or_one = |tests| left(&[(&[[-1, 1, 0, 0, 0]], tests), (&[[0, -1, 0, 0, 0]], 1)]);
     vec![
         tried(
             "a reset within 5 minutes, clock 1 at most 20",
@@ -220,8 +220,8 @@ fn two_clocks() -> Vec<Case> {
 fn two_zones() -> Case {
     let mut result = Vec::new();
     for [from_four, to_three] in [
-        [[-4, 0, 1, 0], [3, 0, -1, 0]],
-        [[-4, 1, 0, 0], [3, -1, 0, 0]],
+        [[-4, 0, 1, 0, 0], [3, 0, -1, 0, 0]],
+        [[-4, 1, 0, 0, 0], [3, -1, 0, 0, 0]],
     ] {
         let three = left(&[(&[from_four], 6), (&[to_three], 2)]);
         result.extend([whole(2), whole(2), three]);
@@ -233,7 +233,7 @@ fn two_zones() -> Case {
 /// Zones with 24 inequalities and with one or two less: refusal 8 at rules (1) and (2), after a part that is
 /// cut, and after a zone that is listed.
 fn inequalities() -> Vec<Case> {
-    let up = [at_most(1, 0, 0, [1, 0, 0])];
+    let up = [at_most(1, 0, 0, [1, 0, 0, 0])];
     let shaved = |last: i16| at_moves(&[range(0, 63)], &up, &rising(1..=last), MOST_GUARDS);
     let after_24 = vec![
         (lower(30), Refused(8)),
@@ -243,19 +243,19 @@ fn inequalities() -> Vec<Case> {
         (lower(64), nothing()),
         (upper(23), nothing()),
     ];
-    let upper_40 = left(&[(&[[-41, 1, 0, 0]], 6), (&[[40, -1, 0, 0]], 2)]);
+    let upper_40 = left(&[(&[[-41, 1, 0, 0, 0]], 6), (&[[40, -1, 0, 0, 0]], 2)]);
     let after_23 = vec![
-        (lower(30), left(&[(&[[-30, 1, 0, 0]], 6)])),
+        (lower(30), left(&[(&[[-30, 1, 0, 0, 0]], 6)])),
         (upper(40), upper_40),
-        (at_most(0, 1, -60, [1, 0, 0]), Refused(8)),
+        (at_most(0, 1, -60, [1, 0, 0, 0]), Refused(8)),
     ];
-    let q_from_15 = [-15, 0, 1, 0];
+    let q_from_15 = [-15, 0, 1, 0, 0];
     let three = left(&[
-        (&[[14, 0, -1, 0]], 11),
-        (&[q_from_15, [16, 0, -1, 0]], 11),
-        (&[q_from_15, [-17, 0, 1, 0]], 11),
+        (&[[14, 0, -1, 0, 0]], 11),
+        (&[q_from_15, [16, 0, -1, 0, 0]], 11),
+        (&[q_from_15, [-17, 0, 1, 0, 0]], 11),
     ]);
-    let by_q = at_most(2, 0, 0, [0, 1, 0]);
+    let by_q = at_most(2, 0, 0, [0, 1, 0, 0]);
     let [three, refused] = [three, Refused(8)].map(|left| vec![(by_q, left)]);
     let again = shaved_and_reset;
     let up = [whole(2)];
@@ -271,7 +271,7 @@ fn inequalities() -> Vec<Case> {
 /// within 5 minutes, and clock 1 ends from 17 to 20. Clock 2 at most q, from 12 to 19, is compared with 15 for
 /// (1, 0) and then with 17 for (2, 1).
 fn shaved_and_reset(last: i16) -> Sheet {
-    let up = vec![at_most(1, 0, 0, [1, 0, 0])];
+    let up = vec![at_most(1, 0, 0, [1, 0, 0, 0])];
     let guards = rising(1..=last);
     let shaves = guards.chunks(MOST_GUARDS).map(|list| (0, list.to_vec()));
     let mut moves: Vec<(u8, Vec<Guard>)> = shaves.collect();
@@ -284,13 +284,13 @@ fn shaved_and_reset(last: i16) -> Sheet {
 
 /// One guard and one zone of four clocks: 32 zones, each with 27 tests, and a 33rd; and five zones.
 fn zones() -> Vec<Case> {
-    let [by_r, fixed] = [23, 0].map(|r| at_most(1, 0, 150, [0, 0, r]));
+    let [by_r, fixed] = [23, 0].map(|r| at_most(1, 0, 150, [0, 0, r, 0]));
     let sixteen = || Tests(vec![27; 16]);
     // against 196 by rule (2), 145 + 10p for (1, 2), and 145 + 10q for (1, 3)
-    let late = at_most(1, 0, 194, [0, 0, 1]);
-    let [r_to_1, r_from_2] = [[1, 0, 0, -1], [-2, 0, 0, 1]];
-    let [p_up, p_down] = [[-50, 10, 0, -1], [49, -10, 0, 1]];
-    let [q_up, q_down] = [[-50, 0, 10, -1], [49, 0, -10, 1]];
+    let late = at_most(1, 0, 194, [0, 0, 1, 0]);
+    let [r_to_1, r_from_2] = [[1, 0, 0, -1, 0], [-2, 0, 0, 1, 0]];
+    let [p_up, p_down] = [[-50, 10, 0, -1, 0], [49, -10, 0, 1, 0]];
+    let [q_up, q_down] = [[-50, 0, 10, -1, 0], [49, 0, -10, 1, 0]];
     let five = left(&[
         (&[r_to_1, p_up, q_up], 27),
         (&[r_to_1, p_up, q_down], 27),
@@ -317,17 +317,17 @@ fn crossing(highest_r: i16) -> Sheet {
     // a clock's numbers at most and at least
     let within = |clock, most, least: i16| {
         [
-            at_most(clock, 0, most, [0; 3]),
-            at_most(0, clock, -least, [0; 3]),
+            at_most(clock, 0, most, [0; 4]),
+            at_most(0, clock, -least, [0; 4]),
         ]
     };
     let third = [within(1, 125, 60), within(2, 115, 5)];
     let fourth = [within(1, 150, 110), within(2, 130, 65), within(3, 70, 5)];
     let lows = vec![
         lower(140),
-        at_most(0, 2, -80, [-10, 0, 0]),
-        at_most(0, 3, -20, [0, -10, 0]),
-        at_most(0, 4, -10, [0; 3]),
+        at_most(0, 2, -80, [-10, 0, 0, 0]),
+        at_most(0, 3, -20, [0, -10, 0, 0]),
+        at_most(0, 4, -10, [0; 4]),
     ];
     let moves = [
         (0b0010, vec![upper(65)]),

@@ -105,7 +105,7 @@ fn anywhere(random: &mut Random) -> Vec<Record> {
 fn loose(random: &mut Random) -> Vec<Record> {
     many(200, |n| {
         let size = [Size::SMALL, Size::SMALL, Size::ROUTED, Size::MIDDLE][n % 4];
-        let mut sheet = random_sheet(random, size);
+        let mut sheet = random_sheet(random, 1, size);
         for p in &mut sheet.parameters {
             p.highest = p.highest.min(p.lowest + 9);
         }
@@ -145,7 +145,7 @@ fn at_limits() -> Vec<Record> {
     let mut list: Vec<Record> = cases.map(|case| record_of(case.file, PLACES)).collect();
     let random = &mut Random::new(4);
     for clocks in 1..=MOST_CLOCKS {
-        let mut sheet = biggest_sheet(random, 3, clocks as u8);
+        let mut sheet = biggest_sheet(random, 1, 3, clocks as u8);
         for p in &mut sheet.parameters {
             p.highest = p.lowest + 3;
         }
@@ -156,7 +156,7 @@ fn at_limits() -> Vec<Record> {
 
 /// Damaged files of every kind; some are still good.
 fn damaged(random: &mut Random) -> Vec<Record> {
-    let files = damage::every_kind(random, [120, 20, 20, 60, 30, 80, 40]);
+    let files = damage::every_kind(random, 1, [120, 20, 20, 60, 30, 80, 40]);
     let one = |file| record_of(file, PLACES);
     files.into_iter().map(one).collect()
 }

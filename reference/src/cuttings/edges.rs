@@ -28,7 +28,7 @@ pub fn cases() -> Vec<Case> {
 
 /// 0 - 1 at most k^2 - 2kp, for each k.
 pub(super) fn lines(numbers: impl IntoIterator<Item = i16>) -> Vec<Guard> {
-    let line = |k: i16| at_most(0, 1, k * k, [-2 * k, 0, 0]);
+    let line = |k: i16| at_most(0, 1, k * k, [-2 * k, 0, 0, 0]);
     numbers.into_iter().map(line).collect()
 }
 
@@ -123,10 +123,10 @@ fn zones() -> Vec<Case> {
 /// Four zones by upper lines in p at the end of the first stay, and at the first move four by lines
 /// in q, all of them parted by r. Then come the lines in q of those numbers.
 fn first_move(more: &[i16]) -> Sheet {
-    let up = |k: i16| at_most(1, 0, 500 + k * k, [-2 * k, 0, 0]);
-    let down = |&k: &i16| at_most(0, 1, k * k, [0, -2 * k, 0]);
+    let up = |k: i16| at_most(1, 0, 500 + k * k, [-2 * k, 0, 0, 0]);
+    let down = |&k: &i16| at_most(0, 1, k * k, [0, -2 * k, 0, 0]);
     let mut guards: Vec<Guard> = [1, -1, 2].iter().map(down).collect();
-    guards.push(at_most(0, 1, 0, [0, 0, 1]));
+    guards.push(at_most(0, 1, 0, [0, 0, 1, 0]));
     guards.extend(more.iter().map(down));
     along(
         &[range(-1, 4), range(-2, 3), range(-9, 1)],
@@ -151,7 +151,7 @@ fn parted(count: i16, at: Where) -> Sheet {
     let guards = lines(both_sides(count - 1));
     let (first, others) = guards.split_at(MOST_GUARDS);
     let (between, rest) = others.split_at(MOST_GUARDS);
-    let [other, by_q] = [0, 1].map(|q| at_most(2, 0, 500, [0, q, 0]));
+    let [other, by_q] = [0, 1].map(|q| at_most(2, 0, 500, [0, q, 0, 0]));
     // a wait would take the other guard away, and a reset leaves nothing to part on arrival
     let (resets, with_move, there) = match at {
         Where::Move => (0, vec![other, by_q], vec![]),
@@ -169,29 +169,32 @@ fn parted(count: i16, at: Where) -> Sheet {
 
 /// The inequalities p - k >= 0.
 fn at_least(numbers: impl Iterator<Item = i64>) -> Vec<Expr> {
-    numbers.map(|k| [-k, 1, 0, 0]).collect()
+    numbers.map(|k| [-k, 1, 0, 0, 0]).collect()
 }
 
 /// 0 - 1 at most -k, for each k.
 pub(super) fn rising(numbers: impl Iterator<Item = i16>) -> Vec<Guard> {
-    numbers.map(|k| at_most(0, 1, -k, [0; 3])).collect()
+    numbers.map(|k| at_most(0, 1, -k, [0; 4])).collect()
 }
 
 /// 24 inequalities, and a 25th, of a zone that stays and of one that would be cut: at a move, on
 /// arrival, and at the end of a stay.
 fn inequalities() -> Vec<Case> {
     let wide = [range(0, 63)];
-    let up = [at_most(1, 0, 0, [1, 0, 0])];
+    let up = [at_most(1, 0, 0, [1, 0, 0, 0])];
     let cut = |last: i16| at_moves(&wide, &up, &rising(1..=last), 6);
     let again = at_moves(&wide, &up, &rising((1..=24).chain([24, 3, 24])), 6);
     let one_each = at_moves(&wide, &up, &rising(1..=25), 1);
-    let shaved = || super::zones(&[([24, 0, 0], &at_least(1..=24))], 40, 24);
+    let shaved = || super::zones(&[([24, 0, 0, 0], &at_least(1..=24))], 40, 24);
     let arriving_late = |last: i16| arriving(cut(last - 1), &rising(last..=last));
     let p = [range(0, 30)];
     let at_lines = |last: i16| at_moves(&p, &[], &lines(1..=last), 6);
     let arriving_low = |last: i16| arriving(at_lines(last - 1), &lines(last..=last));
     // a clock that the last move resets, at most 500 and at most 530 - p: no test on arrival
-    let parting = [at_most(2, 0, 500, [0; 3]), at_most(2, 0, 530, [-1, 0, 0])];
+    let parting = [
+        at_most(2, 0, 500, [0; 4]),
+        at_most(2, 0, 530, [-1, 0, 0, 0]),
+    ];
     let staying = |last: i16| {
         let mut sheet = arriving(cut(last), &parting);
         sheet.clocks = 2;
@@ -261,19 +264,19 @@ fn deep_zone(first: bool, at: Where) -> Sheet {
     } else {
         (699, 700, -500, -1000)
     };
-    let mut guards = vec![at_most(0, 1, 0, [0, 1, 0])];
+    let mut guards = vec![at_most(0, 1, 0, [0, 1, 0, 0])];
     for k in both_sides(16) {
-        guards.push(at_most(0, 1, k * k + line, [-2 * k, line_q, 0]));
+        guards.push(at_most(0, 1, k * k + line, [-2 * k, line_q, 0, 0]));
     }
     for k in 1..=23 {
-        guards.push(at_most(0, 1, deep - k, [0, deep_q, 0]));
+        guards.push(at_most(0, 1, deep - k, [0, deep_q, 0, 0]));
     }
     // a full last move, so that the next guard is not at this one
     while guards.len() % MOST_GUARDS != 0 {
-        guards.push(at_most(0, 1, 0, [0; 3]));
+        guards.push(at_most(0, 1, 0, [0; 4]));
     }
-    let parting = at_most(1, 0, 528, [0; 3]);
-    let up = [at_most(1, 0, 500, [0, 0, 1])];
+    let parting = at_most(1, 0, 528, [0; 4]);
+    let up = [at_most(1, 0, 500, [0, 0, 1, 0])];
     let parameters = [range(-20, 20), range(-1, 0), range(0, 30)];
     if matches!(at, Where::Move) {
         guards.push(parting);
@@ -289,7 +292,7 @@ fn deep_zone(first: bool, at: Where) -> Sheet {
 /// arrival.
 fn nothing() -> Vec<Case> {
     let whole = in_turn(&[range(-20, 20)], &lines(both_sides(31)));
-    let never = at_most(1, 0, -1, [0; 3]);
+    let never = at_most(1, 0, -1, [0; 4]);
     let [mut start, mut early, mut late] = [whole.clone(), whole.clone(), whole];
     start.locations[0].invariants = vec![never];
     early.transitions[0].guards[0] = never;

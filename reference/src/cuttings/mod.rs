@@ -30,6 +30,7 @@ mod sizes;
 mod table;
 #[cfg(test)]
 mod tests;
+pub mod version_2;
 #[cfg(test)]
 mod ways;
 
@@ -78,6 +79,7 @@ pub fn families() -> Vec<Family<Record>> {
         records: beside::records(&mut Random::new(8)),
     });
     list.extend(drawn::families(random));
+    list.extend(version_2::families(&mut Random::new(11)));
     list
 }
 
@@ -254,11 +256,11 @@ mod stored_tests {
     fn digests() {
         let case = &paper::cases()[0];
         let found = windows(&case.file, 32).unwrap();
-        // used; 3, 0 and 0 with their signs; one inequality, -3 + p
-        let mut numbers = vec![1, 0, 3, 0, 0, 0, 0, 1, 1, 2, 0, 1];
-        numbers.resize(8 + 24 * 8, 0);
+        // used; 3, 0, 0 and 0 with their signs; one inequality, -3 + p
+        let mut numbers = vec![1, 0, 3, 0, 0, 0, 0, 0, 0, 1, 1, 2, 0, 1];
+        numbers.resize(10 + 24 * 10, 0);
         for (i, j) in (0..25).map(|k| (k / 5, k % 5)) {
-            let mut bound = [0; 10];
+            let mut bound = [0; 12];
             if (i, j) == (0, 1) {
                 // -3 is negative, and -1 - -3 is 2
                 (bound[2], bound[3]) = (1, 2);
@@ -267,7 +269,7 @@ mod stored_tests {
             numbers.extend(bound);
         }
         let places = 33;
-        numbers.resize(places * (8 + 24 * 8 + 25 * 10), 0);
+        numbers.resize(places * (10 + 24 * 10 + 25 * 12), 0);
         let h = mixed(&numbers);
         assert_eq!(digest_of(&found.zones, places), h);
         assert_eq!(digest_of(&[], 40), 0);

@@ -46,16 +46,26 @@ fn ending(mut sheet: Sheet, last: &[Guard]) -> Sheet {
     sheet
 }
 
-/// A clock at most an expression.
+/// A clock at most an expression: the constant, and the coefficients of p, q and r.
 fn upper(clock: u8, e: [i16; 4]) -> Guard {
     let [constant, p, q, r] = e;
-    at_most(clock, 0, constant, [p, q, r])
+    at_most(clock, 0, constant, [p, q, r, 0])
 }
 
-/// 0 less a clock at most an expression.
+/// 0 less a clock at most such an expression.
 fn lower(clock: u8, e: [i16; 4]) -> Guard {
     let [constant, p, q, r] = e;
-    at_most(0, clock, constant, [p, q, r])
+    at_most(0, clock, constant, [p, q, r, 0])
+}
+
+/// Such an expression as it is found.
+fn wide([constant, p, q, r]: [i64; 4]) -> Expr {
+    [constant, p, q, r, 0]
+}
+
+/// Those entries of the only zone.
+fn ends(list: &[(usize, usize, [i64; 4])]) -> Reply {
+    Entries(list.iter().map(|&(i, j, e)| (i, j, wide(e))).collect())
 }
 
 /// Ranges in which 1 + p + q + r is above 0, in which it is 0 or below, and in which 1 - p + q - r is above 0.
@@ -67,13 +77,9 @@ const TURNED: [Parameter; 3] = [range(-1, 0), range(0, 1), range(-1, 0)];
 /// at each move, with 32 times those below.
 fn entries() -> Vec<Case> {
     let one =
-        |name: &str, parameters: &[Parameter], stay, leave, found: &[(usize, usize, Expr)]| {
+        |name: &str, parameters: &[Parameter], stay, leave, found: &[(usize, usize, [i64; 4])]| {
             let leave = Vec::from_iter(leave);
-            case(
-                name,
-                &chain(parameters, stay, &leave),
-                Entries(found.to_vec()),
-            )
+            case(name, &chain(parameters, stay, &leave), ends(found))
         };
     let [large, small, mixed] = [[1000; 4], [-1000; 4], [1000, -1000, 1000, -1000]];
     let signs = [33_000, -33_000, 33_000, -33_000];
@@ -129,7 +135,7 @@ fn entries() -> Vec<Case> {
 fn sixteen_bits() -> Vec<Case> {
     let one = |name: &str, parameters: &[Parameter], each: [i16; 4], last, found| {
         let sheet = ending(chain(parameters, upper(2, each), &[]), &[upper(2, last)]);
-        case(name, &sheet, Entries(vec![(1, 0, found)]))
+        case(name, &sheet, ends(&[(1, 0, found)]))
     };
     let signs = [1000, -1000, 1000, -1000];
     let mixed = [32_767, -32_768, 32_768, -32_769];
@@ -155,10 +161,10 @@ fn inequalities() -> Vec<Case> {
     let each = upper(2, [-1000, 0, 1000, 0]);
     let late = |low| chain(&[range(low, low + 1), range(2, 2)], each, &[]);
     let by_p = ending(late(31), &[each, upper(1, [1000, 1000, 0, 0])]);
-    let tighter = [-34_001, -1000, 33_000, 0];
-    let not_tighter = [34_000, 1000, -33_000, 0];
+    let tighter = wide([-34_001, -1000, 33_000, 0]);
+    let not_tighter = wide([34_000, 1000, -33_000, 0]);
     let parted = zones(
-        &[([31, 2, 0], &[tighter]), ([32, 2, 0], &[not_tighter])],
+        &[([31, 2, 0, 0], &[tighter]), ([32, 2, 0, 0], &[not_tighter])],
         2,
         0,
     );
@@ -167,7 +173,8 @@ fn inequalities() -> Vec<Case> {
         sheet.transitions[MOST_ROUTE - 1].guards = vec![lower(1, [0, -1000, 0, 0])];
         sheet
     };
-    let to_32 = zones(&[([32, 2, 0], &[[-32_000, -1000, 32_000, 0]])], 1, 1);
+    let least = wide([-32_000, -1000, 32_000, 0]);
+    let to_32 = zones(&[([32, 2, 0, 0], &[least])], 1, 1);
     vec![
         case("an inequality of -34,001", &by_p, parted),
         case("at least 32,000 of 32,000 and 33,000", &leaving(32), to_32),
@@ -188,9 +195,8 @@ fn sums() -> Vec<Case> {
     let one = |u, e: [i16; 4]| {
         let mut sheet = chain(&fixed, upper(2, u), &[]);
         sheet.transitions[MOST_ROUTE - 1].guards = vec![lower(1, e)];
-        let wide = |x: [i16; 4]| x.map(i64::from);
-        let ends = vec![(1, 0, wide(u).map(|x| 33 * x)), (0, 1, wide(e))];
-        (sheet, Entries(ends))
+        let [all, last] = [u.map(|x| 33 * i64::from(x)), e.map(i64::from)];
+        (sheet, ends(&[(1, 0, all), (0, 1, last)]))
     };
     let [above, above_ends] = [[1000; 4], [1000, 1000, 1000, -1000]];
     let [below, below_ends] = [[-1000, -1000, -1000, 1000], [-1000; 4]];
@@ -228,8 +234,8 @@ fn there_and_back(number: i16) -> (Sheet, Reply) {
         let n = i64::from(number);
         [count * n, count * n, (x - count * n) / 2, count * n]
     };
-    let ends = vec![(1, 0, steps(33, 6 * 33)), (0, 1, steps(31, -10 - 2 * 30))];
-    (sheet, Entries(ends))
+    let [up, down] = [steps(33, 6 * 33), steps(31, -10 - 2 * 30)];
+    (sheet, ends(&[(1, 0, up), (0, 1, down)]))
 }
 
 /// One more guard at the end of the route: clock 1 at least 70, for which rule (3) adds 33 steps up, the guard, and
@@ -251,24 +257,26 @@ fn one_more(number: i16) -> Case {
 /// a sum of -1 comes 6 times, as 1 does, 0 comes 7 times, and -2 and -3 come 3 times and once.
 fn starts_and_arrivals() -> Vec<Case> {
     let parameters = [range(-1, 1); 3];
-    let [from_minus_1, to_minus_1, to_1] = [[1000; 4], [-1000; 4], [1000, -1000, -1000, -1000]];
+    let [from_minus_1, to_minus_1, to_1] =
+        [[1000; 4], [-1000; 4], [1000, -1000, -1000, -1000]].map(wide);
     let arriving = |resets| {
         let [leave, there] = [upper(1, [1000; 4]), upper(1, [1000, -1000, -1000, -1000])];
         let stays = [vec![], vec![there]];
         along(&parameters, 1, &stays, &[0, 1], &[(resets, vec![leave])])
     };
-    let up = || zones(&[([-1, -1, 1], &[from_minus_1])], 23, 4);
-    let down = || zones(&[([-1; 3], &[to_minus_1])], 10, 17);
+    let up = || zones(&[([-1, -1, 1, 0], &[from_minus_1])], 23, 4);
+    let down = || zones(&[([-1, -1, -1, 0], &[to_minus_1])], 10, 17);
     // at most the second from a sum of 1 on, since the first is more
+    let [above, not_above] = [[-1, 2000, 2000, 2000], [0, -2000, -2000, -2000]].map(wide);
     let parted = zones(
         &[
-            ([-1, 1, 1], &[from_minus_1, to_1, [-1, 2000, 2000, 2000]]),
-            ([-1, -1, 1], &[from_minus_1, to_1, [0, -2000, -2000, -2000]]),
+            ([-1, 1, 1, 0], &[from_minus_1, to_1, above]),
+            ([-1, -1, 1, 0], &[from_minus_1, to_1, not_above]),
         ],
         19,
         8,
     );
-    let whole = zones(&[([-1, -1, 1], &[from_minus_1, to_1])], 19, 8);
+    let whole = zones(&[([-1, -1, 1, 0], &[from_minus_1, to_1])], 19, 8);
     let start = |guard| one_stay(&parameters, &[guard]);
     vec![
         case("a start, at most 1,000", &start(upper(1, [1000; 4])), up()),

@@ -20,26 +20,26 @@ pub fn cases() -> Vec<Case> {
 
 /// What sheet A must give.
 fn zone_of_a() -> Reply {
-    zones(&[([3, 0, 0], &[[-3, 1, 0, 0]])], 8, 3)
+    zones(&[([3, 0, 0, 0], &[[-3, 1, 0, 0, 0]])], 8, 3)
 }
 
 /// The only zone of a sheet without a parameter, or with nothing asked of one that starts at 0.
-const WHOLE: (Valuation, &[Expr]) = ([0; 3], &[]);
+const WHOLE: (Valuation, &[Expr]) = ([0; 4], &[]);
 
 /// The rows, in the paper's order.
 fn paper_rows() -> Vec<Case> {
     let p_and_q = zones(
         &[
-            ([1, 0, 0], &[[-1, 1, -1, 0]]),
-            ([0, 0, 0], &[[0, -1, 1, 0]]),
+            ([1, 0, 0, 0], &[[-1, 1, -1, 0, 0]]),
+            ([0, 0, 0, 0], &[[0, -1, 1, 0, 0]]),
         ],
         36,
         0,
     );
     let q_and_p = zones(
         &[
-            ([0, 1, 0], &[[-1, -1, 1, 0]]),
-            ([0, 0, 0], &[[0, 1, -1, 0]]),
+            ([0, 1, 0, 0], &[[-1, -1, 1, 0, 0]]),
+            ([0, 0, 0, 0], &[[0, 1, -1, 0, 0]]),
         ],
         36,
         0,
@@ -49,7 +49,11 @@ fn paper_rows() -> Vec<Case> {
         case(
             "A with <",
             &rows::a_strict(),
-            zones(&[([4, 0, 0], &[[-1, 1, 0, 0], [-4, 1, 0, 0]])], 7, 4),
+            zones(
+                &[([4, 0, 0, 0], &[[-1, 1, 0, 0, 0], [-4, 1, 0, 0, 0]])],
+                7,
+                4,
+            ),
         ),
         case("<= p, <= q", &rows::p_then_q(), p_and_q),
         case("<= q, <= p", &rows::q_then_p(), q_and_p),
@@ -60,8 +64,8 @@ fn paper_rows() -> Vec<Case> {
             &rows::from_minus_p(),
             zones(
                 &[
-                    ([-5, 0, 0], &[[-1, -1, 0, 0]]),
-                    ([0, 0, 0], &[[0, 1, 0, 0]]),
+                    ([-5, 0, 0, 0], &[[-1, -1, 0, 0, 0]]),
+                    ([0, 0, 0, 0], &[[0, 1, 0, 0, 0]]),
                 ],
                 11,
                 0,
@@ -70,12 +74,12 @@ fn paper_rows() -> Vec<Case> {
         case(
             "-2p - 5 >= 0 in -10..0",
             &rows::minus_two_p(),
-            zones(&[([-10, 0, 0], &[[-5, -2, 0, 0]])], 8, 3),
+            zones(&[([-10, 0, 0, 0], &[[-5, -2, 0, 0, 0]])], 8, 3),
         ),
         case(
             "2p - 5 >= 0 in 0..10",
             &rows::two_p(),
-            zones(&[([3, 0, 0], &[[-5, 2, 0, 0]])], 8, 3),
+            zones(&[([3, 0, 0, 0], &[[-5, 2, 0, 0, 0]])], 8, 3),
         ),
         case(
             "standing <= 0, 0 - 1 <= 0",
@@ -85,7 +89,7 @@ fn paper_rows() -> Vec<Case> {
         case("standing <= 0, 0 - 1 < 0", &rows::never(), zones(&[], 0, 1)),
         case(
             "two clocks",
-            &rows::two_clocks(at_most(1, 0, 5, [0; 3])),
+            &rows::two_clocks(at_most(1, 0, 5, [0; 4])),
             zones(&[WHOLE], 1, 0),
         ),
     ]
@@ -98,7 +102,7 @@ fn ranges_and_routes() -> Vec<Case> {
         case(
             "range 0..63",
             &wide(63),
-            zones(&[([3, 0, 0], &[[-3, 1, 0, 0]])], 61, 3),
+            zones(&[([3, 0, 0, 0], &[[-3, 1, 0, 0, 0]])], 61, 3),
         ),
         case("range 0..64", &wide(64), Refused(4, 25)),
         case("route of 32", &rows::a_around(32), zones(&[WHOLE], 11, 0)),
@@ -140,7 +144,7 @@ fn tables() -> Vec<Case> {
 /// Files that are refused.
 fn refused_files() -> Vec<Case> {
     let a = writer::file(&sheet_a());
-    let empty = writer::assemble(&Default::default());
+    let empty = writer::assemble(1, &Default::default());
     let refused = |name, file, number, place| file_case(name, file, PLACES, Refused(number, place));
     vec![
         refused("no byte", vec![], 2, 0),

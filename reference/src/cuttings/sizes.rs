@@ -195,12 +195,12 @@ enum Signs {
 /// The minutes of the clocks in a run, all of them even.
 type Minutes = [i16; SIDE];
 
-/// A guard that the clocks meet where p and r are 0 and q is 2: clock 2 with little to spare, others with much.
+/// A guard that the clocks meet where p, r and s are 0 and q is 2: clock 2 with little to spare, others with much.
 /// Its numbers but the coefficient of q are near 1,000 in size.
 fn near(random: &mut Random, signs: Signs, (a, b): (u8, u8), minutes: &Minutes) -> Guard {
     let spare = 2 * random.from_to(0, if a + b == 2 { 2 } else { 99 });
     let most = minutes[usize::from(a)] - minutes[usize::from(b)] + spare;
-    let [constant, p, r] = [0; 3].map(|_| {
+    let [constant, p, r, s] = [0; 4].map(|_| {
         let minus = match signs {
             Signs::Same => false,
             Signs::Directed => a == 0,
@@ -213,7 +213,7 @@ fn near(random: &mut Random, signs: Signs, (a, b): (u8, u8), minutes: &Minutes) 
             number
         }
     });
-    let mut guard = at_most(a, b, constant, [p, (most - constant) / 2, r]);
+    let mut guard = at_most(a, b, constant, [p, (most - constant) / 2, r, s]);
     guard.strict = spare > 0 && random.once_in(3);
     guard
 }
@@ -248,7 +248,7 @@ fn long(random: &mut Random, signs: Signs, highest: i16) -> Sheet {
     let there = (1..=clocks).map(|clock| near(random, signs, (clock, 0), &minutes));
     let mut path = [0; MOST_ROUTE + 1];
     path[MOST_ROUTE] = 1;
-    let parameters = [range(0, highest), range(2, 2), range(0, 0)];
+    let parameters = [range(0, highest), range(2, 2), range(0, 0), range(0, 0)];
     let stays = [vec![], there.collect()];
     along(&parameters, clocks, &stays, &path, &moves)
 }

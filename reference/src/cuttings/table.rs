@@ -9,11 +9,11 @@ use crate::windows::{Zone, MOST_INEQUALITIES};
 /// The digest of a table of that many places that holds those zones, the rest of it being blank. That of a
 /// blank table is 0.
 ///
-/// The numbers of a table are, place by place: 1 if it is used and 0 otherwise, the three numbers of its
-/// first valuation, the count of inequalities, the four numbers of each of the 24 inequalities, and for each
-/// of the 25 bounds in row order 1 if it is none, 1 if it is strict, each 0 otherwise, and its four numbers.
-/// Those of valuations, inequalities and bounds are numbers with sign. The three numbers of a blank place, and
-/// the four of none and of a place for an inequality that is not in use, are zeros.
+/// The numbers of a table are, place by place: 1 if it is used and 0 otherwise, the four numbers of its
+/// first valuation, the count of inequalities, the five numbers of each of the 24 inequalities, and for each
+/// of the 25 bounds in row order 1 if it is none, 1 if it is strict, each 0 otherwise, and its five numbers.
+/// Those of valuations, inequalities and bounds are numbers with sign. The four numbers of a blank place, and
+/// the five of none and of a place for an inequality that is not in use, are zeros.
 pub(super) fn digest_of(zones: &[Zone], places: usize) -> u64 {
     let blank = Zone {
         first: [0; MOST_PARAMETERS],
@@ -39,7 +39,7 @@ fn place(numbers: &mut Vec<u64>, zone: &Zone) {
     }
     for &bound in zone.bounds.iter().flatten() {
         let (none, strict, expr) = match bound {
-            Bound::None => (true, false, [0; 4]),
+            Bound::None => (true, false, Expr::default()),
             Bound::At { expr, strict } => (false, strict, expr),
         };
         numbers.extend([none, strict].map(u64::from));
@@ -47,7 +47,7 @@ fn place(numbers: &mut Vec<u64>, zone: &Zone) {
     }
 }
 
-/// The four numbers of an expression.
+/// The numbers of an expression.
 fn expression(e: Expr) -> impl Iterator<Item = u64> {
     e.into_iter().flat_map(signed)
 }

@@ -1,7 +1,7 @@
 //! The cutting held to the results that are written by hand, and to Sweep on random sheets.
 
 use super::held::{held, MOST_TRIED};
-use super::{answer, arrivals, counts, edges, families, firsts, numbers, paper};
+use super::{answer, arrivals, counts, edges, families, firsts, numbers, paper, version_2};
 use crate::family::records;
 use crate::planned::{crossed, planned, random_shape};
 use crate::random::Random;
@@ -19,6 +19,8 @@ fn results_are_as_written() {
         arrivals::cases(),
         counts::cases(),
         numbers::cases(),
+        version_2::cases(),
+        version_2::shifted_cases(),
     ] {
         for case in cases {
             let found = windows(&case.file, case.places);
@@ -34,11 +36,12 @@ fn zones_agree_with_sweep() {
     let random = &mut Random::new(31);
     let mut zones = [0; 33];
     let mut refused = 0;
-    for n in 0..1300 {
-        let (parameters, width) = [(1, 63), (2, 20), (3, 7)][n % 3];
+    for n in 0..1700 {
+        let (version, parameters, width) = [(1, 1, 63), (1, 2, 20), (1, 3, 7), (2, 4, 4)][n % 4];
         let mut shape = random_shape(random, 9, 1 + n % 6, width);
+        shape.version = version;
         shape.parameters = parameters;
-        let drawn = if n % 4 == 0 { planned } else { crossed };
+        let drawn = if n % 5 == 0 { planned } else { crossed };
         let sheet = drawn(random, shape).sheet;
         match cut(&sheet, Limits::PAPER) {
             Ok(found) => {
@@ -82,7 +85,7 @@ fn stored_first_valuations() {
         }
         for zone in &found.zones {
             let its: Vec<&Valuation> = valuations.iter().filter(|&&v| zone.holds(v)).collect();
-            let least = [0, 1, 2].map(|k| its.iter().map(|v| v[k]).min());
+            let least = [0, 1, 2, 3].map(|k| its.iter().map(|v| v[k]).min());
             let kinds = [
                 least != zone.first.map(Some),
                 zone.first[0] > valuations[0][0],

@@ -73,15 +73,11 @@ pub(super) fn guarded(
     guard: &Guard,
     sizes: &mut Sizes,
 ) -> Result<Vec<Way>, u8> {
-    let [p, q, r] = guard.coefficients.map(i64::from);
     let mut asking = Asking {
         last: usize::from(clocks),
         i: usize::from(guard.a),
         j: usize::from(guard.b),
-        e: Bound::At {
-            expr: [i64::from(guard.constant), p, q, r],
-            strict: guard.strict,
-        },
+        e: Bound::of(guard),
         old: [[Bound::ZERO; SIDE]; SIDE],
         sizes,
         listed: Vec::new(),
@@ -268,11 +264,12 @@ fn stored_counts() {
 fn random_counts() {
     let random = &mut Random::new(41);
     let mut seen = Seen::default();
-    for n in 0..600 {
-        let (parameters, width) = [(1, 63), (2, 16), (3, 7)][n % 3];
+    for n in 0..800 {
+        let (version, parameters, width) = [(1, 1, 63), (1, 2, 16), (1, 3, 7), (2, 4, 4)][n % 4];
         let mut shape = random_shape(random, 6, 1 + n % 6, width);
+        shape.version = version;
         shape.parameters = parameters;
-        let drawn = if n % 4 == 0 { planned } else { crossed };
+        let drawn = if n % 5 == 0 { planned } else { crossed };
         let mut sheet = drawn(random, shape).sheet;
         let Ok(found) = cut(&sheet, Limits::PAPER) else {
             continue;

@@ -21,8 +21,14 @@ pub fn cases() -> Vec<Case> {
 
 /// The sheets of the cases that have parameters, once each.
 pub fn sheets() -> Vec<Sheet> {
-    let [from_p, to_p] = [at_most(0, 1, 0, [-1, 0, 0]), at_most(1, 0, 0, [1, 0, 0])];
-    let [by_p, by_q] = [at_most(1, 0, 5, [1, 0, 0]), at_most(1, 0, 5, [0, 1, 0])];
+    let [from_p, to_p] = [
+        at_most(0, 1, 0, [-1, 0, 0, 0]),
+        at_most(1, 0, 0, [1, 0, 0, 0]),
+    ];
+    let [by_p, by_q] = [
+        at_most(1, 0, 5, [1, 0, 0, 0]),
+        at_most(1, 0, 5, [0, 1, 0, 0]),
+    ];
     let mut list = vec![green_within_p(), two_there(false), two_there(true)];
     for strict in [false, true] {
         for mut bound in [from_p, to_p] {
@@ -31,7 +37,7 @@ pub fn sheets() -> Vec<Sheet> {
         }
     }
     list.push(within_five(&[by_p, by_q]));
-    list.push(within_five(&[at_most(0, 1, -4, [0; 3]), by_p]));
+    list.push(within_five(&[at_most(0, 1, -4, [0; 4]), by_p]));
     list
 }
 
@@ -54,30 +60,30 @@ fn green() -> Vec<Case> {
             [lt(1), le(-2), le(0)],
         ])
     };
-    let zeros = [0; 3];
+    let zeros = [0; 4];
     vec![
         case("green, early", &green_early(), zeros, Void),
         case("green, at 2 or later", &green_late(), zeros, from_two(NONE)),
         case("green, no guard", &green_whenever(), zeros, from_two(NONE)),
-        case("green, within 1", &within_p, [1, 0, 0], Void),
-        case("green, within 2", &within_p, [2, 0, 0], from_two(le(2))),
-        case("green, within 4", &within_p, [4, 0, 0], from_two(le(4))),
+        case("green, within 1", &within_p, [1, 0, 0, 0], Void),
+        case("green, within 2", &within_p, [2, 0, 0, 0], from_two(le(2))),
+        case("green, within 4", &within_p, [4, 0, 0, 0], from_two(le(4))),
         case(
             "green and below 1",
             &two_there(false),
-            [3, 0, 0],
+            [3, 0, 0, 0],
             below_one(),
         ),
         case(
             "below 1 and green",
             &two_there(true),
-            [3, 0, 0],
+            [3, 0, 0, 0],
             below_one(),
         ),
         case(
             "below 1 and green, early",
             &two_there(true),
-            [1, 0, 0],
+            [1, 0, 0, 0],
             Void,
         ),
     ]
@@ -85,32 +91,37 @@ fn green() -> Vec<Case> {
 
 /// Starts that are forbidden, and just not.
 fn starts() -> Vec<Case> {
-    let from_minus_p = start(at_most(0, 1, 0, [1, 0, 0]));
-    let after_minus_p = start(below(0, 1, 0, [1, 0, 0]));
-    let before_p = start(below(1, 0, 0, [1, 0, 0]));
+    let from_minus_p = start(at_most(0, 1, 0, [1, 0, 0, 0]));
+    let after_minus_p = start(below(0, 1, 0, [1, 0, 0, 0]));
+    let before_p = start(below(1, 0, 0, [1, 0, 0, 0]));
     let free = || run1(le(0), NONE);
     vec![
         case(
             "a start, 1 or later",
-            &start(at_most(0, 1, -1, [0; 3])),
-            [0; 3],
+            &start(at_most(0, 1, -1, [0; 4])),
+            [0; 4],
             Void,
         ),
         case(
             "a start, after 0",
-            &start(below(0, 1, 0, [0; 3])),
-            [0; 3],
+            &start(below(0, 1, 0, [0; 4])),
+            [0; 4],
             Void,
         ),
-        case("a start, 0 or later", &from_minus_p, [0; 3], free()),
-        case("a start, 1 or later, by p", &from_minus_p, [-1, 0, 0], Void),
-        case("a start, after 0, by p", &after_minus_p, [0; 3], Void),
-        case("a start, after -1", &after_minus_p, [1, 0, 0], free()),
-        case("a start, before 0", &before_p, [0; 3], Void),
+        case("a start, 0 or later", &from_minus_p, [0; 4], free()),
+        case(
+            "a start, 1 or later, by p",
+            &from_minus_p,
+            [-1, 0, 0, 0],
+            Void,
+        ),
+        case("a start, after 0, by p", &after_minus_p, [0; 4], Void),
+        case("a start, after -1", &after_minus_p, [1, 0, 0, 0], free()),
+        case("a start, before 0", &before_p, [0; 4], Void),
         case(
             "a start, before 1",
             &before_p,
-            [1, 0, 0],
+            [1, 0, 0, 0],
             run1(le(0), lt(1)),
         ),
     ]
@@ -119,13 +130,17 @@ fn starts() -> Vec<Case> {
 /// Arrivals at 5 or later are judged with clock 1 at 0 if the move resets it. With it as it was,
 /// the other answer would be right.
 fn after_resets() -> Vec<Case> {
-    let [from_two, to_two] = [at_most(0, 1, -2, [0; 3]), at_most(1, 0, 2, [0; 3])];
-    let [from_p, to_p] = [at_most(0, 1, 0, [-1, 0, 0]), at_most(1, 0, 0, [1, 0, 0])];
+    let [from_two, to_two] = [at_most(0, 1, -2, [0; 4]), at_most(1, 0, 2, [0; 4])];
+    let [from_p, to_p] = [
+        at_most(0, 1, 0, [-1, 0, 0, 0]),
+        at_most(1, 0, 0, [1, 0, 0, 0]),
+    ];
     let late = || run1(le(-5), NONE);
     let up_to = |most| run1(le(0), le(most));
     let [kept, reset] = [0, 1];
-    let one =
-        |name, resets, there, p, result| case(name, &after_five(resets, there), [p, 0, 0], result);
+    let one = |name, resets, there, p, result| {
+        case(name, &after_five(resets, there), [p, 0, 0, 0], result)
+    };
     vec![
         one("2 or more, a reset", reset, from_two, 0, Void),
         one("2 or more, no reset", kept, from_two, 0, late()),
@@ -143,16 +158,16 @@ fn after_resets() -> Vec<Case> {
         one("at most -1 by p, a reset", reset, to_p, -1, Void),
         one("at most 1 by p, a reset", reset, to_p, 1, up_to(1)),
         one("at most 2 by p, no reset", kept, to_p, 2, Void),
-        case("back too late", &back(kept), [0; 3], Void),
-        case("back with a reset", &back(reset), [0; 3], up_to(3)),
+        case("back too late", &back(kept), [0; 4], Void),
+        case("back with a reset", &back(reset), [0; 4], up_to(3)),
     ]
 }
 
 /// Strict limits on arrival: at 0 after a reset, and at 3 exactly.
 fn strict() -> Vec<Case> {
-    let at_zero = |name, there, result| case(name, &after_five(1, there), [0; 3], result);
-    let three = |name, there, result| case(name, &at_three(there), [0; 3], result);
-    let zero = [0; 3];
+    let at_zero = |name, there, result| case(name, &after_five(1, there), [0; 4], result);
+    let three = |name, there, result| case(name, &at_three(there), [0; 4], result);
+    let zero = [0; 4];
     vec![
         at_zero("below 0 at 0", below(1, 0, 0, zero), Void),
         at_zero("at most 0 at 0", at_most(1, 0, 0, zero), run1(le(0), le(0))),
@@ -176,10 +191,10 @@ fn strict() -> Vec<Case> {
 
 /// A move within 5 minutes, to a stay of at most 5 + p, or of 4 or more as well.
 fn parted() -> Vec<Case> {
-    let by_p = at_most(1, 0, 5, [1, 0, 0]);
+    let by_p = at_most(1, 0, 5, [1, 0, 0, 0]);
     let wide = within_five(&[by_p]);
-    let narrow = within_five(&[at_most(0, 1, -4, [0; 3]), by_p]);
-    let one = |name, sheet: &Sheet, p, result: Reply| case(name, sheet, [p, 0, 0], result);
+    let narrow = within_five(&[at_most(0, 1, -4, [0; 4]), by_p]);
+    let one = |name, sheet: &Sheet, p, result: Reply| case(name, sheet, [p, 0, 0, 0], result);
     vec![
         one("at most 2 after 5", &wide, -3, run1(le(0), le(2))),
         one("at most 8 after 5", &wide, 3, run1(le(0), le(8))),

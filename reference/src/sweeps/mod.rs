@@ -2,13 +2,14 @@
 //! results are stored.
 //!
 //! The records stand one after the other: a sheet file's length (u16, little-endian) and its bytes,
-//! the count of its valuations (u8), and each valuation as three numbers (i64, little-endian). The
+//! the count of its valuations (u8), and each valuation as four numbers (i64, little-endian). The
 //! results are text, a line for each record: the file's length, and for each valuation N/P/D, the
 //! answer's number (0 a run, 1 void, else the refusal), its place (0 for a run and void), and a
 //! digest of its matrix.
 
 pub mod arrivals;
 pub mod paper;
+pub mod version_2;
 
 use crate::cuttings::edges;
 use crate::digest::{digest, signed};
@@ -16,7 +17,7 @@ use crate::family::Family;
 use crate::planned::{planned, random_shape, Planned, Shape};
 use crate::random::Random;
 use crate::samples::{along, at_most, biggest_sheet, random_sheet, range, Size};
-use crate::sheet::{read, Sheet, MOST_CLOCKS, MOST_PARAMETERS, MOST_ROUTE};
+use crate::sheet::{parameters_of, read, Sheet, MOST_CLOCKS, MOST_ROUTE};
 use crate::sweep::{sweep, Matrix, ZEROS};
 use crate::valuations::{all, beyond, corners, some, Valuation};
 use crate::vectors::{self, damage, limits};
@@ -54,6 +55,7 @@ pub fn families() -> Vec<Family<Record>> {
     add("each rule of the file at its limit", at_limits());
     add("damaged files", damaged(random));
     add("sheets at a limit of Windows", at_windows_limits(random));
+    list.extend(version_2::families(&mut Random::new(10)));
     list
 }
 
@@ -96,7 +98,7 @@ fn papers(random: &mut Random) -> Vec<Record> {
     let mut list = Vec::new();
     for sheet in paper::sheets() {
         let mut valuations = all(&sheet.parameters);
-        valuations.extend(beyond(random, &sheet.parameters));
+        valuations.extend(beyond(random, 3, &sheet.parameters));
         list.push(record(&sheet, valuations));
     }
     list
@@ -109,8 +111,8 @@ pub fn meetings() -> Vec<Record> {
     let mut list = Vec::new();
     for n in 0..64 {
         let yes = |bit: u8| n >> bit & 1 == 1;
-        let mut up = at_most(1, 0, 0, [1, 0, 0]);
-        let mut down = at_most(0, 1, 0, [0, -1, 0]);
+        let mut up = at_most(1, 0, 0, [1, 0, 0, 0]);
+        let mut down = at_most(0, 1, 0, [0, -1, 0, 0]);
         up.strict = yes(0);
         down.strict = yes(1);
         let (first, second) = if yes(2) { (up, down) } else { (down, up) };
@@ -139,7 +141,7 @@ fn outside(random: &mut Random) -> Vec<Record> {
         let mut shape = random_shape(random, 4, 2, [0, 9, 63, 20][n / 4]);
         shape.parameters = n % 4;
         let Planned { sheet, valuation } = planned(random, shape);
-        let mut valuations = beyond(random, &sheet.parameters);
+        let mut valuations = beyond(random, 3, &sheet.parameters);
         valuations.push(valuation);
         list.push(record(&sheet, valuations));
     }
@@ -206,9 +208,9 @@ fn crowded(random: &mut Random) -> Vec<Record> {
 /// Two of the biggest sheets for each count of parameters, at their corners.
 fn biggest(random: &mut Random) -> Vec<Record> {
     let mut list = Vec::new();
-    for n in 0..2 * (MOST_PARAMETERS + 1) {
+    for n in 0..2 * (parameters_of(1) + 1) {
         let clocks = 1 + n % MOST_CLOCKS;
-        let sheet = biggest_sheet(random, n / 2, clocks as u8);
+        let sheet = biggest_sheet(random, 1, n / 2, clocks as u8);
         list.push(record(&sheet, corners(&sheet.parameters)));
     }
     list
@@ -218,7 +220,7 @@ fn biggest(random: &mut Random) -> Vec<Record> {
 fn loose(random: &mut Random) -> Vec<Record> {
     let mut list = Vec::new();
     for n in 0..200 {
-        let mut sheet = random_sheet(random, Size::SMALL);
+        let mut sheet = random_sheet(random, 1, Size::SMALL);
         if n % 2 == 0 {
             sheet.locations[0].invariants.clear();
         }
@@ -233,17 +235,17 @@ fn loose(random: &mut Random) -> Vec<Record> {
 fn at_limits() -> Vec<Record> {
     let one = |case: limits::Case| Record {
         file: case.file,
-        valuations: vec![[0; 3]],
+        valuations: vec![[0; 4]],
     };
     limits::cases().into_iter().map(one).collect()
 }
 
 /// Damaged files of every kind, at zeros and at numbers that are no valuation of any sheet.
 fn damaged(random: &mut Random) -> Vec<Record> {
-    let files = damage::every_kind(random, [250, 30, 30, 120, 50, 150, 80]);
+    let files = damage::every_kind(random, 1, [250, 30, 30, 120, 50, 150, 80]);
     let one = |file| Record {
         file,
-        valuations: vec![[0; 3], [0, 1001, i64::MIN]],
+        valuations: vec![[0; 4], [0, 1001, i64::MIN, 0]],
     };
     files.into_iter().map(one).collect()
 }
@@ -300,11 +302,12 @@ mod tests {
     fn stored_with_valuations() {
         let record = Record {
             file: vec![1, 2, 3],
-            valuations: vec![[i64::MIN, -1, 258]],
+            valuations: vec![[i64::MIN, -1, 258, 3]],
         };
         let mut right = vec![3, 0, 1, 2, 3, 1, 0, 0, 0, 0, 0, 0, 0, 128];
         right.extend([255; 8]);
         right.extend([2, 1, 0, 0, 0, 0, 0, 0]);
+        right.extend([3, 0, 0, 0, 0, 0, 0, 0]);
         assert_eq!(stored(&record), right);
     }
 }

@@ -5,6 +5,7 @@ use crate::rows;
 use crate::samples::{a_with, at_most, below, range, sheet_a};
 use crate::sheet::{read, Refusal, Sheet};
 use crate::sweep::sweep;
+use crate::valuations::Valuation;
 use crate::weight::Weight;
 use crate::writer;
 use Reply::{Refused, Run, Void};
@@ -18,11 +19,11 @@ pub enum Reply {
     Refused(u8, usize),
 }
 
-/// What is tried, the file, the three numbers, and the result.
+/// What is tried, the file, the numbers, and the result.
 pub struct Case {
     pub name: &'static str,
     pub file: Vec<u8>,
-    pub valuation: [i64; 3],
+    pub valuation: Valuation,
     pub result: Reply,
 }
 
@@ -64,8 +65,8 @@ pub fn sheets() -> Vec<Sheet> {
         rows::from_minus_p(),
         rows::at_once(),
         rows::never(),
-        rows::two_clocks(at_most(1, 0, 5, [0; 3])),
-        rows::two_clocks(below(1, 0, 5, [0; 3])),
+        rows::two_clocks(at_most(1, 0, 5, [0; 4])),
+        rows::two_clocks(below(1, 0, 5, [0; 4])),
         rows::wait_keeps(),
         rows::three_clocks(),
     ]
@@ -101,12 +102,17 @@ pub(super) fn run1(down: Weight, up: Weight) -> Reply {
 }
 
 /// A case.
-pub(super) fn case(name: &'static str, sheet: &Sheet, valuation: [i64; 3], result: Reply) -> Case {
+pub(super) fn case(name: &'static str, sheet: &Sheet, valuation: Valuation, result: Reply) -> Case {
     file_case(name, writer::file(sheet), valuation, result)
 }
 
 /// A case with a file.
-fn file_case(name: &'static str, file: Vec<u8>, valuation: [i64; 3], result: Reply) -> Case {
+pub(super) fn file_case(
+    name: &'static str,
+    file: Vec<u8>,
+    valuation: Valuation,
+    result: Reply,
+) -> Case {
     Case {
         name,
         file,
@@ -124,35 +130,40 @@ fn paper_rows() -> Vec<Case> {
     let down = rows::from_minus_p();
     let at_3 = || run1(le(-3), NONE);
     vec![
-        case("A at 0", &a, [0, 0, 0], Void),
-        case("A at 2", &a, [2, 0, 0], Void),
-        case("A at 3", &a, [3, 0, 0], at_3()),
-        case("A at 10", &a, [10, 0, 0], at_3()),
-        case("A with < at 3", &strict, [3, 0, 0], Void),
-        case("A with < at 4", &strict, [4, 0, 0], at_3()),
-        case("<= p, <= q: 4, 2", &pq, [4, 2, 0], run1(le(0), le(2))),
-        case("<= p, <= q: 2, 4", &pq, [2, 4, 0], run1(le(0), le(2))),
-        case("<= p, <= q: 0, 0", &pq, [0, 0, 0], run1(le(0), le(0))),
-        case("<= q, <= p: 4, 2", &qp, [4, 2, 0], run1(le(0), le(2))),
-        case("<= q, <= p: 5, 5", &qp, [5, 5, 0], run1(le(0), le(5))),
+        case("A at 0", &a, [0, 0, 0, 0], Void),
+        case("A at 2", &a, [2, 0, 0, 0], Void),
+        case("A at 3", &a, [3, 0, 0, 0], at_3()),
+        case("A at 10", &a, [10, 0, 0, 0], at_3()),
+        case("A with < at 3", &strict, [3, 0, 0, 0], Void),
+        case("A with < at 4", &strict, [4, 0, 0, 0], at_3()),
+        case("<= p, <= q: 4, 2", &pq, [4, 2, 0, 0], run1(le(0), le(2))),
+        case("<= p, <= q: 2, 4", &pq, [2, 4, 0, 0], run1(le(0), le(2))),
+        case("<= p, <= q: 0, 0", &pq, [0, 0, 0, 0], run1(le(0), le(0))),
+        case("<= q, <= p: 4, 2", &qp, [4, 2, 0, 0], run1(le(0), le(2))),
+        case("<= q, <= p: 5, 5", &qp, [5, 5, 0, 0], run1(le(0), le(5))),
         case(
             "no limits, empty route",
             &rows::no_limits(),
-            [0, 0, 0],
+            [0, 0, 0, 0],
             run1(le(0), NONE),
         ),
-        case("< p, p in 0..0", &rows::below_zero(), [0, 0, 0], Void),
-        case("0 - 1 <= p at -5", &down, [-5, 0, 0], run1(le(-5), NONE)),
-        case("0 - 1 <= p at -1", &down, [-1, 0, 0], run1(le(-1), NONE)),
-        case("0 - 1 <= p at 0", &down, [0, 0, 0], run1(le(0), NONE)),
-        case("0 - 1 <= p at 5", &down, [5, 0, 0], run1(le(0), NONE)),
+        case("< p, p in 0..0", &rows::below_zero(), [0, 0, 0, 0], Void),
+        case("0 - 1 <= p at -5", &down, [-5, 0, 0, 0], run1(le(-5), NONE)),
+        case("0 - 1 <= p at -1", &down, [-1, 0, 0, 0], run1(le(-1), NONE)),
+        case("0 - 1 <= p at 0", &down, [0, 0, 0, 0], run1(le(0), NONE)),
+        case("0 - 1 <= p at 5", &down, [5, 0, 0, 0], run1(le(0), NONE)),
         case(
             "standing <= 0, 0 - 1 <= 0",
             &rows::at_once(),
-            [0, 0, 0],
+            [0, 0, 0, 0],
             run1(le(0), NONE),
         ),
-        case("standing <= 0, 0 - 1 < 0", &rows::never(), [0, 0, 0], Void),
+        case(
+            "standing <= 0, 0 - 1 < 0",
+            &rows::never(),
+            [0, 0, 0, 0],
+            Void,
+        ),
     ]
 }
 
@@ -183,17 +194,17 @@ fn wrong_turns() -> Vec<Case> {
         [le(9), le(4), le(0), le(8)],
         [le(5), le(0), le(0), le(0)],
     ]);
-    let zeros = [0, 0, 0];
+    let zeros = [0, 0, 0, 0];
     vec![
         case(
             "two clocks",
-            &rows::two_clocks(at_most(1, 0, 5, [0; 3])),
+            &rows::two_clocks(at_most(1, 0, 5, [0; 4])),
             zeros,
             closed,
         ),
         case(
             "two clocks, <",
-            &rows::two_clocks(below(1, 0, 5, [0; 3])),
+            &rows::two_clocks(below(1, 0, 5, [0; 4])),
             zeros,
             open,
         ),
@@ -218,20 +229,20 @@ fn refused_files() -> Vec<Case> {
     }));
     let most = writer::file(&rows::a_around(32));
     let apart = writer::file(&rows::a_apart());
-    let empty = writer::assemble(&Default::default());
-    let far = [i64::MIN, i64::MAX, 1];
+    let empty = writer::assemble(1, &Default::default());
+    let far = [i64::MIN, i64::MAX, 1, 0];
     vec![
-        file_case("range 0..63", whole, [63, 0, 0], run1(le(-3), NONE)),
-        file_case("range 0..64", wide.clone(), [0, 0, 0], Refused(4, 25)),
+        file_case("range 0..63", whole, [63, 0, 0, 0], run1(le(-3), NONE)),
+        file_case("range 0..64", wide.clone(), [0, 0, 0, 0], Refused(4, 25)),
         file_case("range 0..64, far numbers", wide, far, Refused(4, 25)),
-        file_case("no byte", vec![], [0, 0, 0], Refused(2, 0)),
+        file_case("no byte", vec![], [0, 0, 0, 0], Refused(2, 0)),
         file_case("21 bytes", a[..21].to_vec(), far, Refused(2, 0)),
         file_case("4,097 bytes", vec![1; 4097], far, Refused(2, 0)),
         file_case("22 bytes, lengths 0", empty, far, Refused(4, 22)),
         file_case("22 bytes of A", a[..22].to_vec(), far, Refused(3, 5)),
         file_case("61 bytes of A", a[..61].to_vec(), far, Refused(3, 20)),
         file_case("route of 33", long, far, Refused(4, 60)),
-        file_case("route of 32", most, [4, 0, 0], run1(le(0), le(4))),
+        file_case("route of 32", most, [4, 0, 0, 0], run1(le(0), le(4))),
         file_case("a move from elsewhere", apart, far, Refused(5, 62)),
     ]
 }
@@ -251,25 +262,30 @@ fn refused_numbers() -> Vec<Case> {
     ]);
     let (low, high) = (i64::MIN, i64::MAX);
     vec![
-        case("A at -1", &a, [-1, 0, 0], Refused(6, 0)),
-        case("A at 11", &a, [11, 0, 0], Refused(6, 0)),
-        case("A at -2^63", &a, [low, 0, 0], Refused(6, 0)),
-        case("A at 2^63 - 1", &a, [high, 0, 0], Refused(6, 0)),
-        case("A at 65,539", &a, [65539, 0, 0], Refused(6, 0)),
-        case("A at 2^32 + 3", &a, [(1 << 32) + 3, 0, 0], Refused(6, 0)),
-        case("A with q 1", &a, [3, 1, 0], Refused(6, 1)),
-        case("A with q -2^63", &a, [3, low, 0], Refused(6, 1)),
-        case("A with r -1", &a, [3, 0, -1], Refused(6, 2)),
-        case("A with r 2^63 - 1", &a, [3, 0, high], Refused(6, 2)),
-        case("A with q 256 and r 1", &a, [3, 256, 1], Refused(6, 1)),
-        case("A, all wrong", &a, [low, low, high], Refused(6, 0)),
-        case("no parameter, p 1", &bare, [1, 0, 0], Refused(6, 0)),
-        case("no parameter, r 1", &bare, [0, 0, 1], Refused(6, 2)),
-        case("three parameters", &three, [1, 0, -937], free),
-        case("the third past it", &three, [1, 0, -936], Refused(6, 2)),
-        case("the third 0", &three, [1, 0, 0], Refused(6, 2)),
-        case("the second past it", &three, [1, -1, -936], Refused(6, 1)),
-        case("the first past it", &three, [-2, 1, 0], Refused(6, 0)),
+        case("A at -1", &a, [-1, 0, 0, 0], Refused(6, 0)),
+        case("A at 11", &a, [11, 0, 0, 0], Refused(6, 0)),
+        case("A at -2^63", &a, [low, 0, 0, 0], Refused(6, 0)),
+        case("A at 2^63 - 1", &a, [high, 0, 0, 0], Refused(6, 0)),
+        case("A at 65,539", &a, [65539, 0, 0, 0], Refused(6, 0)),
+        case("A at 2^32 + 3", &a, [(1 << 32) + 3, 0, 0, 0], Refused(6, 0)),
+        case("A with q 1", &a, [3, 1, 0, 0], Refused(6, 1)),
+        case("A with q -2^63", &a, [3, low, 0, 0], Refused(6, 1)),
+        case("A with r -1", &a, [3, 0, -1, 0], Refused(6, 2)),
+        case("A with r 2^63 - 1", &a, [3, 0, high, 0], Refused(6, 2)),
+        case("A with q 256 and r 1", &a, [3, 256, 1, 0], Refused(6, 1)),
+        case("A, all wrong", &a, [low, low, high, 0], Refused(6, 0)),
+        case("no parameter, p 1", &bare, [1, 0, 0, 0], Refused(6, 0)),
+        case("no parameter, r 1", &bare, [0, 0, 1, 0], Refused(6, 2)),
+        case("three parameters", &three, [1, 0, -937, 0], free),
+        case("the third past it", &three, [1, 0, -936, 0], Refused(6, 2)),
+        case("the third 0", &three, [1, 0, 0, 0], Refused(6, 2)),
+        case(
+            "the second past it",
+            &three,
+            [1, -1, -936, 0],
+            Refused(6, 1),
+        ),
+        case("the first past it", &three, [-2, 1, 0, 0], Refused(6, 0)),
     ]
 }
 

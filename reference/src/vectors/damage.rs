@@ -1,7 +1,8 @@
-//! Damaged files: good ones cut, changed and put together wrongly, and random bodies.
+//! Damaged files of either version: good ones cut, changed and put together wrongly, and random bodies.
 
 use crate::random::Random;
-use crate::samples::{random_sheet, Size};
+use crate::samples::{random_range, random_sheet, Size};
+use crate::sheet::MOST_PARAMETERS;
 use crate::writer;
 
 /// Every beginning of a file but the whole of it.
@@ -42,16 +43,18 @@ fn changes(file: &[u8], values: impl Fn(u8) -> Vec<u8>) -> Vec<Vec<u8>> {
 }
 
 /// Damaged files of every kind that is random, that many of each, in the order of the functions below.
-pub fn every_kind(random: &mut Random, counts: [usize; 7]) -> Vec<Vec<u8>> {
+pub fn every_kind(random: &mut Random, version: u8, counts: [usize; 7]) -> Vec<Vec<u8>> {
     let kinds = [changed, cut, lengthened, resized, moved, rerouted, noise];
     let files = kinds.into_iter().zip(counts);
-    files.flat_map(|(kind, n)| kind(random, n)).collect()
+    files
+        .flat_map(|(kind, n)| kind(random, version, n))
+        .collect()
 }
 
 /// That many small good files, each with one to three bytes changed.
-pub fn changed(random: &mut Random, count: usize) -> Vec<Vec<u8>> {
+pub fn changed(random: &mut Random, version: u8, count: usize) -> Vec<Vec<u8>> {
     many(count, || {
-        let mut file = small(random);
+        let mut file = small(random, version);
         for _ in 0..=random.below(3) {
             let i = random.below(file.len());
             file[i] = near(random, file[i]);
@@ -61,18 +64,18 @@ pub fn changed(random: &mut Random, count: usize) -> Vec<Vec<u8>> {
 }
 
 /// That many small good files, each with bytes cut off at its end.
-pub fn cut(random: &mut Random, count: usize) -> Vec<Vec<u8>> {
+pub fn cut(random: &mut Random, version: u8, count: usize) -> Vec<Vec<u8>> {
     many(count, || {
-        let mut file = small(random);
+        let mut file = small(random, version);
         file.truncate(random.below(file.len()));
         file
     })
 }
 
 /// That many small good files, each with one to twenty bytes added at its end.
-pub fn lengthened(random: &mut Random, count: usize) -> Vec<Vec<u8>> {
+pub fn lengthened(random: &mut Random, version: u8, count: usize) -> Vec<Vec<u8>> {
     many(count, || {
-        let mut file = small(random);
+        let mut file = small(random, version);
         for _ in 0..=random.below(20) {
             file.push(random.byte());
         }
@@ -81,12 +84,12 @@ pub fn lengthened(random: &mut Random, count: usize) -> Vec<Vec<u8>> {
 }
 
 /// That many small good files, each with one body longer or shorter and contents that fit.
-pub fn resized(random: &mut Random, count: usize) -> Vec<Vec<u8>> {
+pub fn resized(random: &mut Random, version: u8, count: usize) -> Vec<Vec<u8>> {
     many(count, || {
-        let mut bodies = writer::bodies(&random_sheet(random, Size::SMALL));
+        let mut bodies = writer::bodies(&random_sheet(random, version, Size::SMALL));
         let k = random.below(4);
         resize(random, &mut bodies[k]);
-        writer::assemble(&bodies)
+        writer::assemble(version, &bodies)
     })
 }
 
@@ -105,15 +108,15 @@ fn resize(random: &mut Random, body: &mut Vec<u8>) {
 
 /// That many small good files, each with one to three bytes moved over the border from one body
 /// to the next or back, and contents that fit.
-pub fn moved(random: &mut Random, count: usize) -> Vec<Vec<u8>> {
+pub fn moved(random: &mut Random, version: u8, count: usize) -> Vec<Vec<u8>> {
     many(count, || {
-        let mut bodies = writer::bodies(&random_sheet(random, Size::SMALL));
+        let mut bodies = writer::bodies(&random_sheet(random, version, Size::SMALL));
         let k = random.below(3);
         let forward = random.once_in(2);
         for _ in 0..=random.below(3) {
             move_one(&mut bodies, k, forward);
         }
-        writer::assemble(&bodies)
+        writer::assemble(version, &bodies)
     })
 }
 
@@ -131,9 +134,9 @@ fn move_one(bodies: &mut [Vec<u8>; 4], k: usize, forward: bool) {
 
 /// That many good files, each with one entry of its route changed or with a random route; some of
 /// these still link.
-pub fn rerouted(random: &mut Random, count: usize) -> Vec<Vec<u8>> {
+pub fn rerouted(random: &mut Random, version: u8, count: usize) -> Vec<Vec<u8>> {
     many(count, || {
-        let mut sheet = random_sheet(random, Size::ROUTED);
+        let mut sheet = random_sheet(random, version, Size::ROUTED);
         let transitions = sheet.transitions.len();
         if transitions > 0 && !sheet.route.is_empty() && random.below(4) > 0 {
             let i = random.below(sheet.route.len());
@@ -150,20 +153,33 @@ pub fn rerouted(random: &mut Random, count: usize) -> Vec<Vec<u8>> {
 
 /// That many files with random bodies of small numbers, and contents that fit. Some begin with
 /// bodies of a good file, so that the later ones are read.
-pub fn noise(random: &mut Random, count: usize) -> Vec<Vec<u8>> {
+pub fn noise(random: &mut Random, version: u8, count: usize) -> Vec<Vec<u8>> {
     many(count, || {
-        let mut bodies = writer::bodies(&random_sheet(random, Size::SMALL));
+        let mut bodies = writer::bodies(&random_sheet(random, version, Size::SMALL));
         for body in bodies.iter_mut().skip(random.below(4)) {
             let length = random.below(20);
             *body = (0..length).map(|_| near(random, 0)).collect();
         }
-        writer::assemble(&bodies)
+        writer::assemble(version, &bodies)
     })
 }
 
+/// That many small files of version 2 with four ranges of any width: some have more valuations than a sheet may have.
+pub fn widened(random: &mut Random, count: usize) -> Vec<Vec<u8>> {
+    let mut files = Vec::new();
+    while files.len() < count {
+        let mut sheet = random_sheet(random, 2, Size::SMALL);
+        if sheet.parameters.len() == MOST_PARAMETERS {
+            sheet.parameters.fill_with(|| random_range(random));
+            files.push(writer::file(&sheet));
+        }
+    }
+    files
+}
+
 /// A small good file.
-fn small(random: &mut Random) -> Vec<u8> {
-    writer::file(&random_sheet(random, Size::SMALL))
+fn small(random: &mut Random, version: u8) -> Vec<u8> {
+    writer::file(&random_sheet(random, version, Size::SMALL))
 }
 
 /// A byte close to that one in most cases, and otherwise any.

@@ -55,7 +55,7 @@ pub fn cases() -> Vec<Case> {
 }
 
 /// A case.
-fn case(name: &'static str, file: Vec<u8>, result: Reply) -> Case {
+pub(super) fn case(name: &'static str, file: Vec<u8>, result: Reply) -> Case {
     Case { name, file, result }
 }
 
@@ -83,7 +83,7 @@ fn a_field(at: usize, value: i16) -> Vec<u8> {
 fn a_bodies(change: impl Fn(&mut [Vec<u8>; 4])) -> Vec<u8> {
     let mut bodies = writer::bodies(&sheet_a());
     change(&mut bodies);
-    writer::assemble(&bodies)
+    writer::assemble(1, &bodies)
 }
 
 /// Refusal 2: the file's size.
@@ -91,7 +91,7 @@ fn sizes() -> Vec<Case> {
     let cut = |n: usize| writer::file(&sheet_a())[..n].to_vec();
     let longer = |n: usize| a_bodies(|b| b[3].resize(n - 60, 0));
     let empty = || a_bodies(|b| *b = Default::default());
-    let biggest = writer::file(&biggest_sheet(&mut Random::new(3), 3, 4));
+    let biggest = writer::file(&biggest_sheet(&mut Random::new(3), 1, 3, 4));
     vec![
         case("no byte", cut(0), Refused(2, 0)),
         case("21 bytes", cut(21), Refused(2, 0)),
@@ -113,7 +113,11 @@ fn sizes() -> Vec<Case> {
 fn contents() -> Vec<Case> {
     let mut list = vec![
         case("version 0", a_bytes(&[(0, 0)]), Refused(3, 0)),
-        case("version 2", a_bytes(&[(0, 2)]), Refused(3, 0)),
+        case(
+            "version 2, 12 bytes a guard",
+            a_bytes(&[(0, 2)]),
+            Refused(4, 43),
+        ),
         case("three entries", a_bytes(&[(1, 3)]), Refused(3, 1)),
         case("five entries", a_bytes(&[(1, 5)]), Refused(3, 1)),
         case(
@@ -153,7 +157,7 @@ fn contents() -> Vec<Case> {
         let whole = writer::bodies(&sheet_a()).concat();
         let mut bodies: [Vec<u8>; 4] = Default::default();
         bodies[k] = whole;
-        writer::assemble(&bodies)
+        writer::assemble(1, &bodies)
     };
     list.push(case("all bytes in body 1", all(0), Refused(4, 27)));
     list.push(case("all bytes in body 2", all(1), Refused(4, 22)));
@@ -167,7 +171,7 @@ fn ranges() -> Vec<Case> {
     let bare = |n: usize| {
         a_with(|s| {
             s.parameters = vec![range(1, 2); n];
-            s.locations[0].invariants[0].coefficients = [0; 3];
+            s.locations[0].invariants[0].coefficients = [0; 4];
         })
     };
     let second = |lowest, highest| a_with(|s| s.parameters.push(range(lowest, highest)));
@@ -210,7 +214,7 @@ fn ranges() -> Vec<Case> {
 
 /// The counts of body 2, and of guards.
 fn counts() -> Vec<Case> {
-    let guard = at_most(1, 0, 5, [2, 0, 0]);
+    let guard = at_most(1, 0, 5, [2, 0, 0, 0]);
     let stay = |n: usize| a_with(|s| s.locations[0].invariants = vec![guard; n]);
     let go = |n: usize| a_with(|s| s.transitions[0].guards = vec![guard; n]);
     let locations = |n: usize| a_with(|s| s.locations.resize(n, location(&[])));
@@ -262,7 +266,7 @@ fn clocks() -> Vec<Case> {
                 }
             })
         };
-        let two = |clocks, a, b| with(clocks, at_most(a, b, 1, [0; 3]));
+        let two = |clocks, a, b| with(clocks, at_most(a, b, 1, [0; 4]));
         let relation = |x| a_bytes(&[(at + 2, x)]);
         let zero = |x| a_bytes(&[(at + 3, x)]);
         list.extend([
@@ -280,7 +284,7 @@ fn clocks() -> Vec<Case> {
             case("clocks 1, 1", two(4, 1, 1), Refused(4, at + 1)),
             case("clocks 1, 2", two(4, 1, 2), Refused(4, at + 1)),
             case("clocks 2, 2 of 1", two(1, 2, 2), Refused(4, at)),
-            case("relation <", with(1, below(1, 0, 1, [0; 3])), Taken),
+            case("relation <", with(1, below(1, 0, 1, [0; 4])), Taken),
             case("relation 2", relation(2), Refused(4, at + 2)),
             case("relation 255", relation(255), Refused(4, at + 2)),
             case("zero byte 1", zero(1), Refused(4, at + 3)),
@@ -378,9 +382,6 @@ fn transitions() -> Vec<Case> {
 /// Bodies that stop early, and bytes left over.
 fn ends() -> Vec<Case> {
     let is = |k: usize, body: &'static [u8]| a_bodies(|b| b[k] = body.to_vec());
-    let more = |k: usize| a_bodies(|b| b[k].push(0));
-    let less = |k: usize, n: usize| a_bodies(|b| b[k].truncate(b[k].len() - n));
-    let empty = |k: usize| a_bodies(|b| b[k].clear());
     let mut list = vec![
         case("body 1: one byte of lowest", is(0, &[1, 0]), Refused(4, 24)),
         case("body 1: no highest", is(0, &[1, 0, 0]), Refused(4, 25)),
@@ -427,17 +428,29 @@ fn ends() -> Vec<Case> {
         case("body 4: no second byte", is(3, &[2, 0]), Refused(4, 62)),
         case("body 4: a byte left over", is(3, &[0, 0]), Refused(4, 61)),
     ];
-    let starts = [22, 27, 43, 60, 62];
+    list.extend(early_and_late(&sheet_a(), [22, 27, 43, 60, 62]));
+    list
+}
+
+/// Each body of a sheet empty, with a byte more, and without so many of its last bytes, given where the bodies
+/// start and the last one ends.
+pub(super) fn early_and_late(sheet: &Sheet, starts: [usize; 5]) -> Vec<Case> {
+    let with = |k: usize, change: &dyn Fn(&mut Vec<u8>)| {
+        let mut bodies = writer::bodies(sheet);
+        change(&mut bodies[k]);
+        writer::assemble(sheet.version, &bodies)
+    };
+    let mut list = Vec::new();
     for k in 0..4 {
         let (start, end) = (starts[k], starts[k + 1]);
-        list.push(case("an empty body", empty(k), Refused(4, start)));
-        list.push(case("a byte left over", more(k), Refused(4, end)));
+        let empty = with(k, &|body| body.clear());
+        let more = with(k, &|body| body.push(0));
+        list.push(case("an empty body", empty, Refused(4, start)));
+        list.push(case("a byte left over", more, Refused(4, end)));
         for n in 1..end - start {
-            list.push(case(
-                "a body that stops early",
-                less(k, n),
-                Refused(4, end - n),
-            ));
+            let less = with(k, &|body| body.truncate(body.len() - n));
+            let place = end - n;
+            list.push(case("a body that stops early", less, Refused(4, place)));
         }
     }
     list

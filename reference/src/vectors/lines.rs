@@ -3,10 +3,11 @@
 //!
 //! A digest goes over a list of numbers, to each of which 2147483648 is added.
 //!
-//! The numbers of a sheet are its fields in the file's order, with every place that a sheet has: 3
-//! parameters, 16 locations and 32 transitions of 6 guards each, and a route of 32. A place past a
-//! count has zeros in all its fields. The numbers of the bodies are, for each kind from 0 to 5, the
-//! refusal's number and place (0 and 0 for none), the length of the part, and its bytes.
+//! The numbers of a sheet are its version and the fields of its bodies in the file's order, with every
+//! place that a sheet has: 4 parameters, 16 locations and 32 transitions of 6 guards each, with 4
+//! coefficients, and a route of 32. A place past a count has zeros in all its fields. The numbers of
+//! the bodies are, for each kind from 0 to 5, the refusal's number and place (0 and 0 for none), the
+//! length of the part, and its bytes.
 
 use crate::digest::digest;
 use crate::sheet::{
@@ -57,9 +58,9 @@ fn parts(file: &[u8]) -> Vec<i16> {
     list
 }
 
-/// Every field of a sheet in the file's order, with zeros for the places past a count.
+/// The version and every field of the bodies in the file's order, with zeros for the places past a count.
 fn fields(sheet: &Sheet) -> Vec<i16> {
-    let mut list = vec![sheet.parameters.len() as i16];
+    let mut list = vec![i16::from(sheet.version), sheet.parameters.len() as i16];
     for k in 0..MOST_PARAMETERS {
         let ends = sheet.parameters.get(k).map(|p| [p.lowest, p.highest]);
         list.extend(ends.unwrap_or_default());
@@ -89,7 +90,7 @@ fn guards(list: &mut Vec<i16>, guards: &[Guard]) {
     list.push(guards.len() as i16);
     for k in 0..MOST_GUARDS {
         match guards.get(k) {
-            None => list.extend([0; 7]),
+            None => list.extend([0; 4 + MOST_PARAMETERS]),
             Some(guard) => {
                 list.extend([guard.a, guard.b, u8::from(guard.strict)].map(i16::from));
                 list.push(guard.constant);

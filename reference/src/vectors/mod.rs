@@ -6,17 +6,19 @@
 pub mod damage;
 pub mod limits;
 mod lines;
+pub mod version_2;
 
 pub use lines::line;
 
 use crate::family::Family;
 use crate::random::Random;
-use crate::samples::{biggest_sheet, random_sheet, sheet_a, sheet_b, Size};
-use crate::sheet::{MOST_CLOCKS, MOST_PARAMETERS};
+use crate::samples::{biggest_sheet, random_sheet, sheet_a, sheet_b, sheet_c, Size};
+use crate::sheet::{parameters_of, MOST_CLOCKS};
 use crate::writer;
 
-/// The name of the family whose files are the cases of `limits`.
+/// The names of the families whose files are the cases of `limits` and of `version_2`.
 pub const LIMITS: &str = "at a limit and past it";
+pub const VERSION_2: &str = "version 2: at a limit and past it";
 
 /// All the families of files, in the order in which they are stored.
 pub fn families() -> Vec<Family<Vec<u8>>> {
@@ -35,17 +37,48 @@ pub fn families() -> Vec<Family<Vec<u8>>> {
         LIMITS,
         limits::cases().into_iter().map(|c| c.file).collect(),
     );
-    add("small sheets", good(random, Size::SMALL, 1200));
-    add("middle sheets", good(random, Size::MIDDLE, 250));
-    add("large sheets", good(random, Size::LARGE, 40));
-    add("the biggest sheets", biggest(random));
-    add("bytes changed", damage::changed(random, 1200));
-    add("bytes cut off", damage::cut(random, 100));
-    add("bytes added", damage::lengthened(random, 100));
-    add("a body longer or shorter", damage::resized(random, 500));
-    add("a border between bodies moved", damage::moved(random, 200));
-    add("another route", damage::rerouted(random, 400));
-    add("random bodies", damage::noise(random, 400));
+    add("small sheets", good(random, 1, Size::SMALL, 1200));
+    add("middle sheets", good(random, 1, Size::MIDDLE, 250));
+    add("large sheets", good(random, 1, Size::LARGE, 40));
+    add("the biggest sheets", biggest(random, 1));
+    add("bytes changed", damage::changed(random, 1, 1200));
+    add("bytes cut off", damage::cut(random, 1, 100));
+    add("bytes added", damage::lengthened(random, 1, 100));
+    add("a body longer or shorter", damage::resized(random, 1, 500));
+    add(
+        "a border between bodies moved",
+        damage::moved(random, 1, 200),
+    );
+    add("another route", damage::rerouted(random, 1, 400));
+    add("random bodies", damage::noise(random, 1, 400));
+    list.extend(in_version_2(&mut Random::new(9)));
+    list
+}
+
+/// The families of version 2.
+fn in_version_2(random: &mut Random) -> Vec<Family<Vec<u8>>> {
+    let c = writer::file(&sheet_c());
+    let mut list = Vec::new();
+    let mut add = |name, records| list.push(Family { name, records });
+    add("sheet C", vec![c.clone()]);
+    add("sheet C cut short", damage::prefixes(&c));
+    add("sheet C with a byte changed", damage::few_changes(&c));
+    let cases = version_2::cases().into_iter();
+    add(VERSION_2, cases.map(|c| c.file).collect());
+    add("version 2: small sheets", good(random, 2, Size::SMALL, 120));
+    add(
+        "version 2: middle sheets",
+        good(random, 2, Size::MIDDLE, 30),
+    );
+    add("version 2: large sheets", good(random, 2, Size::LARGE, 10));
+    add("version 2: the biggest sheets", biggest(random, 2));
+    add(
+        "version 2: four ranges of any width",
+        damage::widened(random, 60),
+    );
+    let counts = [120, 10, 10, 60, 25, 50, 50];
+    let damaged = damage::every_kind(random, 2, counts);
+    add("version 2: damaged files", damaged);
     list
 }
 
@@ -55,19 +88,19 @@ pub fn stored(file: &[u8]) -> Vec<u8> {
     [&length.to_le_bytes(), file].concat()
 }
 
-/// That many good files up to that size.
-fn good(random: &mut Random, size: Size, count: usize) -> Vec<Vec<u8>> {
+/// That many good files of that version up to that size.
+fn good(random: &mut Random, version: u8, size: Size, count: usize) -> Vec<Vec<u8>> {
     (0..count)
-        .map(|_| writer::file(&random_sheet(random, size)))
+        .map(|_| writer::file(&random_sheet(random, version, size)))
         .collect()
 }
 
-/// One of the biggest files for each count of parameters and of clocks.
-fn biggest(random: &mut Random) -> Vec<Vec<u8>> {
+/// One of the biggest files of that version for each count of parameters and of clocks.
+fn biggest(random: &mut Random, version: u8) -> Vec<Vec<u8>> {
     let mut files = Vec::new();
-    for parameters in 0..=MOST_PARAMETERS {
+    for parameters in 0..=parameters_of(version) {
         for clocks in 1..=MOST_CLOCKS {
-            let sheet = biggest_sheet(random, parameters, clocks as u8);
+            let sheet = biggest_sheet(random, version, parameters, clocks as u8);
             files.push(writer::file(&sheet));
         }
     }

@@ -1,4 +1,4 @@
-//! Windows: the ranges cut into zones (paper 01, "Cutting the ranges"), and refusals 1 to 5, 7 and 8.
+//! Windows: the ranges cut into zones (paper 01, "Cutting the ranges"), and refusals 1 to 5, 7, 8 and 16.
 //!
 //! A zone at work carries the list of all its valuations, so that a test is settled by putting each of
 //! them in. Where a test is not settled, the zone is parted in two lists and the guard is worked anew
@@ -15,7 +15,7 @@ use part::{Limit, Open, Part};
 /// A matrix of bounds; entry (i, j) bounds clock i - clock j.
 pub type Bounds = [[Bound; SIDE]; SIDE];
 
-/// A zone (the paper's piece): the first of its valuations, comparing parameter 1, then 2, then 3, smaller
+/// A zone (the paper's piece): the first of its valuations, comparing parameter 1, then 2 and so on, smaller
 /// first; the inequalities, each an expression that is at least 0; and the matrix.
 #[derive(Clone, Debug, PartialEq, Eq)]
 pub struct Zone {

@@ -24,14 +24,10 @@ pub(super) struct Limit {
 impl Limit {
     /// The guard as it stands in a sheet.
     pub fn new(guard: &Guard) -> Limit {
-        let [p, q, r] = guard.coefficients.map(i64::from);
         Limit {
             i: usize::from(guard.a),
             j: usize::from(guard.b),
-            e: Bound::At {
-                expr: [i64::from(guard.constant), p, q, r],
-                strict: guard.strict,
-            },
+            e: Bound::of(guard),
         }
     }
 }

@@ -19,14 +19,8 @@ byte-field-requires-3 c κs = search needs
 signed-field-requires : tie.Need-signed-field-requires
 signed-field-requires c κs = search needs
 
-coefficient-field-requires : tie.Need-coefficient-field-requires
-coefficient-field-requires c κs = search needs
-
-coefficient-field-requires-2 : tie.Need-coefficient-field-requires-2
-coefficient-field-requires-2 c κs = search needs
-
-coefficient-field-requires-3 : tie.Need-coefficient-field-requires-3
-coefficient-field-requires-3 c κs = search needs
+coefs-at-requires : tie.Need-coefs-at-requires
+coefs-at-requires c κs = search needs
 
 expr-of-requires : tie.Need-expr-of-requires
 expr-of-requires c κs = search needs
@@ -34,23 +28,23 @@ expr-of-requires c κs = search needs
 bound-of-requires : tie.Need-bound-of-requires
 bound-of-requires c κs = search needs
 
+zeros-at-requires : tie.Need-zeros-at-requires
+zeros-at-requires c κs = search needs
+
 returns : tie.Need-returns
 unfolding guardAt
 returns c =
-    let r = c .before .before in
-    let q = r .before in
-    let p = q .before in
-    let constant = p .before in
+    let all = c .before .before .before in
+    let constant = all .before in
     let zero = constant .before in
     let relation = zero .before in
     let b = relation .before in
     let a = b .before in
     simp (
-      c .bound-of .ensures,
-      c .before .expr-of .ensures,
-      r .coefficient-field3 .ensures,
-      q .coefficient-field2 .ensures,
-      p .coefficient-field .ensures,
+      c .zeros-at .ensures,
+      c .before .bound-of .ensures,
+      c .before .before .expr-of .ensures,
+      all .coefs-at .ensures,
       constant .signed-field .ensures,
       zero .byte-field3 .ensures,
       relation .byte-field2 .ensures,
@@ -67,9 +61,8 @@ guard-at-spec =
     byte-field-requires-2
     byte-field-requires-3
     signed-field-requires
-    coefficient-field-requires
-    coefficient-field-requires-2
-    coefficient-field-requires-3
+    coefs-at-requires
     expr-of-requires
     bound-of-requires
+    zeros-at-requires
     returns)

@@ -10,16 +10,16 @@ use Rattle.guards.proofs.guards_at.Statement.{statement}
 use Rattle.guards.proofs.guards_at.Tie as tie
 
 abbrev Inv-loop : tie.InvT-loop
-Inv-loop file end parameters clocks list₀ i₀ list i = (i ≤ 6) × (list ≡ iterate (guardStep file end parameters clocks) list₀ i)
+Inv-loop file end most parameters clocks list₀ i₀ list i = (i ≤ 6) × (list ≡ iterate (guardStep file end most parameters clocks) list₀ i)
 
 abbrev μ-loop : tie.MeasureT-loop
-μ-loop file end parameters clocks list₀ i₀ list i = 6 - i
+μ-loop file end most parameters clocks list₀ i₀ list i = 6 - i
 
 byte-field-requires : tie.Need-byte-field-requires Inv-loop μ-loop
 byte-field-requires c κs = search needs
 
-cast-t9 : tie.Need-cast-t9 Inv-loop μ-loop
-cast-t9 c = search needs
+cast-t10 : tie.Need-cast-t10 Inv-loop μ-loop
+cast-t10 c = search needs
 
 loop-holds : tie.Need-loop-holds Inv-loop μ-loop
 unfolding iterate
@@ -54,7 +54,7 @@ guards-at-spec =
     Inv-loop
     μ-loop
     byte-field-requires
-    cast-t9
+    cast-t10
     loop-holds
     guard-step-requires
     add-i

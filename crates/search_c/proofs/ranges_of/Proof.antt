@@ -1,24 +1,63 @@
--- The three ranges, one after another.
+-- The loop's invariant: the places before i hold the ranges of the input.
+use mathlib.Core.Path.{_≡_}
+use Prim.Native.Nat.{_-_, _≤_}
+use native.Mathlib.Omega.{arith}
+use Rattle.expr.specs.Records.{PARAMETERS, blankRange}
+use Rattle.search_c.specs.Input.{rangeAt}
+use Rattle.search_c.proofs.Filled.{filledTo, filled-start, filled-turn, filled-all, ranges-are}
 use borrow.Author.Needs.{needs}
-use Rattle.search_c.proofs.Read.{ranges-are}
 use Rattle.search_c.proofs.ranges_of.Statement.{statement}
 use Rattle.search_c.proofs.ranges_of.Tie as tie
 
-range-requires : tie.Need-range-requires
+abbrev Inv-loop : tie.InvT-loop
+Inv-loop s b₀ i₀ b i = (i ≤ PARAMETERS) × (b .list ≡ filledTo blankRange (rangeAt s) i)
+
+abbrev μ-loop : tie.MeasureT-loop
+μ-loop s b₀ i₀ b i = PARAMETERS - i
+
+loop-holds : tie.Need-loop-holds Inv-loop μ-loop
+loop-holds c = (omega arith, filled-start _ _)
+
+range-requires : tie.Need-range-requires Inv-loop μ-loop
 range-requires c κs = search needs
 
-range-requires-2 : tie.Need-range-requires-2
-range-requires-2 c κs = search needs
+mul-t9 : tie.Need-mul-t9 Inv-loop μ-loop
+mul-t9 c = search needs
 
-range-requires-3 : tie.Need-range-requires-3
-range-requires-3 c κs = search needs
+element-set-from-b : tie.Need-element-set-from-b Inv-loop μ-loop
+element-set-from-b c = search needs
 
-returns : tie.Need-returns
+add-i : tie.Need-add-i Inv-loop μ-loop
+add-i c = search needs
+
+loop-less : tie.Need-loop-less Inv-loop μ-loop
+loop-less c = search needs
+
+loop-again : tie.Need-loop-again Inv-loop μ-loop
+loop-again c =
+    let loop = c .before .before .loop in (
+      omega arith,
+      filled-turn blankRange (rangeAt (c .before .before .before .args .s .now)) (loop .i) _ _ (loop .inv .1)
+          (c .range .ensures),
+    )
+
+returns : tie.Need-returns Inv-loop μ-loop
 returns c =
-    let e = c .before .before .range .ensures in
-    let f = c .before .range2 .ensures in
-    let g = c .range3 .ensures in
-    (ranges-are (c .before .before .before .args .s .now) _ _ _ (e .0) (f .0) (g .0), (e .1, f .1, g .1))
+    let loop = c .before .loop in
+    ranges-are _ _ (filled-all blankRange (rangeAt (c .before .before .args .s .now)) (loop .i) _ (loop .inv .1) (loop .inv .0)
+    (search needs))
 
 pub ranges-of-spec : {M : Type 1} → statement M
-ranges-of-spec = tie.close (tie.spec range-requires range-requires-2 range-requires-3 returns)
+ranges-of-spec =
+    tie.close
+    (tie.spec
+    Inv-loop
+    μ-loop
+    loop-holds
+    range-requires
+    mul-t9
+    element-set-from-b
+    add-i
+    loop-less
+    loop-again
+    returns)

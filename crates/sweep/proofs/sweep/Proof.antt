@@ -1,9 +1,7 @@
 -- The reply by what `read` gave.
 use borrow.Author.Needs.{needs}
 use mathlib.Core.Path.{_∙_}
-use mir.Syntax.{w64}
-use mir.ValLaws.{toZ-ofZ}
-use Rattle.sweep.proofs.Replies.{same-numbers, fine-reply, refused-reply}
+use Rattle.sweep.proofs.Replies.{fine-reply, refused-reply}
 use Rattle.sweep.proofs.sweep.Statement.{statement}
 use Rattle.sweep.proofs.sweep.Tie as tie
 
@@ -26,7 +24,7 @@ returns : tie.Need-returns
 returns c =
     let after-read = c .before .before .before .before in
     let s = after-read .before .before in
-    same-numbers _ (toZ-ofZ w64 _ (s .fits .p)) (toZ-ofZ w64 _ (s .fits .q)) (toZ-ofZ w64 _ (s .fits .r)) (c .reply-for .ensures)
+    c .reply-for .ensures
     ∙ fine-reply (s .args .file .now) _ _ (after-read .read .ensures) (c .before .enum-told .given .1)
 
 returns-2 : tie.Need-returns-2

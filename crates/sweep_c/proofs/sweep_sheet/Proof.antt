@@ -28,7 +28,8 @@ returns c =
     (ap (λ (n : Numbered). n .number) (c .before .numbered .ensures)
     ∙ ap (λ (x : SweepReply). x .answer .number)
     (c .before .before .sweep .ensures
-    ∙ same-reply (s .args .sheet .now) (toZ-ofZ w64 _ (s .fits .p)) (toZ-ofZ w64 _ (s .fits .q)) (toZ-ofZ w64 _ (s .fits .r))))
+    ∙ same-reply (s .args .sheet .now) (toZ-ofZ w64 _ (s .fits .p1)) (toZ-ofZ w64 _ (s .fits .p2)) (toZ-ofZ w64 _ (s .fits .p3))
+    (toZ-ofZ w64 _ (s .fits .p4))))
 
 pub sweep-sheet-spec : {M : Type 1} → statement M
 sweep-sheet-spec = tie.close (tie.spec sweep-requires numbered-requires signed-requires returns)

@@ -152,7 +152,7 @@ module _ {M : Type 1} (𝓤 : URA M) (H : Heap 𝓤) (A : Atoms 𝓤) (W : Given
       let l : length table ≡ 40 = table-long in let m : length ys ≡ n = lent-long in omega arith)
 
   room : Room R (length ys)
-  room = subst (Room R) (sym lent-long) (n-fits, lt-of-le-of-lt (mul-le-mul-right 904 at-most) (lit< tt))
+  room = subst (Room R) (sym lent-long) (n-fits, lt-of-le-of-lt (mul-le-mul-right 1104 at-most) (lit< tt))
 
   typed-array : (l : List Piece) (u : Val) → Is (Array R 40) l (u ∷ []) → Holds (hasTy (tyArray Z′.mir 40) u) × WT u
   typed-array l u is = array-lawful 𝓤 H A W R (LL.lawful Z.the-type Z′.the-laws 𝓤 H A W) 40 .typed l (u ∷ []) is .0

@@ -3,13 +3,13 @@ use borrow.Author.Needs.{needs}
 use Rattle.windows_reply.proofs.cut_sheet.Statement.{statement}
 use Rattle.windows_reply.proofs.cut_sheet.Tie as tie
 use mathlib.Core.Path.{_∙_}
-use Rattle.windows_reply.specs.Coded.{widths-few, work-coded}
+use Rattle.windows_reply.specs.Coded.{work-coded}
 
 walk-requires : tie.Need-walk-requires
 walk-requires c κs = search needs
 
 listed-requires : tie.Need-listed-requires
-listed-requires c κs = widths-few (c .before .before .args .s) (c .before .before .pre)
+listed-requires c κs = c .before .before .pre .few-valuations
 
 returns : tie.Need-returns
 returns c = c .listed .ensures ∙ work-coded (c .before .before .before .args .s) (c .before .before .before .pre)

@@ -7,7 +7,7 @@ use lib.ListN.{length, take, drop, length-map, getD}
 use Rattle.coded.specs.CodedRead.{keptC}
 use mathlib.Core.Path.{_≡_}
 use native.Mathlib.Omega.{arith}
-use Rattle.windows_reply.proofs.Steps.{size-is, kept-turn, kept-done, held-few, noZone}
+use Rattle.windows_reply.proofs.Steps.{size-is, kept-turn, kept-done, held-is, held-few, noZone}
 
 abbrev Inv-loop : tie.InvT-loop
 Inv-loop b zones n total₀ i₀ total i = (n ≤ 32) × (n ≡ length (take (zones .count) (zones .list)))
@@ -54,13 +54,16 @@ loop-again c =
     let v = c .before .before .before .loop .inv in
     let z = c .before .before .before .before .before .args .t2 in
     let few = held-few (c .before .before .before .before .before .args .b)
-    (getD (c .before .before .before .before .before .args .t2 .list) (c .before .before .before .loop .i) noZone)
-    (c .held .result) (c .held .ensures) (c .before .before .before .before .before .pre) in (
+    (getD (z .list) (c .before .before .before .loop .i) noZone) (c .held .result) (c .held .ensures)
+    (c .before .before .before .before .before .pre) in
+    let is = held-is (c .before .before .before .before .before .args .b)
+    (getD (z .list) (c .before .before .before .loop .i) noZone) (c .held .result) (c .held .ensures)
+    (c .before .before .before .before .before .pre) in (
       v .0,
       v .1,
       kept-turn (c .before .before .before .before .before .args .b) (z .list) (z .count)
           (c .before .before .before .loop .i) (c .before .before .before .loop .total) (c .held .result) noZone
-          (omega (arith, c .before .before .loop-test .taken, v .1)) (v .2) (c .held .ensures),
+          (omega (arith, c .before .before .loop-test .taken, v .1)) (v .2) is,
       omega (arith, v .3, few),
     )
 

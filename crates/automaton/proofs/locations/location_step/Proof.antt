@@ -11,8 +11,8 @@ cast-if1 c = search needs
 guards-at-requires : tie.Need-guards-at-requires
 guards-at-requires c κs = search needs
 
-mul-t14 : tie.Need-mul-t14
-mul-t14 c = search needs
+mul-t15 : tie.Need-mul-t15
+mul-t15 c = search needs
 
 element-set-from-next : tie.Need-element-set-from-next
 element-set-from-next c = search needs
@@ -28,4 +28,4 @@ returns-2 c = simp (le-ltb _ _ (c .if1 .left))
 pub location-step-spec : {M : Type 1} → statement M
 location-step-spec =
     tie.close
-    (tie.spec cast-if1 guards-at-requires mul-t14 element-set-from-next returns returns-2)
+    (tie.spec cast-if1 guards-at-requires mul-t15 element-set-from-next returns returns-2)

@@ -11,10 +11,10 @@ use Rattle.automaton.proofs.locations.locations_read.Statement.{stateme
 use Rattle.automaton.proofs.locations.locations_read.Tie as tie
 
 abbrev Inv-loop : tie.InvT-loop
-Inv-loop file end parameters all₀ i₀ all i = (i ≤ 16) × (all ≡ iterate (locationStep file end parameters) all₀ i)
+Inv-loop file end most parameters all₀ i₀ all i = (i ≤ 16) × (all ≡ iterate (locationStep file end most parameters) all₀ i)
 
 abbrev μ-loop : tie.MeasureT-loop
-μ-loop file end parameters all₀ i₀ all i = 16 - i
+μ-loop file end most parameters all₀ i₀ all i = 16 - i
 
 byte-field-requires : tie.Need-byte-field-requires Inv-loop μ-loop
 byte-field-requires c κs = search needs

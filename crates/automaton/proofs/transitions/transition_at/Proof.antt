@@ -16,11 +16,11 @@ resets-field-requires c κs = search needs
 guards-at-requires : tie.Need-guards-at-requires
 guards-at-requires c κs = search needs
 
-cast-t13 : tie.Need-cast-t13
-cast-t13 c = search needs
-
 cast-t14 : tie.Need-cast-t14
 cast-t14 c = search needs
+
+cast-t15 : tie.Need-cast-t15
+cast-t15 c = search needs
 
 returns : tie.Need-returns
 unfolding transitionAt
@@ -41,6 +41,6 @@ transition-at-spec =
     below-field-requires-2
     resets-field-requires
     guards-at-requires
-    cast-t13
     cast-t14
+    cast-t15
     returns)

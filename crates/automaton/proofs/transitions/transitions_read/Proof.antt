@@ -12,11 +12,11 @@ use Rattle.automaton.proofs.transitions.transitions_read.Statement.{sta
 use Rattle.automaton.proofs.transitions.transitions_read.Tie as tie
 
 abbrev Inv-loop : tie.InvT-loop
-Inv-loop file end parameters clocks locations all₀ i₀ all i =
-    (i ≤ 32) × (all ≡ iterate (transitionStep file end parameters clocks locations) all₀ i)
+Inv-loop file end most parameters clocks locations all₀ i₀ all i =
+    (i ≤ 32) × (all ≡ iterate (transitionStep file end most parameters clocks locations) all₀ i)
 
 abbrev μ-loop : tie.MeasureT-loop
-μ-loop file end parameters clocks locations all₀ i₀ all i = 32 - i
+μ-loop file end most parameters clocks locations all₀ i₀ all i = 32 - i
 
 byte-field-requires : tie.Need-byte-field-requires Inv-loop μ-loop
 byte-field-requires c κs = search needs

@@ -5,7 +5,7 @@ use Rattle.constrain.proofs.rule.entry.Tie as tie
 use lib.ListN.{length, length-map, List·getD-eq-default}
 use mathlib.Core.Path.{_≡_, sym}
 use native.Mathlib.Omega.{arith}
-use Rattle.expr.specs.Three.{zeroBound}
+use Rattle.expr.specs.Records.{zeroBound}
 
 mul-place : tie.Need-mul-place
 mul-place c = search needs

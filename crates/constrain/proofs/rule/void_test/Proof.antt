@@ -4,7 +4,7 @@ use Rattle.constrain.proofs.rule.void_test.Statement.{statement}
 use Rattle.constrain.proofs.rule.void_test.Tie as tie
 use mathlib.Core.Path.{_∙_, ap}
 use Rattle.constrain.specs.Rules.{voidTest, sumC, tighterC}
-use Rattle.expr.specs.Three.{zeroBound}
+use Rattle.expr.specs.Records.{zeroBound}
 use Rattle.expr.specs.declared.bound.Bound.{Bound}
 
 entry-requires : tie.Need-entry-requires

@@ -1,7 +1,7 @@
 -- `entries::contents_of` meets its contract: code and definition are one composition. Each length is below 65,536, so the sums fit.
 -- Assumes nothing.
 use native.Mathlib.Omega.{arith}
-use Rattle.contents.specs.Contents.{contentsOf, headOf, oneOf, firstOf, twoOf, secondOf, threeOf, thirdOf, fourOf}
+use Rattle.contents.specs.Contents.{contentsOf, versionOf, headOf, oneOf, firstOf, twoOf, secondOf, threeOf, thirdOf, fourOf}
 use borrow.Author.Needs.{needs}
 use Rattle.contents.proofs.entries.contents_of.Statement.{statement}
 use Rattle.contents.proofs.entries.contents_of.Tie as tie
@@ -64,7 +64,7 @@ entry-field-requires-4 : tie.Need-entry-field-requires-4
 entry-field-requires-4 c κs = search needs
 
 returns : tie.Need-returns
-unfolding contentsOf headOf oneOf firstOf twoOf secondOf threeOf thirdOf fourOf
+unfolding contentsOf versionOf headOf oneOf firstOf twoOf secondOf threeOf thirdOf fourOf
 returns c =
     let three = c .before .before .before in
     let two = three .before .before in

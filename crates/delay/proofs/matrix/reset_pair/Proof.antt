@@ -1,4 +1,6 @@
 -- The branches are the cases of `resetPair`.
+use mathlib.Core.Path.{_≡_}
+use lib.ListN.{length}
 use borrow.Author.Needs.{needs}
 use Rattle.delay.proofs.matrix.reset_pair.Statement.{statement}
 use Rattle.delay.proofs.matrix.reset_pair.Tie as tie
@@ -54,8 +56,10 @@ array-set-from-n-2 c = search needs
 returns-3 : tie.Need-returns-3
 returns-3 c =
     let tested-2 = c .before .before in
-    let a = tested-2 .before .before .args in
-    pair-other (a .clocks) (a .r) (a .j) (a .t1) (tested-2 .before .if1 .left) (tested-2 .if2 .left)
+    let start = tested-2 .before .before in
+    let a = start .args in
+    let l : length (a .t1) ≡ 25 = start .good .0 .1 .0 .1 in
+    pair-other (a .clocks) (a .r) (a .j) (a .t1) (tested-2 .before .if1 .left) (tested-2 .if2 .left) (start .pre .1) l
 
 pub reset-pair-spec : {M : Type 1} → statement M
 reset-pair-spec =

@@ -6,8 +6,7 @@ use mir.Syntax.{w16, w64}
 use mir.Val.{SFits}
 use borrow.Author.Needs.{needs}
 use Rattle.integer.specs.Bits.{passed, held, op-fits, op-back}
-use Rattle.search.proofs.Cuts.{range-path}
-use Rattle.search.proofs.Widths.{member, member-fits, member-fits-64, place-fits}
+use Rattle.search.proofs.Widths.{range-path, member, member-fits, member-fits-64, place-fits}
 use Rattle.search.proofs.ranges.point.Statement.{statement}
 use Rattle.search.proofs.ranges.point.Tie as tie
 

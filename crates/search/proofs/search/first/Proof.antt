@@ -1,129 +1,35 @@
--- The loop's invariant: the first of what is left of the narrowed range is the first of all.
-use mathlib.Core.Path.{_≡_, sym, ap, _∙_}
-use mathlib.Core.List.{List, [], _∷_, map}
-use mathlib.Core.Option.{Option}
-use Prim.Native.Nat.{ℕ, _-_, _≤_}
+-- A pair of inequalities that no valuation meets, or the search of the whole box.
 use native.Mathlib.Omega.{arith}
-use lib.IntN.{ℤ, pos, _+ℤ_}
+use lib.ListN.{length-map}
+use Rattle.search.proofs.Answers.{first-answer, first-never}
 use borrow.Author.Needs.{needs}
-use Rattle.search.specs.Interval.{fix}
-use Rattle.search.specs.SearchLaws.{firstOver, lead, first-step}
-use Rattle.search.specs.System.{exprs, firstOf}
-use Rattle.search.specs.declared.search.System.{System}
-use Rattle.search.specs.Valuations.{first, width}
-use Rattle.expr.specs.declared.range.Range.{Range}
-use Rattle.expr.specs.declared.range.Ranges.{Ranges}
-use Rattle.search.proofs.Totals.{first-start, first-next, first-done, first-at-p, first-found, nothing-is}
 use Rattle.search.proofs.search.first.Statement.{statement}
 use Rattle.search.proofs.search.first.Tie as tie
 
--- with p = x, the first of the others
-abbrev firstAt : Ranges → System → ℤ → Option (List ℤ)
-firstAt b s = λ (x : ℤ). lead x (first (b .q ∷ b .r ∷ []) (map (fix x) (exprs s)))
+at-most-requires : tie.Need-at-most-requires
+at-most-requires c κs = search needs
 
-abbrev Inv-loop : tie.InvT-loop
-Inv-loop b s range n i₀ i =
-    (i ≤ n) × (n ≤ 65536) × (n ≡ width range)
-    × (firstOver (firstAt b s) (range .low +ℤ pos i) (n - i) ≡ first (b .p ∷ b .q ∷ b .r ∷ []) (exprs s))
+opposed-requires : tie.Need-opposed-requires
+opposed-requires c κs = search needs
 
-abbrev μ-loop : tie.MeasureT-loop
-μ-loop b s range n i₀ i = n - i
-
-narrowed-p-requires : tie.Need-narrowed-p-requires Inv-loop μ-loop
-narrowed-p-requires c κs = search needs
-
-width-requires : tie.Need-width-requires Inv-loop μ-loop
-width-requires c κs = search needs
-
-loop-holds : tie.Need-loop-holds Inv-loop μ-loop
-loop-holds c =
-    let a = c .before .before .args in
-    let w = c .width .ensures in (
-      omega arith,
-      w .1,
-      w .0,
-      first-start (firstAt (a .b) (a .s)) (c .before .narrowed-p .result .low) (c .width .result)
-          ∙ ap (λ (n : ℕ). firstOver (firstAt (a .b) (a .s)) (c .before .narrowed-p .result .low) n) (w .0)
-          ∙ ap (λ (r : Range). firstOver (firstAt (a .b) (a .s)) (r .low) (width r)) (c .before .narrowed-p .ensures)
-          ∙ sym (first-step (exprs (a .s)) (a .b .p) (a .b .q ∷ a .b .r ∷ [])),
-    )
-
-point-requires : tie.Need-point-requires Inv-loop μ-loop
-point-requires c κs = omega arith
-
-with-p-requires : tie.Need-with-p-requires Inv-loop μ-loop
-with-p-requires c κs = search needs
-
-first-q-requires : tie.Need-first-q-requires Inv-loop μ-loop
-first-q-requires c κs = search needs
-
-enum-told : tie.Need-enum-told Inv-loop μ-loop
-enum-told c = search needs
-
-returns : tie.Need-returns Inv-loop μ-loop
+returns : tie.Need-returns
 returns c =
-    let after-first-q = c .before .before in
-    let after-point = after-first-q .before .before in
-    let at-loop = after-point .before .before in
-    let after-narrowed-p = at-loop .before .before in
-    let a = after-narrowed-p .before .args in
-    let v = at-loop .loop .inv in
-    let e = first-at-p (a .b) _ _ (after-narrowed-p .narrowed-p .result) (at-loop .loop .i) (a .s) (after-point .point .ensures)
-    (after-first-q .before .with-p .ensures) _ (after-first-q .first-q .ensures) in
-    e
-    ∙ first-found (firstAt (a .b) (a .s)) (after-narrowed-p .narrowed-p .result .low) (at-loop .before .width .result)
-    (at-loop .loop .i) _ _ (omega arith) (v .3) (sym e ∙ c .enum-told .given .1)
+    let s = c .before .before .before in
+    first-never (s .args .b .list) (s .args .flat .now) (s .args .n) (c .before .before .at-most .result)
+    (c .before .before .at-most .ensures)
+    (simp length-map at (s .good .0 .1 .1 .0 .1 .0 .1)) (c .before .opposed .ensures (c .if1 .taken))
 
-enum-told-2 : tie.Need-enum-told-2 Inv-loop μ-loop
-enum-told-2 c = search needs
+first-from-requires : tie.Need-first-from-requires
+first-from-requires c κs = (omega (arith, c .before .before .at-most .ensures), (omega arith, tt))
 
-add-i : tie.Need-add-i Inv-loop μ-loop
-add-i c = omega arith
-
-loop-less : tie.Need-loop-less Inv-loop μ-loop
-loop-less c = omega arith
-
-loop-again : tie.Need-loop-again Inv-loop μ-loop
-loop-again c =
-    let after-first-q = c .before .before in
-    let after-point = after-first-q .before .before in
-    let at-loop = after-point .before .before in
-    let after-narrowed-p = at-loop .before .before in
-    let a = after-narrowed-p .before .args in
-    let v = at-loop .loop .inv in
-    let e = first-at-p (a .b) _ _ (after-narrowed-p .narrowed-p .result) (at-loop .loop .i) (a .s) (after-point .point .ensures)
-    (after-first-q .before .with-p .ensures) _ (after-first-q .first-q .ensures) in (
-      omega arith,
-      v .1,
-      v .2,
-      first-next (firstAt (a .b) (a .s)) (after-narrowed-p .narrowed-p .result .low) (at-loop .before .width .result) (at-loop .loop .i)
-          _ (omega arith) (nothing-is _ (sym e ∙ c .enum-told2 .given .1)) (v .3),
-    )
-
-returns-2 : tie.Need-returns-2 Inv-loop μ-loop
+returns-2 : tie.Need-returns-2
 returns-2 c =
-    let after-width = c .before .before in
-    let a = after-width .before .before .args in
-    ap firstOf
-    (first-done (firstAt (a .b) (a .s)) (after-width .before .narrowed-p .result .low) (after-width .width .result) (c .before .loop .i)
-    _ (omega arith) (c .before .loop .inv .3))
+    let s = c .before .before .before .before in
+    let m = c .before .before .before .at-most in
+    first-answer (s .args .b .list) (s .args .flat .now) (s .args .n) (m .result) (m .ensures)
+    (simp length-map at (s .good .0 .1 .1 .0 .1 .0 .1))
+    _ (c .first-from .ensures)
 
 pub first-spec : {M : Type 1} → statement M
 first-spec =
-    tie.close
-    (tie.spec
-    Inv-loop
-    μ-loop
-    narrowed-p-requires
-    width-requires
-    loop-holds
-    point-requires
-    with-p-requires
-    first-q-requires
-    enum-told
-    returns
-    enum-told-2
-    add-i
-    loop-less
-    loop-again
-    returns-2)
+    tie.close (tie.spec at-most-requires opposed-requires returns first-from-requires returns-2)

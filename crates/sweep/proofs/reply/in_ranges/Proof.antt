@@ -1,105 +1,120 @@
 -- The tests are those of `outside`, in order; a number in its range fits 16 bits.
-use borrow.Author.Needs.{needs}
 use mathlib.Core.Path.{_≡_, _∙_}
 use mathlib.Core.Bool.{true}
+use Prim.Native.Nat.{_-_}
+use lib.IntN.{pos}
+use lib.ListN.{getD}
 use mir.Syntax.{w16, w64}
+use mir.Val.{SFits}
 use mir.ValLaws.{toZ-ofZ}
+use Rattle.expr.specs.Records.{blankRange}
 use Rattle.sweep.specs.Reply.{inRange}
-use Rattle.sweep.proofs.Replies.{told-inside, told-outside, bits-inside, outside-p, outside-q, outside-r, all-inside}
+use Rattle.sweep.proofs.Replies.{Placing, placing-start, placing-turn, placing-out, placing-all}
+use Rattle.sweep.proofs.Replies.{told-inside, told-outside, bits-inside}
+use borrow.Author.Needs.{needs}
 use Rattle.sweep.proofs.reply.in_ranges.Statement.{statement}
 use Rattle.sweep.proofs.reply.in_ranges.Tie as tie
 
-abbrev start : tie.Else1 → tie.Start
-start c = c .before .before .before .before .before
+abbrev Inv-loop : tie.InvT-loop
+Inv-loop b numbers v₀ i₀ v i = Placing (b .list) (numbers .list) i v
 
--- past each test, its number is in its range
-p-inside : (c : tie.Else1) → let s = start c .args in inRange (s .b .p) (s .p) ≡ true
-p-inside c =
-    let s = start c in
-    told-inside (s .args .b .p) (s .args .p) _ (s .fits .p) (c .before .in-range .ensures) (c .if1 .left)
+abbrev μ-loop : tie.MeasureT-loop
+μ-loop b numbers v₀ i₀ v i = 4 - i
 
-q-inside : (c : tie.Else2) → let s = start (c .before .before) .args in inRange (s .b .q) (s .q) ≡ true
-q-inside c =
-    let s = start (c .before .before) in
-    told-inside (s .args .b .q) (s .args .q) _ (s .fits .q) (c .before .in-range2 .ensures) (c .if2 .left)
+loop-holds : tie.Need-loop-holds Inv-loop μ-loop
+loop-holds c = placing-start (c .args .t1 .list) (c .args .t2 .list)
 
-r-inside : (c : tie.Else3) → let s = start (c .before .before .before .before) .args in inRange (s .b .r) (s .r) ≡ true
-r-inside c =
-    let s = start (c .before .before .before .before) in
-    told-inside (s .args .b .r) (s .args .r) _ (s .fits .r) (c .before .in-range3 .ensures) (c .if3 .left)
+mul-range : tie.Need-mul-range Inv-loop μ-loop
+mul-range c = search needs
 
-in-range-requires : tie.Need-in-range-requires
+element-copy-out-range : tie.Need-element-copy-out-range Inv-loop μ-loop
+element-copy-out-range c = search needs
+
+mul-x : tie.Need-mul-x Inv-loop μ-loop
+mul-x c = search needs
+
+element-copy-out-x : tie.Need-element-copy-out-x Inv-loop μ-loop
+element-copy-out-x c = search needs
+
+in-range-requires : tie.Need-in-range-requires Inv-loop μ-loop
 in-range-requires c κs = search needs
 
-returns : tie.Need-returns
+returns : tie.Need-returns Inv-loop μ-loop
 returns c =
-    let s = c .before .before .before .before .before in
-    outside-p (s .args .b) (s .args .p) (s .args .q) (s .args .r)
-    (told-outside (s .args .b .p) (s .args .p) _ (s .fits .p) (c .before .in-range .ensures) (c .if1 .taken))
+    let turn = c .before .before .before .before in
+    let loop = turn .before .loop in
+    let a = turn .before .before .args in
+    let l = a .t1 .list in
+    let xs = a .t2 .list in
+    placing-out l xs (loop .i) (loop .v) (turn .loop-test .taken) (loop .inv)
+    (told-outside (getD l (loop .i) blankRange) (getD xs (loop .i) (pos 0)) _ (record { sfits = c .before .before .x .given })
+    (c .before .in-range .ensures) (c .if1 .taken))
 
-in-range-requires-2 : tie.Need-in-range-requires-2
-in-range-requires-2 c κs = search needs
+number-inside : (c : tie.Else1 Inv-loop μ-loop) →
+    let turn = c .before .before .before .before in
+    let i = turn .before .loop .i in
+    let a = turn .before .before .args in
+    inRange (getD (a .t1 .list) i blankRange) (getD (a .t2 .list) i (pos 0)) ≡ true
+number-inside c =
+    let turn = c .before .before .before .before in
+    let i = turn .before .loop .i in
+    let a = turn .before .before .args in
+    told-inside (getD (a .t1 .list) i blankRange) (getD (a .t2 .list) i (pos 0)) _ (record { sfits = c .before .before .x .given })
+    (c .before .in-range .ensures) (c .if1 .left)
 
-returns-2 : tie.Need-returns-2
-returns-2 c =
-    let else-1 = c .before .before in
-    let s = start else-1 in
-    outside-q (s .args .b) (s .args .p) (s .args .q) (s .args .r) (p-inside else-1)
-    (told-outside (s .args .b .q) (s .args .q) _ (s .fits .q) (c .before .in-range2 .ensures) (c .if2 .taken))
-
-in-range-requires-3 : tie.Need-in-range-requires-3
-in-range-requires-3 c κs = search needs
-
-returns-3 : tie.Need-returns-3
-returns-3 c =
-    let else-2 = c .before .before in
-    let else-1 = else-2 .before .before in
-    let s = start else-1 in
-    outside-r (s .args .b) (s .args .p) (s .args .q) (s .args .r) (p-inside else-1) (q-inside else-2)
-    (told-outside (s .args .b .r) (s .args .r) _ (s .fits .r) (c .before .in-range3 .ensures) (c .if3 .taken))
-
-value-in-requires : tie.Need-value-in-requires
+value-in-requires : tie.Need-value-in-requires Inv-loop μ-loop
 value-in-requires c κs =
-    let else-1 = c .before .before .before .before in
-    let s = start else-1 in
-    bits-inside (s .args .b .p) (s .args .p) (s .fits .p) (p-inside else-1)
+    let turn = c .before .before .before .before in
+    let loop = turn .before .loop in
+    let a = turn .before .before .args in
+    bits-inside (getD (a .t1 .list) (loop .i) blankRange) (getD (a .t2 .list) (loop .i) (pos 0))
+    (record { sfits = c .before .before .x .given }) (number-inside c)
 
-value-in-requires-2 : tie.Need-value-in-requires-2
-value-in-requires-2 c κs =
-    let else-2 = c .before .before .before in
-    let s = start (else-2 .before .before) in
-    bits-inside (s .args .b .q) (s .args .q) (s .fits .q) (q-inside else-2)
+mul-t12 : tie.Need-mul-t12 Inv-loop μ-loop
+mul-t12 c = search needs
 
-value-in-requires-3 : tie.Need-value-in-requires-3
-value-in-requires-3 c κs =
-    let else-3 = c .before .before in
-    let s = start (else-3 .before .before .before .before) in
-    bits-inside (s .args .b .r) (s .args .r) (s .fits .r) (r-inside else-3)
+element-set-from-v : tie.Need-element-set-from-v Inv-loop μ-loop
+element-set-from-v c = search needs
 
-returns-4 : tie.Need-returns-4
-returns-4 c =
-    let after-value-in = c .before .before in
-    let else-3 = after-value-in .before in
-    let else-2 = else-3 .before .before in
-    let else-1 = else-2 .before .before in
-    let s = start else-1 in
-    all-inside (s .args .b) (s .args .p) (s .args .q) (s .args .r)
-    (toZ-ofZ w16 (after-value-in .value-in .result) (search needs) ∙ after-value-in .value-in .ensures ∙ toZ-ofZ w64 _ (s .fits .p))
-    (toZ-ofZ w16 (c .before .value-in2 .result) (search needs) ∙ c .before .value-in2 .ensures ∙ toZ-ofZ w64 _ (s .fits .q))
-    (toZ-ofZ w16 (c .value-in3 .result) (search needs) ∙ c .value-in3 .ensures ∙ toZ-ofZ w64 _ (s .fits .r))
-    (p-inside else-1) (q-inside else-2) (r-inside else-3)
+add-i : tie.Need-add-i Inv-loop μ-loop
+add-i c = search needs
+
+loop-less : tie.Need-loop-less Inv-loop μ-loop
+loop-less c = search needs
+
+loop-again : tie.Need-loop-again Inv-loop μ-loop
+loop-again c =
+    let turn = c .before .before .before .before .before in
+    let loop = turn .before .loop in
+    let a = turn .before .before .args in
+    let x = getD (a .t2 .list) (loop .i) (pos 0) in
+    let f : SFits w64 x = record { sfits = c .before .before .before .x .given } in
+    placing-turn (a .t1 .list) (a .t2 .list) (loop .i) (loop .v) _ (turn .loop-test .taken) (loop .inv) (number-inside (c .before))
+    (toZ-ofZ w16 (c .value-in .result) (search needs) ∙ c .value-in .ensures ∙ toZ-ofZ w64 x f)
+
+returns-2 : tie.Need-returns-2 Inv-loop μ-loop
+returns-2 c =
+    let loop = c .before .loop in
+    let a = c .before .before .args in
+    placing-all (a .t1 .list) (a .t2 .list) (loop .i) (loop .v) (search needs) (loop .inv)
 
 pub in-ranges-spec : {M : Type 1} → statement M
 in-ranges-spec =
     tie.close
     (tie.spec
+    Inv-loop
+    μ-loop
+    loop-holds
+    mul-range
+    element-copy-out-range
+    mul-x
+    element-copy-out-x
     in-range-requires
     returns
-    in-range-requires-2
-    returns-2
-    in-range-requires-3
-    returns-3
     value-in-requires
-    value-in-requires-2
-    value-in-requires-3
-    returns-4)
+    mul-t12
+    element-set-from-v
+    add-i
+    loop-less
+    loop-again
+    returns-2)

@@ -1,6 +1,6 @@
 -- The loop's invariant: what is left of the guards takes the matrix to where all of them take it.
 use Prim.Native.Nat.{_≤_, _-_}
-use Rattle.expr.specs.Three.{point}
+use Rattle.expr.specs.Records.{point}
 use Rattle.walk.specs.Walked.{guardsTable}
 use borrow.Author.Needs.{needs}
 use lib.ListN.{length, take, drop}

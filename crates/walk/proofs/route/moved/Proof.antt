@@ -1,5 +1,5 @@
 -- The guards, the resets, then the invariants on arrival, as in `moveTable`.
-use Rattle.expr.specs.Three.{point}
+use Rattle.expr.specs.Records.{point}
 use Rattle.weight_matrix.specs.Tables.{Table, resetsTable}
 use Rattle.walk.specs.Walked.{invariantsTable, moveTable}
 use borrow.Author.Needs.{needs}

@@ -1,6 +1,6 @@
 -- All zero, then the invariants of location 0, as in `startedTable`.
 use Rattle.automaton.specs.declared.Location.{Location}
-use Rattle.expr.specs.Three.{point}
+use Rattle.expr.specs.Records.{point}
 use Rattle.weight_matrix.specs.Tables.{startTable}
 use Rattle.walk.specs.Walked.{invariantsTable, startedTable}
 use borrow.Author.Needs.{needs}

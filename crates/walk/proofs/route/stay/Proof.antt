@@ -1,5 +1,5 @@
 -- A wait, then the invariants, as in `stayTable`.
-use Rattle.expr.specs.Three.{point}
+use Rattle.expr.specs.Records.{point}
 use Rattle.weight_matrix.specs.Tables.{Table}
 use Rattle.walk.specs.Walked.{invariantsTable, stayTable}
 use borrow.Author.Needs.{needs}

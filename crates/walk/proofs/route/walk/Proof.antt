@@ -1,6 +1,6 @@
 -- The loop's invariant: what is left of the route takes the matrix to where the whole route takes it.
 use Prim.Native.Nat.{ℕ, _≤_, _-_}
-use Rattle.expr.specs.Three.{point}
+use Rattle.expr.specs.Records.{point}
 use Rattle.weight_matrix.specs.Tables.{Table}
 use Rattle.walk.specs.Walked.{walkTable, sweepTable}
 use Rattle.sheet.specs.Lookup.{transitionC}

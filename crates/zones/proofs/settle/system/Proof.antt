@@ -1,16 +1,16 @@
--- The loop's invariant: the first i expressions are copied.
+-- The zone's inequalities are copied one after another.
+use mathlib.Core.Path.{_≡_, refl, subst, sym}
+use Prim.Native.Nat.{_-_}
+use native.Mathlib.Omega.{arith}
+use lib.ListN.{length, length-map}
+use Rattle.search.specs.System.{exprsFrom}
+use Rattle.zones.proofs.Steps.{Copied, copied-turn, copied-all}
+use borrow.Author.Needs.{needs}
 use Rattle.zones.proofs.settle.system.Statement.{statement}
 use Rattle.zones.proofs.settle.system.Tie as tie
-use Prim.Native.Nat.{_≤_, _-_}
-use lib.ListN.{length, take, length-set, length-map}
-use mathlib.Core.Path.{_≡_, refl, _∙_}
-use native.Mathlib.Omega.{arith}
-use Rattle.zones.proofs.Steps.{system-turn, system-done}
-use borrow.Author.Needs.{needs}
 
 abbrev Inv-loop : tie.InvT-loop
-Inv-loop e zone n list₀ i₀ list i =
-    (n ≤ 24) × (i ≤ n) × (length list ≡ 25) × (length (zone .ineqs) ≡ 24) × (take i list ≡ take i (zone .ineqs))
+Inv-loop e zone n list₀ i₀ list i = Copied (zone .ineqs) n i list
 
 abbrev μ-loop : tie.MeasureT-loop
 μ-loop e zone n list₀ i₀ list i = n - i
@@ -19,52 +19,44 @@ at-most-requires : tie.Need-at-most-requires Inv-loop μ-loop
 at-most-requires c κs = search needs
 
 loop-holds : tie.Need-loop-holds Inv-loop μ-loop
+unfolding exprsFrom
 loop-holds c =
     let l : length (c .before .args .t1 .ineqs) ≡ 24 = simp length-map at (c .before .good .0 .1 .1 .1 .0 .1 .0 .1) in
-    (omega (arith, c .at-most .ensures), omega arith, refl, l, refl)
+    record { few = omega (arith, c .at-most .ensures); within = omega arith; long = refl; zone-long = l; same = refl }
 
 mul-x : tie.Need-mul-x Inv-loop μ-loop
-mul-x c = omega (arith, c .before .loop .inv .0)
+mul-x c = omega (arith, c .before .loop .inv .few)
 
 element-copy-out-x : tie.Need-element-copy-out-x Inv-loop μ-loop
-element-copy-out-x c = omega (arith, c .before .loop .inv .0)
+element-copy-out-x c = omega (arith, c .before .loop .inv .few)
 
-mul-list : tie.Need-mul-list Inv-loop μ-loop
-mul-list c = omega (arith, c .before .before .loop .inv .0)
-
-array-set-from-list : tie.Need-array-set-from-list Inv-loop μ-loop
-array-set-from-list c = omega (arith, c .before .before .loop .inv .0, c .before .before .loop .inv .2)
+extended-requires : tie.Need-extended-requires Inv-loop μ-loop
+extended-requires c κs = omega (arith, c .before .before .loop .inv .few)
 
 add-i : tie.Need-add-i Inv-loop μ-loop
-add-i c = omega (arith, c .before .before .loop .inv .0)
+add-i c = omega (arith, c .before .before .before .loop .inv .few)
 
 loop-less : tie.Need-loop-less Inv-loop μ-loop
-loop-less c = omega (arith, c .before .loop-test .taken)
+loop-less c = search needs
 
 loop-again : tie.Need-loop-again Inv-loop μ-loop
 loop-again c =
-    let v = c .before .before .loop .inv in (
-      v .0,
-      omega arith,
-      length-set (c .before .before .loop .list) (c .before .before .loop .i) _ ∙ v .2,
-      v .3,
-      system-turn (c .before .before .loop .list) _ (c .before .before .loop .i) _ (omega (arith, v .2)) (omega (arith, v .3)) (v .4),
-    )
+    let loop = c .before .before .before .loop in
+    let a = c .before .before .before .before .before .args in
+    subst (Copied (a .t1 .ineqs) _ _) (sym (c .extended .ensures))
+    (copied-turn (a .t1 .ineqs) _ (loop .i) (loop .list) (loop .inv) (c .before .before .loop-test .taken))
 
-mul-list-2 : tie.Need-mul-list-2 Inv-loop μ-loop
-mul-list-2 c = omega (arith, c .before .loop .inv .0)
-
-array-set-from-list-2 : tie.Need-array-set-from-list-2 Inv-loop μ-loop
-array-set-from-list-2 c = omega (arith, c .before .loop .inv .0, c .before .loop .inv .2)
-
-add-t8 : tie.Need-add-t8 Inv-loop μ-loop
-add-t8 c = omega (arith, c .before .loop .inv .0)
+extended-requires-2 : tie.Need-extended-requires-2 Inv-loop μ-loop
+extended-requires-2 c κs = omega (arith, c .before .loop .inv .few)
 
 returns : tie.Need-returns Inv-loop μ-loop
 returns c =
-    let v = c .before .loop .inv in
-    system-done (c .before .loop .list) _ _ (c .before .loop .i) _ _ (c .before .before .at-most .ensures) (v .3) (v .2) (v .1)
-    (c .loop-test .left) (v .4)
+    let loop = c .before .before .loop in
+    let asked = c .before .before .before in
+    let a = asked .before .args in
+    rw (c .extended2 .ensures)
+    (copied-all (a .t1 .ineqs) _ (loop .i) (a .t1 .count) (loop .list) (a .e) (asked .at-most .ensures) (loop .inv)
+    (c .before .loop-test .left))
 
 pub system-spec : {M : Type 1} → statement M
 system-spec =
@@ -76,12 +68,9 @@ system-spec =
     loop-holds
     mul-x
     element-copy-out-x
-    mul-list
-    array-set-from-list
+    extended-requires
     add-i
     loop-less
     loop-again
-    mul-list-2
-    array-set-from-list-2
-    add-t8
+    extended-requires-2
     returns)

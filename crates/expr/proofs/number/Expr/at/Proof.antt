@@ -1,144 +1,113 @@
--- The constant and the three products are small enough that 64 bits hold every sum, which is the value.
-use mathlib.Core.Path.{_∙_}
-use lib.IntN.{_+ℤ_, _*ℤ_}
+-- The constant and a product for each parameter are small enough that 64 bits hold every sum; the last one is the value.
+use Prim.Native.Nat.{_+_, _-_, _≤_}
+use native.Mathlib.Omega.{arith}
+use lib.IntN.{pos, _+ℤ_, _*ℤ_}
+use lib.ListN.{getD}
 use mir.Facts.{sfits-widen}
 use mir.Syntax.{w16, w32, w64}
-use mir.Val.{SFits}
+use mir.Val.{SFits, toZ, ofZ}
+use Rattle.integer.specs.Bits.{held, heard, passed}
+use Rattle.integer.specs.Product.{product-fits}
+use Rattle.expr.proofs.Sizes.{SumTo, sum-start, sum-turn, turn-fits, turn-stored, sum-all}
 use borrow.Author.Needs.{needs}
-use Rattle.integer.specs.Product.{product-fits, product-range}
-use Rattle.expr.specs.Affine.{value, dot}
-use Rattle.integer.specs.Bits.{passed, heard, op-fits, op-is, op-back}
-use Rattle.expr.proofs.Sizes.{two-fit, three-fit, four-fit, dot-end}
 use Rattle.expr.proofs.number.Expr.at.Statement.{statement}
 use Rattle.expr.proofs.number.Expr.at.Tie as tie
 
-wide-requires : tie.Need-wide-requires
+abbrev Inv-loop : tie.InvT-loop
+Inv-loop self v sum₀ i₀ sum i = (i ≤ 4) × SumTo self v i (toZ w64 sum)
+
+abbrev μ-loop : tie.MeasureT-loop
+μ-loop self v sum₀ i₀ sum i = 4 - i
+
+wide-requires : tie.Need-wide-requires Inv-loop μ-loop
 wide-requires c κs = search needs
 
-product-requires : tie.Need-product-requires
+loop-holds : tie.Need-loop-holds Inv-loop μ-loop
+loop-holds c =
+    let start = c .before .before .args in
+    let f : SFits w32 (start .t1 .constant) = record { sfits = c .before .struct-told .given .0 .1 } in (
+      omega arith,
+      rw (held w64 _ (start .t1 .constant) (passed w32 _ _ (c .wide .ensures) f) (sfits-widen {w = w32} tt f))
+          (sum-start (start .t1) (start .t2) f),
+    )
+
+mul-product : tie.Need-mul-product Inv-loop μ-loop
+mul-product c = search needs
+
+element-copy-out-product : tie.Need-element-copy-out-product Inv-loop μ-loop
+element-copy-out-product c = search needs
+
+mul-product-2 : tie.Need-mul-product-2 Inv-loop μ-loop
+mul-product-2 c = search needs
+
+element-copy-out-product-2 : tie.Need-element-copy-out-product-2 Inv-loop μ-loop
+element-copy-out-product-2 c = search needs
+
+product-requires : tie.Need-product-requires Inv-loop μ-loop
 product-requires c κs = search needs
 
-product-requires-2 : tie.Need-product-requires-2
-product-requires-2 c κs = search needs
+-- the sum with one product more
+sum-next : (c : tie.After-product Inv-loop μ-loop)
+    → SumTo (c .before .before .before .before .before .before .before .args .t1)
+    (c .before .before .before .before .before .before .before .args .t2)
+    (c .before .before .before .before .loop .i + 1)
+    (toZ w64 (c .before .before .before .before .loop .sum) +ℤ toZ w64 (ofZ w64 (c .product .result)))
+sum-next c =
+    let turn = c .before .before .before in
+    let loop = turn .before .loop in
+    let start = turn .before .before .before .before .args in
+    let a = getD (start .t1 .coefs) (loop .i) (pos 0) in
+    let b = getD (start .t2 .numbers) (loop .i) (pos 0) in
+    let f : SFits w32 a = record { sfits = c .before .before .product-arg .given } in
+    let g : SFits w16 b = record { sfits = c .before .product-arg2 .given } in
+    sum-turn (start .t1) (start .t2) (loop .i) _ _ (loop .inv .1) f g
+    (held w64 _ (a *ℤ b) (heard _*ℤ_ w32 w16 _ a b (c .product .ensures) f g) (product-fits f g))
 
-product-requires-3 : tie.Need-product-requires-3
-product-requires-3 c κs = search needs
+add-sum : tie.Need-add-sum Inv-loop μ-loop
+add-sum c =
+    let turn = c .before .before .before in
+    let loop = turn .before .loop in
+    let start = turn .before .before .before .before .args in
+    turn-fits (start .t1) (start .t2) (loop .i) (toZ w64 (loop .sum)) (toZ w64 (ofZ w64 (c .product .result)))
+    (turn .loop-test .taken) (sum-next c)
 
-add-result : tie.Need-add-result
-add-result c =
-    let at-struct-told6 = c .before .before in
-    let at-product2 = at-struct-told6 .before in
-    let start = at-product2 .before .before .before .before .before .before .before .before in
-    let s = start .args .self in
-    let v = start .args .v in
-    let t = at-struct-told6 .struct-told6 .given in
-    let u = c .before .struct-told7 .given in
-    let fc : SFits w32 (s .constant) = record { sfits = t .0 .1 } in
-    let fp : SFits w32 (s .p) = record { sfits = t .1 .0 .1 } in
-    let fq : SFits w32 (s .q) = record { sfits = t .1 .1 .0 .1 } in
-    let fr : SFits w32 (s .r) = record { sfits = t .1 .1 .1 .0 .1 } in
-    let gp : SFits w16 (v .p) = record { sfits = u .0 .1 } in
-    let gq : SFits w16 (v .q) = record { sfits = u .1 .0 .1 } in
-    let gr : SFits w16 (v .r) = record { sfits = u .1 .1 .0 .1 } in
-    let eq = heard _*ℤ_ w32 w16 _ (s .q) (v .q) (at-product2 .product2 .ensures) fq gq in
-    let er = heard _*ℤ_ w32 w16 _ (s .r) (v .r) (c .product3 .ensures) fr gr in
-    op-fits _+ℤ_ w64 _ _ (s .q *ℤ v .q) (s .r *ℤ v .r) eq er (product-fits fq gq) (product-fits fr gr)
-    (two-fit _ _ (product-range fq gq) (product-range fr gr))
+add-i : tie.Need-add-i Inv-loop μ-loop
+add-i c = search needs
 
-add-result-2 : tie.Need-add-result-2
-add-result-2 c =
-    let at-struct-told6 = c .before .before in
-    let at-product2 = at-struct-told6 .before in
-    let at-product = at-product2 .before .before .before in
-    let start = at-product .before .before .before .before .before in
-    let s = start .args .self in
-    let v = start .args .v in
-    let t = at-struct-told6 .struct-told6 .given in
-    let u = c .before .struct-told7 .given in
-    let fc : SFits w32 (s .constant) = record { sfits = t .0 .1 } in
-    let fp : SFits w32 (s .p) = record { sfits = t .1 .0 .1 } in
-    let fq : SFits w32 (s .q) = record { sfits = t .1 .1 .0 .1 } in
-    let fr : SFits w32 (s .r) = record { sfits = t .1 .1 .1 .0 .1 } in
-    let gp : SFits w16 (v .p) = record { sfits = u .0 .1 } in
-    let gq : SFits w16 (v .q) = record { sfits = u .1 .0 .1 } in
-    let gr : SFits w16 (v .r) = record { sfits = u .1 .1 .0 .1 } in
-    let eq = heard _*ℤ_ w32 w16 _ (s .q) (v .q) (at-product2 .product2 .ensures) fq gq in
-    let er = heard _*ℤ_ w32 w16 _ (s .r) (v .r) (c .product3 .ensures) fr gr in
-    let ep = heard _*ℤ_ w32 w16 _ (s .p) (v .p) (at-product .product .ensures) fp gp in
-    let eqr = op-is _+ℤ_ w64 _ _ (s .q *ℤ v .q) (s .r *ℤ v .r) eq er (product-fits fq gq) (product-fits fr gr) in
-    op-fits _+ℤ_ w64 _ _ (s .p *ℤ v .p) ((s .q *ℤ v .q) +ℤ (s .r *ℤ v .r)) ep eqr (product-fits fp gp)
-    (two-fit _ _ (product-range fq gq) (product-range fr gr))
-    (three-fit _ _ _ (product-range fp gp) (product-range fq gq) (product-range fr gr))
+loop-less : tie.Need-loop-less Inv-loop μ-loop
+loop-less c = search needs
 
-add-result-3 : tie.Need-add-result-3
-add-result-3 c =
-    let at-struct-told6 = c .before .before in
-    let at-product2 = at-struct-told6 .before in
-    let at-product = at-product2 .before .before .before in
-    let at-wide = at-product .before .before .before in
-    let start = at-wide .before .before in
-    let s = start .args .self in
-    let v = start .args .v in
-    let t = at-struct-told6 .struct-told6 .given in
-    let u = c .before .struct-told7 .given in
-    let fc : SFits w32 (s .constant) = record { sfits = t .0 .1 } in
-    let fp : SFits w32 (s .p) = record { sfits = t .1 .0 .1 } in
-    let fq : SFits w32 (s .q) = record { sfits = t .1 .1 .0 .1 } in
-    let fr : SFits w32 (s .r) = record { sfits = t .1 .1 .1 .0 .1 } in
-    let gp : SFits w16 (v .p) = record { sfits = u .0 .1 } in
-    let gq : SFits w16 (v .q) = record { sfits = u .1 .0 .1 } in
-    let gr : SFits w16 (v .r) = record { sfits = u .1 .1 .0 .1 } in
-    let eq = heard _*ℤ_ w32 w16 _ (s .q) (v .q) (at-product2 .product2 .ensures) fq gq in
-    let er = heard _*ℤ_ w32 w16 _ (s .r) (v .r) (c .product3 .ensures) fr gr in
-    let ep = heard _*ℤ_ w32 w16 _ (s .p) (v .p) (at-product .product .ensures) fp gp in
-    let eqr = op-is _+ℤ_ w64 _ _ (s .q *ℤ v .q) (s .r *ℤ v .r) eq er (product-fits fq gq) (product-fits fr gr) in
-    let ec = passed w32 _ (s .constant) (at-wide .wide .ensures) fc in
-    let epqr = op-is _+ℤ_ w64 _ _ (s .p *ℤ v .p) ((s .q *ℤ v .q) +ℤ (s .r *ℤ v .r)) ep eqr (product-fits fp gp)
-    (two-fit _ _ (product-range fq gq) (product-range fr gr)) in
-    op-fits _+ℤ_ w64 _ _ (s .constant) ((s .p *ℤ v .p) +ℤ ((s .q *ℤ v .q) +ℤ (s .r *ℤ v .r))) ec epqr (sfits-widen tt fc)
-    (three-fit _ _ _ (product-range fp gp) (product-range fq gq) (product-range fr gr))
-    (four-fit _ _ _ _ fc (product-range fp gp) (product-range fq gq) (product-range fr gr))
+loop-again : tie.Need-loop-again Inv-loop μ-loop
+loop-again c =
+    let turn = c .before .before .before in
+    let loop = turn .before .loop in
+    let start = turn .before .before .before .before .args in (
+      omega arith,
+      turn-stored (start .t1) (start .t2) (loop .i) (toZ w64 (loop .sum)) (toZ w64 (ofZ w64 (c .product .result)))
+          (turn .loop-test .taken) (sum-next c),
+    )
 
-returns : tie.Need-returns
-unfolding value dot
+returns : tie.Need-returns Inv-loop μ-loop
 returns c =
-    let at-struct-told6 = c .before .before in
-    let at-product2 = at-struct-told6 .before in
-    let at-product = at-product2 .before .before .before in
-    let at-wide = at-product .before .before .before in
-    let start = at-wide .before .before in
-    let s = start .args .self in
-    let v = start .args .v in
-    let t = at-struct-told6 .struct-told6 .given in
-    let u = c .before .struct-told7 .given in
-    let fc : SFits w32 (s .constant) = record { sfits = t .0 .1 } in
-    let fp : SFits w32 (s .p) = record { sfits = t .1 .0 .1 } in
-    let fq : SFits w32 (s .q) = record { sfits = t .1 .1 .0 .1 } in
-    let fr : SFits w32 (s .r) = record { sfits = t .1 .1 .1 .0 .1 } in
-    let gp : SFits w16 (v .p) = record { sfits = u .0 .1 } in
-    let gq : SFits w16 (v .q) = record { sfits = u .1 .0 .1 } in
-    let gr : SFits w16 (v .r) = record { sfits = u .1 .1 .0 .1 } in
-    let eq = heard _*ℤ_ w32 w16 _ (s .q) (v .q) (at-product2 .product2 .ensures) fq gq in
-    let er = heard _*ℤ_ w32 w16 _ (s .r) (v .r) (c .product3 .ensures) fr gr in
-    let ep = heard _*ℤ_ w32 w16 _ (s .p) (v .p) (at-product .product .ensures) fp gp in
-    let eqr = op-is _+ℤ_ w64 _ _ (s .q *ℤ v .q) (s .r *ℤ v .r) eq er (product-fits fq gq) (product-fits fr gr) in
-    let ec = passed w32 _ (s .constant) (at-wide .wide .ensures) fc in
-    let epqr = op-is _+ℤ_ w64 _ _ (s .p *ℤ v .p) ((s .q *ℤ v .q) +ℤ (s .r *ℤ v .r)) ep eqr (product-fits fp gp)
-    (two-fit _ _ (product-range fq gq) (product-range fr gr)) in
-    op-back _+ℤ_ w64 _ _ (s .constant) ((s .p *ℤ v .p) +ℤ ((s .q *ℤ v .q) +ℤ (s .r *ℤ v .r))) ec epqr (sfits-widen tt fc)
-    (three-fit _ _ _ (product-range fp gp) (product-range fq gq) (product-range fr gr))
-    (four-fit _ _ _ _ fc (product-range fp gp) (product-range fq gq) (product-range fr gr)) ∙ dot-end (s .constant) (s .p *ℤ v .p)
-    (s .q *ℤ v .q) (s .r *ℤ v .r)
+    let loop = c .before .loop in
+    let start = c .before .before .before .before .args in
+    sum-all (start .t1) (start .t2) (loop .i) _ (loop .inv .1) (loop .inv .0) (search needs)
 
 pub at-spec : {M : Type 1} → statement M
 at-spec =
     tie.close
     (tie.spec
+    Inv-loop
+    μ-loop
     wide-requires
+    loop-holds
+    mul-product
+    element-copy-out-product
+    mul-product-2
+    element-copy-out-product-2
     product-requires
-    product-requires-2
-    product-requires-3
-    add-result
-    add-result-2
-    add-result-3
+    add-sum
+    add-i
+    loop-less
+    loop-again
     returns)

@@ -1,39 +1,100 @@
--- The four numbers are those of the definition.
-use borrow.Author.Needs.{needs}
+-- Each coefficient is the difference of the two, as the constant is.
+use mathlib.Core.Path.{_≡_}
+use Prim.Native.Nat.{_≤_, _-_}
+use native.Mathlib.Omega.{arith}
+use lib.IntN.{pos}
+use lib.ListN.{getD}
 use Rattle.expr.specs.Affine.{minus, minusL, saturatedE}
-use Rattle.expr.proofs.Records.{affine-path}
-use Rattle.expr.proofs.Sizes.{difference-stored}
+use Rattle.expr.proofs.Records.{filledE, expr-start, expr-turn, expr-all}
+use Rattle.expr.proofs.Sizes.{differenceC, difference-stored}
+use borrow.Author.Needs.{needs}
 use Rattle.expr.proofs.number.Expr.less.Statement.{statement}
 use Rattle.expr.proofs.number.Expr.less.Tie as tie
 
-difference-requires : tie.Need-difference-requires
+abbrev Inv-loop : tie.InvT-loop
+Inv-loop self other r₀ i₀ r i =
+    (i ≤ 4)
+    × (r ≡ filledE (differenceC (self .constant) (other .constant))
+    (λ k. differenceC (getD (self .coefs) k (pos 0)) (getD (other .coefs) k (pos 0))) i)
+
+abbrev μ-loop : tie.MeasureT-loop
+μ-loop self other r₀ i₀ r i = 4 - i
+
+difference-requires : tie.Need-difference-requires Inv-loop μ-loop
 difference-requires c κs = search needs
 
-difference-requires-2 : tie.Need-difference-requires-2
+loop-holds : tie.Need-loop-holds Inv-loop μ-loop
+loop-holds c =
+    let start = c .before .before .before .args in
+    let t = c .before .before .struct-told .given in
+    let u = c .before .struct-told2 .given in (
+      omega arith,
+      expr-start _ _ _
+          (difference-stored _ (start .t1 .constant) (start .t2 .constant)
+          (record { sfits = t .0 .1 }) (record { sfits = u .0 .1 }) (c .difference .ensures)),
+    )
+
+mul-difference : tie.Need-mul-difference Inv-loop μ-loop
+mul-difference c = search needs
+
+element-copy-out-difference : tie.Need-element-copy-out-difference Inv-loop μ-loop
+element-copy-out-difference c = search needs
+
+mul-difference-2 : tie.Need-mul-difference-2 Inv-loop μ-loop
+mul-difference-2 c = search needs
+
+element-copy-out-difference-2 : tie.Need-element-copy-out-difference-2 Inv-loop μ-loop
+element-copy-out-difference-2 c = search needs
+
+difference-requires-2 : tie.Need-difference-requires-2 Inv-loop μ-loop
 difference-requires-2 c κs = search needs
 
-difference-requires-3 : tie.Need-difference-requires-3
-difference-requires-3 c κs = search needs
+mul-t22 : tie.Need-mul-t22 Inv-loop μ-loop
+mul-t22 c = search needs
 
-difference-requires-4 : tie.Need-difference-requires-4
-difference-requires-4 c κs = search needs
+element-set-from-r : tie.Need-element-set-from-r Inv-loop μ-loop
+element-set-from-r c = search needs
 
-returns : tie.Need-returns
+add-i : tie.Need-add-i Inv-loop μ-loop
+add-i c = search needs
+
+loop-less : tie.Need-loop-less Inv-loop μ-loop
+loop-less c = search needs
+
+loop-again : tie.Need-loop-again Inv-loop μ-loop
+loop-again c =
+    let turn = c .before .before .before in
+    let loop = turn .before .loop in
+    let start = turn .before .before .before .before .before .args in (
+      omega arith,
+      expr-turn _ _ (loop .i) (loop .r) _ (loop .inv .1)
+          (difference-stored _ (getD (start .t1 .coefs) (loop .i) (pos 0)) (getD (start .t2 .coefs) (loop .i) (pos 0))
+          (record { sfits = c .before .before .difference-arg .given }) (record { sfits = c .before .difference-arg2 .given })
+          (c .difference2 .ensures)),
+    )
+
+returns : tie.Need-returns Inv-loop μ-loop
 unfolding minus minusL saturatedE
 returns c =
-    let third = c .before .before .before in
-    let second = third .before .before .before in
-    let first = second .before .before .before in
-    let a = first .before .before .before .args .self in
-    let b = first .before .before .before .args .other in
-    let t = c .before .before .struct-told7 .given in
-    let u = c .before .struct-told8 .given in
-    affine-path
-    (difference-stored _ (a .constant) (b .constant) (record { sfits = t .0 .1 }) (record { sfits = u .0 .1 }) (first .difference .ensures))
-    (difference-stored _ (a .p) (b .p) (record { sfits = t .1 .0 .1 }) (record { sfits = u .1 .0 .1 }) (second .difference2 .ensures))
-    (difference-stored _ (a .q) (b .q) (record { sfits = t .1 .1 .0 .1 }) (record { sfits = u .1 .1 .0 .1 }) (third .difference3 .ensures))
-    (difference-stored _ (a .r) (b .r) (record { sfits = t .1 .1 .1 .0 .1 }) (record { sfits = u .1 .1 .1 .0 .1 })
-    (c .difference4 .ensures))
+    let loop = c .before .loop in
+    expr-all _ _ (loop .i) (loop .r) (loop .inv .1) (loop .inv .0) (search needs)
 
 pub less-spec : {M : Type 1} → statement M
-less-spec = tie.close (tie.spec difference-requires difference-requires-2 difference-requires-3 difference-requires-4 returns)
+less-spec =
+    tie.close
+    (tie.spec
+    Inv-loop
+    μ-loop
+    difference-requires
+    loop-holds
+    mul-difference
+    element-copy-out-difference
+    mul-difference-2
+    element-copy-out-difference-2
+    difference-requires-2
+    mul-t22
+    element-set-from-r
+    add-i
+    loop-less
+    loop-again
+    returns)

@@ -1,38 +1,98 @@
--- The four numbers are those of the definition.
-use borrow.Author.Needs.{needs}
+-- Each coefficient is the sum of the two, as the constant is.
+use mathlib.Core.Path.{_≡_}
+use Prim.Native.Nat.{_≤_, _-_}
+use native.Mathlib.Omega.{arith}
+use lib.IntN.{pos}
+use lib.ListN.{getD}
 use Rattle.expr.specs.Affine.{plus, plusL, saturatedE}
-use Rattle.expr.proofs.Records.{affine-path}
-use Rattle.expr.proofs.Sizes.{sum-stored}
+use Rattle.expr.proofs.Records.{filledE, expr-start, expr-turn, expr-all}
+use Rattle.expr.proofs.Sizes.{sumC, sum-stored}
+use borrow.Author.Needs.{needs}
 use Rattle.expr.proofs.number.Expr.plus.Statement.{statement}
 use Rattle.expr.proofs.number.Expr.plus.Tie as tie
 
-sum-requires : tie.Need-sum-requires
+abbrev Inv-loop : tie.InvT-loop
+Inv-loop self other r₀ i₀ r i =
+    (i ≤ 4)
+    × (r ≡ filledE (sumC (self .constant) (other .constant)) (λ k. sumC (getD (self .coefs) k (pos 0)) (getD (other .coefs) k (pos 0))) i)
+
+abbrev μ-loop : tie.MeasureT-loop
+μ-loop self other r₀ i₀ r i = 4 - i
+
+sum-requires : tie.Need-sum-requires Inv-loop μ-loop
 sum-requires c κs = search needs
 
-sum-requires-2 : tie.Need-sum-requires-2
+loop-holds : tie.Need-loop-holds Inv-loop μ-loop
+loop-holds c =
+    let start = c .before .before .before .args in
+    let t = c .before .before .struct-told .given in
+    let u = c .before .struct-told2 .given in (
+      omega arith,
+      expr-start _ _ _
+          (sum-stored _ (start .t1 .constant) (start .t2 .constant)
+          (record { sfits = t .0 .1 }) (record { sfits = u .0 .1 }) (c .sum .ensures)),
+    )
+
+mul-sum : tie.Need-mul-sum Inv-loop μ-loop
+mul-sum c = search needs
+
+element-copy-out-sum : tie.Need-element-copy-out-sum Inv-loop μ-loop
+element-copy-out-sum c = search needs
+
+mul-sum-2 : tie.Need-mul-sum-2 Inv-loop μ-loop
+mul-sum-2 c = search needs
+
+element-copy-out-sum-2 : tie.Need-element-copy-out-sum-2 Inv-loop μ-loop
+element-copy-out-sum-2 c = search needs
+
+sum-requires-2 : tie.Need-sum-requires-2 Inv-loop μ-loop
 sum-requires-2 c κs = search needs
 
-sum-requires-3 : tie.Need-sum-requires-3
-sum-requires-3 c κs = search needs
+mul-t22 : tie.Need-mul-t22 Inv-loop μ-loop
+mul-t22 c = search needs
 
-sum-requires-4 : tie.Need-sum-requires-4
-sum-requires-4 c κs = search needs
+element-set-from-r : tie.Need-element-set-from-r Inv-loop μ-loop
+element-set-from-r c = search needs
 
-returns : tie.Need-returns
+add-i : tie.Need-add-i Inv-loop μ-loop
+add-i c = search needs
+
+loop-less : tie.Need-loop-less Inv-loop μ-loop
+loop-less c = search needs
+
+loop-again : tie.Need-loop-again Inv-loop μ-loop
+loop-again c =
+    let turn = c .before .before .before in
+    let loop = turn .before .loop in
+    let start = turn .before .before .before .before .before .args in (
+      omega arith,
+      expr-turn _ _ (loop .i) (loop .r) _ (loop .inv .1)
+          (sum-stored _ (getD (start .t1 .coefs) (loop .i) (pos 0)) (getD (start .t2 .coefs) (loop .i) (pos 0))
+          (record { sfits = c .before .before .sum-arg .given }) (record { sfits = c .before .sum-arg2 .given }) (c .sum2 .ensures)),
+    )
+
+returns : tie.Need-returns Inv-loop μ-loop
 unfolding plus plusL saturatedE
 returns c =
-    let third = c .before .before .before in
-    let second = third .before .before .before in
-    let first = second .before .before .before in
-    let a = first .before .before .before .args .self in
-    let b = first .before .before .before .args .other in
-    let t = c .before .before .struct-told7 .given in
-    let u = c .before .struct-told8 .given in
-    affine-path
-    (sum-stored _ (a .constant) (b .constant) (record { sfits = t .0 .1 }) (record { sfits = u .0 .1 }) (first .sum .ensures))
-    (sum-stored _ (a .p) (b .p) (record { sfits = t .1 .0 .1 }) (record { sfits = u .1 .0 .1 }) (second .sum2 .ensures))
-    (sum-stored _ (a .q) (b .q) (record { sfits = t .1 .1 .0 .1 }) (record { sfits = u .1 .1 .0 .1 }) (third .sum3 .ensures))
-    (sum-stored _ (a .r) (b .r) (record { sfits = t .1 .1 .1 .0 .1 }) (record { sfits = u .1 .1 .1 .0 .1 }) (c .sum4 .ensures))
+    let loop = c .before .loop in
+    expr-all _ _ (loop .i) (loop .r) (loop .inv .1) (loop .inv .0) (search needs)
 
 pub plus-spec : {M : Type 1} → statement M
-plus-spec = tie.close (tie.spec sum-requires sum-requires-2 sum-requires-3 sum-requires-4 returns)
+plus-spec =
+    tie.close
+    (tie.spec
+    Inv-loop
+    μ-loop
+    sum-requires
+    loop-holds
+    mul-sum
+    element-copy-out-sum
+    mul-sum-2
+    element-copy-out-sum-2
+    sum-requires-2
+    mul-t22
+    element-set-from-r
+    add-i
+    loop-less
+    loop-again
+    returns)

@@ -1,0 +1,285 @@
+-- The most of an inequality in a box, term by term, and what a cut at one place keeps.
+use mathlib.Core.Path.{_≡_, refl, ap, sym, _∙_}
+use mathlib.Core.Bool.{true, false}
+use mathlib.Core.List.{List, [], _∷_}
+use Prim.Native.Nat.{ℕ, zero, suc, _+_, _*_, _-_, _≤_, _<_}
+use native.Mathlib.Numerals.{add-one}
+use native.Mathlib.Omega.{arith}
+use lib.IntN.{ℤ, pos, _+ℤ_, _-ℤ_, _*ℤ_}
+use lib.ListN.{length, getD, set, drop, replicate}
+use lib.Seq.{drop-cons}
+use lib.Signed.{leZ, _≤ℤ_, _<ℤ_}
+use mir.Syntax.{w16, w32, w64}
+use mir.Val.{SFits, toZ, ofZ}
+use Rattle.integer.specs.Bits.{op-fits, op-back}
+use Rattle.integer.specs.Order.{leZ-true}
+use Rattle.integer.specs.Parts.{n}
+use Rattle.integer.specs.Product.{fits-size, size-fits, sum-size, difference-size, product-size, size-low, size-high}
+use Rattle.integer.specs.Split.{split, split-all}
+use Rattle.expr.specs.Affine.{dot, value}
+use Rattle.expr.specs.Ranges.{In, Inside}
+use Rattle.expr.specs.Records.{PARAMETERS, placesFrom, blankRange}
+use Rattle.expr.specs.declared.range.Range.{Range}
+use Rattle.narrowing.specs.Cut.{Within, Cut, Part}
+use Rattle.narrowing.specs.Flat.{exprAt}
+use Rattle.narrowing.specs.Interval.{EMPTY, interval, best, bestSum, bestOf, Sized, SizedTo, Tame}
+use Rattle.narrowing.specs.IntervalLaws.{In-EMPTY, interval-exact, best-most, bestSum-most}
+
+-- ---- one product
+-- x holds a times the end of r at which that is the most
+pub record Most (a : ℤ) (r : Range) (x : ℤ) : Type 0 where
+  pub is : x ≡ best a r
+  pub size : Sized x
+
+pub most-high : (a : ℤ) (r : Range) → SFits w32 a → SFits w16 (r .high) → leZ (pos 0) a ≡ true → Most a r (a *ℤ r .high)
+most-high a r f g h = record { is = rw h refl; size = product-size a (r .high) (fits-size f) (fits-size g) }
+
+pub most-low : (a : ℤ) (r : Range) → SFits w32 a → SFits w16 (r .low) → leZ (pos 0) a ≡ false → Most a r (a *ℤ r .low)
+most-low a r f g h = record { is = rw h refl; size = product-size a (r .low) (fits-size f) (fits-size g) }
+
+-- ---- the constant and the products, one after another
+-- what the products from place i on add, at most
+abbrev rest : List ℤ → List Range → ℕ → ℕ → ℤ
+rest l rs s i = bestSum (placesFrom (pos 0) l (s + i) (PARAMETERS - i)) (drop i rs)
+
+-- the sum of i products so far, and its size
+pub record SumTo (l : List ℤ) (k : ℕ) (rs : List Range) (i : ℕ) (x : ℤ) : Type 0 where
+  pub is : x +ℤ rest l rs (5 * k + 1) i ≡ bestOf (exprAt l k) rs
+  pub size : SizedTo i x
+
+sum-moved : (c d e : ℤ) → c +ℤ (d +ℤ e) ≡ (c +ℤ d) +ℤ e
+sum-moved c d e = rw (split c, split d, split e) (simp split-all (omega arith))
+
+no-more : (c : ℤ) → c +ℤ pos 0 ≡ c
+no-more c = rw (split c) (simp split-all (omega arith))
+
+pub sum-start : (l : List ℤ) (k : ℕ) (rs : List Range) → SFits w32 (getD l (5 * k) (pos 0)) → SumTo l k rs 0 (getD l (5 * k) (pos 0))
+unfolding bestOf exprAt
+sum-start l k rs f = record {
+  is = ap (λ (s : ℕ). getD l (5 * k) (pos 0) +ℤ bestSum (placesFrom (pos 0) l s PARAMETERS) rs) (no-places (5 * k + 1));
+  size = omega (arith, fits-size f);
+}
+  where
+    no-places : (s : ℕ) → s + 0 ≡ s
+    no-places s = omega arith
+
+rest-turn : (l : List ℤ) (rs : List Range) (s i j : ℕ) → i < length rs → PARAMETERS - i ≡ suc j
+    → rest l rs s i ≡ best (getD l (s + i) (pos 0)) (getD rs i blankRange) +ℤ bestSum (placesFrom (pos 0) l (s + (i + 1)) j)
+    (drop (i + 1) rs)
+unfolding bestSum
+rest-turn l rs s i j h e =
+    let m : s + (i + 1) ≡ suc (s + i) = omega arith in
+    rw (e, drop-cons rs i blankRange h, m, add-one) refl
+
+pub sum-turn : (l : List ℤ) (k : ℕ) (rs : List Range) (i : ℕ) (x y : ℤ) → SumTo l k rs i x → i < PARAMETERS → length rs ≡ PARAMETERS
+    → Most (getD l (5 * k + 1 + i) (pos 0)) (getD rs i blankRange) y → SumTo l k rs (i + 1) (x +ℤ y)
+sum-turn l k rs i x y s h m t =
+    let e : PARAMETERS - i ≡ suc (PARAMETERS - (i + 1)) = omega arith in
+    let g : i < length rs = omega arith in record {
+      is = sym (sum-moved x y (rest l rs (5 * k + 1) (i + 1)))
+          ∙ ap (λ (z : ℤ). x +ℤ (z +ℤ rest l rs (5 * k + 1) (i + 1))) (t .is)
+          ∙ ap (λ (z : ℤ). x +ℤ z) (sym (rest-turn l rs (5 * k + 1) i (PARAMETERS - (i + 1)) g e))
+          ∙ s .is;
+      size = omega (arith, sum-size x y (s .size) (t .size));
+    }
+
+pub sum-fits : (i : ℕ) (x : ℤ) → i ≤ PARAMETERS → SizedTo i x → SFits w64 x
+sum-fits i x h k = size-fits w64 x (omega arith)
+
+pub sum-all : (l : List ℤ) (k : ℕ) (rs : List Range) (i : ℕ) (x : ℤ) → SumTo l k rs i x → i ≤ PARAMETERS → (i < PARAMETERS → ⊥)
+    → (x ≡ bestOf (exprAt l k) rs) × SizedTo 4 x
+unfolding bestSum
+sum-all l k rs i x s h g =
+    let e : i ≡ PARAMETERS = omega arith in
+    let t : SumTo l k rs PARAMETERS x = rw e at s in
+    (sym (no-more x) ∙ t .is, t .size)
+
+-- ---- the value at a valuation, in the same way
+-- what the products from place i on add
+abbrev left : List ℤ → List ℤ → ℕ → ℕ → ℤ
+left l v s i = dot (placesFrom (pos 0) l (s + i) (PARAMETERS - i)) (drop i v)
+
+pub record ValueTo (l : List ℤ) (k : ℕ) (v : List ℤ) (i : ℕ) (x : ℤ) : Type 0 where
+  pub is : x +ℤ left l v (5 * k + 1) i ≡ value (exprAt l k) v
+  pub size : SizedTo i x
+
+pub value-start : (l : List ℤ) (k : ℕ) (v : List ℤ) → SFits w32 (getD l (5 * k) (pos 0)) → ValueTo l k v 0 (getD l (5 * k) (pos 0))
+unfolding value exprAt
+value-start l k v f =
+    let same : 5 * k + 1 + 0 ≡ 5 * k + 1 = omega arith in
+    record {
+      is = ap (λ (s : ℕ). getD l (5 * k) (pos 0) +ℤ dot (placesFrom (pos 0) l s PARAMETERS) v) same;
+      size = omega (arith, fits-size f);
+    }
+
+left-turn : (l v : List ℤ) (s i j : ℕ) → i < length v → PARAMETERS - i ≡ suc j
+    → left l v s i ≡ (getD l (s + i) (pos 0) *ℤ getD v i (pos 0)) +ℤ dot (placesFrom (pos 0) l (s + (i + 1)) j) (drop (i + 1) v)
+unfolding dot
+left-turn l v s i j h e =
+    let m : s + (i + 1) ≡ suc (s + i) = omega arith in
+    rw (e, drop-cons v i (pos 0) h, m, add-one) refl
+
+pub value-turn : (l : List ℤ) (k : ℕ) (v : List ℤ) (i : ℕ) (x y : ℤ) → ValueTo l k v i x → i < PARAMETERS → length v ≡ PARAMETERS
+    → y ≡ getD l (5 * k + 1 + i) (pos 0) *ℤ getD v i (pos 0) → Sized y → ValueTo l k v (i + 1) (x +ℤ y)
+value-turn l k v i x y s h m q z =
+    let e : PARAMETERS - i ≡ suc (PARAMETERS - (i + 1)) = omega arith in
+    let g : i < length v = omega arith in record {
+      is = sym (sum-moved x y (left l v (5 * k + 1) (i + 1)))
+          ∙ ap (λ (u : ℤ). x +ℤ (u +ℤ left l v (5 * k + 1) (i + 1))) q
+          ∙ ap (λ (u : ℤ). x +ℤ u) (sym (left-turn l v (5 * k + 1) i (PARAMETERS - (i + 1)) g e))
+          ∙ s .is;
+      size = omega (arith, sum-size x y (s .size) z);
+    }
+
+pub value-all : (l : List ℤ) (k : ℕ) (v : List ℤ) (i : ℕ) (x : ℤ) → ValueTo l k v i x → i ≤ PARAMETERS → (i < PARAMETERS → ⊥)
+    → (x ≡ value (exprAt l k) v) × SizedTo 4 x
+unfolding dot
+value-all l k v i x s h g =
+    let e : i ≡ PARAMETERS = omega arith in
+    let t : ValueTo l k v PARAMETERS x = rw e at s in
+    (sym (no-more x) ∙ t .is, t .size)
+
+-- ---- the cut of one range
+-- what an inequality of at most m leaves without the product of at most x, and with another one
+pub less-fits : (m x : ℤ) → SizedTo 4 m → Sized x → SFits w64 (m -ℤ x)
+less-fits m x h k = size-fits w64 (m -ℤ x) (omega (arith, difference-size m x h k))
+
+pub more-fits : (m x y : ℤ) → SizedTo 4 m → Sized x → Sized y → SFits w64 ((m -ℤ x) +ℤ y)
+more-fits m x y h k j = size-fits w64 ((m -ℤ x) +ℤ y) (omega (arith, sum-size (m -ℤ x) y (difference-size m x h k) j))
+
+pub less-tame : (m x : ℤ) → SizedTo 4 m → Sized x → Tame (m -ℤ x)
+less-tame m x h k =
+    let s = difference-size m x h k in (
+      size-low {x = m -ℤ x} {A = 4611686018427387903} (omega (arith, s)),
+      size-high {x = m -ℤ x} {A = 4611686018427387903}
+          (omega (arith, s)),
+    )
+
+pub most-tame : (m : ℤ) → SizedTo 4 m → Tame m
+most-tame m h =
+    (size-low {x = m} {A = 4611686018427387903} (omega (arith, h)), size-high {x = m} {A = 4611686018427387903} (omega (arith, h)))
+
+-- ---- the value with the product at one end of a range, each held as its bits
+module _ (m x : ℤ) (h : SizedTo 4 m) (k : Sized x) where
+  m-fits : SFits w64 m
+  m-fits = size-fits w64 m (omega arith)
+
+  x-fits : SFits w64 x
+  x-fits = size-fits w64 x (omega arith)
+
+  end-fits : SFits w64 (m +ℤ x)
+  end-fits = size-fits w64 (m +ℤ x) (omega (arith, sum-size m x h k))
+
+  pub end-asks : SFits w64 (toZ w64 (ofZ w64 m) +ℤ toZ w64 (ofZ w64 x))
+  end-asks = op-fits _+ℤ_ w64 m x m x refl refl m-fits x-fits end-fits
+
+  pub end-holds : (c a y : ℤ) → m ≡ c → x ≡ a *ℤ y → leZ (pos 0) (toZ w64 (ofZ w64 (toZ w64 (ofZ w64 m) +ℤ toZ w64 (ofZ w64 x)))) ≡ true
+      → pos 0 ≤ℤ (c +ℤ (a *ℤ y))
+  end-holds c a y e f t =
+      let b = op-back _+ℤ_ w64 m x m x refl refl m-fits x-fits end-fits in
+      leZ-true (rw (b, e, f) at t)
+
+pub slope-tame : (a : ℤ) → SFits w32 a → Tame a
+slope-tame a = rw (split a) (simp split-all (omega arith))
+
+pub part-all : (a m : ℤ) (r : Range) → Part a m r r
+part-all a m r = record { within = λ x h. h; keeps = λ x h k. h }
+
+pub part-cut : (a m b x y : ℤ) (r s : Range) → s ≡ interval r x y → x ≡ m -ℤ b → b ≡ best a r → y ≡ a → Part a m r s
+part-cut a m b x y r s e f g h =
+    let q : s ≡ interval r (m -ℤ best a r) a = e ∙ ap (λ (z : ℤ). interval r z y)
+    (f ∙ ap (λ (z : ℤ). m -ℤ z) g) ∙ ap (λ (z : ℤ). interval r (m -ℤ best a r) z) h in
+    rw q record {
+      within = λ x i. interval-exact r (m -ℤ best a r) a x .0 i .0;
+      keeps = λ x i k. interval-exact r (m -ℤ best a r) a x .1 (i, k);
+    }
+
+-- ---- the cut of all ranges
+pub within-refl : (rs : List Range) → Within rs rs
+within-refl [] = tt
+within-refl (r ∷ rs) = (λ x h. h, within-refl rs)
+
+-- nothing is in empty ranges
+within-empty : (rs : List Range) → Within (replicate (length rs) EMPTY) rs
+within-empty [] = tt
+within-empty (r ∷ rs) = (λ x h. absurd (In-EMPTY h), within-empty rs)
+
+within-set : (i : ℕ) (ss rs : List Range) (s : Range) → Within ss rs → ((x : ℤ) → In x s → In x (getD rs i blankRange))
+    → Within (set ss i s) rs
+within-set i [] [] s h k = tt
+within-set i [] (r ∷ rs) s h k = h
+within-set i (t ∷ ss) [] s h k = absurd h
+within-set zero (t ∷ ss) (r ∷ rs) s h k = (k, h .1)
+within-set (suc i) (t ∷ ss) (r ∷ rs) s h k = (h .0, within-set i ss rs s (h .1) k)
+
+inside-set : (i : ℕ) (v : List ℤ) (ss : List Range) (s : Range) → Inside v ss → In (getD v i (pos 0)) s → Inside v (set ss i s)
+inside-set i [] [] s h k = tt
+inside-set i [] (r ∷ rs) s h k = absurd h
+inside-set i (x ∷ v) [] s h k = absurd h
+inside-set zero (x ∷ v) (r ∷ rs) s h k = (k, h .1)
+inside-set (suc i) (x ∷ v) (r ∷ rs) s h k = (h .0, inside-set i v rs s (h .1) k)
+
+inside-at : (i : ℕ) (v : List ℤ) (rs : List Range) → i < length rs → Inside v rs → In (getD v i (pos 0)) (getD rs i blankRange)
+inside-at i v [] h k = absurd (omega arith)
+inside-at i [] (r ∷ rs) h k = absurd k
+inside-at zero (x ∷ v) (r ∷ rs) h k = k .0
+inside-at (suc i) (x ∷ v) (r ∷ rs) h k = inside-at i v rs (omega arith) (k .1)
+
+first-less : (y d b s : ℤ) → d ≤ℤ s → (y +ℤ d) ≤ℤ ((b +ℤ s) -ℤ b +ℤ y)
+first-less y d b s = rw (split y, split d, split b, split s) (simp split-all (omega arith))
+
+later-less : (y d b s e x : ℤ) → y ≤ℤ b → d ≤ℤ ((s -ℤ e) +ℤ x) → (y +ℤ d) ≤ℤ (((b +ℤ s) -ℤ e) +ℤ x)
+later-less y d b s e x = rw (split y, split d, split b, split s, split e, split x) (simp split-all (omega arith))
+
+-- the product at place i put in, the others being at their best
+place-most : (i : ℕ) (l : List ℤ) (j n : ℕ) (v : List ℤ) (rs : List Range) → i < n → i < length rs → Inside v rs
+    → dot (placesFrom (pos 0) l j n) v
+    ≤ℤ ((bestSum (placesFrom (pos 0) l j n) rs -ℤ best (getD l (j + i) (pos 0)) (getD rs i blankRange)) +ℤ
+    (getD l (j + i) (pos 0) *ℤ getD v i (pos 0)))
+unfolding dot bestSum
+place-most i l j zero v rs h g k = absurd (omega arith)
+place-most i l j (suc n) v [] h g k = absurd (omega arith)
+place-most i l j (suc n) [] (r ∷ rs) h g k = absurd k
+place-most zero l j (suc n) (x ∷ v) (r ∷ rs) h g k =
+    let e : j + 0 ≡ j = omega arith in
+    rw e (first-less (getD l j (pos 0) *ℤ x) (dot (placesFrom (pos 0) l (suc j) n) v) (best (getD l j (pos 0)) r)
+    (bestSum (placesFrom (pos 0) l (suc j) n) rs) (bestSum-most (placesFrom (pos 0) l (suc j) n) v rs (k .1)))
+place-most (suc i) l j (suc n) (x ∷ v) (r ∷ rs) h g k =
+    let e : j + suc i ≡ suc j + i = omega arith in
+    rw e (later-less (getD l j (pos 0) *ℤ x) (dot (placesFrom (pos 0) l (suc j) n) v) (best (getD l j (pos 0)) r)
+    (bestSum (placesFrom (pos 0) l (suc j) n) rs) (best (getD l (suc j + i) (pos 0)) (getD rs i blankRange))
+    (getD l (suc j + i) (pos 0) *ℤ getD v i (pos 0)) (best-most (getD l j (pos 0)) x r (k .0))
+    (place-most i l (suc j) n v rs (omega arith) (omega arith) (k .1)))
+
+with-constant : (c d s e x : ℤ) → d ≤ℤ ((s -ℤ e) +ℤ x) → pos 0 ≤ℤ (c +ℤ d) → pos 0 ≤ℤ (((c +ℤ s) -ℤ e) +ℤ x)
+with-constant c d s e x = rw (split c, split d, split s, split e, split x) (simp split-all (omega arith))
+
+module _ (l : List ℤ) (k : ℕ) (rs : List Range) where
+  pub cut-start : Cut (exprAt l k) rs rs
+  cut-start = record { within = within-refl rs; keeps = λ v h g. h }
+
+  -- one more range is cut
+  pub cut-turn : (i : ℕ) (m : ℤ) (ss : List Range) (s : Range) → i < PARAMETERS → length rs ≡ PARAMETERS → m ≡ bestOf (exprAt l k) rs
+      → Part (getD l (5 * k + 1 + i) (pos 0)) m (getD rs i blankRange) s → Cut (exprAt l k) rs ss → Cut (exprAt l k) rs (set ss i s)
+  unfolding exprAt bestOf value
+  cut-turn i m ss s h g e t c = record {
+    within = within-set i ss rs s (c .within) (t .within);
+    keeps = λ v j q. inside-set i v ss s (c .keeps v j q)
+        (t .keeps (getD v i (pos 0)) (inside-at i v rs (omega arith) j) (rw e
+        (with-constant (getD l (5 * k) (pos 0)) (dot (placesFrom (pos 0) l (5 * k + 1) PARAMETERS) v)
+        (bestSum (placesFrom (pos 0) l (5 * k + 1) PARAMETERS) rs) (best (getD l (5 * k + 1 + i) (pos 0)) (getD rs i blankRange))
+        (getD l (5 * k + 1 + i) (pos 0) *ℤ getD v i (pos 0)) (place-most i l (5 * k + 1) PARAMETERS v rs h (omega arith) j) q)));
+  }
+
+  -- an inequality that is below 0 at its best leaves nothing
+  pub cut-none : (m : ℤ) → length rs ≡ PARAMETERS → m ≡ bestOf (exprAt l k) rs → m <ℤ pos 0
+      → Cut (exprAt l k) rs (replicate PARAMETERS EMPTY)
+  unfolding exprAt bestOf value
+  cut-none m g e h = record {
+    within = rw g at (within-empty rs);
+    keeps = λ v j q. absurd (below _ _ (getD l (5 * k) (pos 0)) (bestSum-most (placesFrom (pos 0) l (5 * k + 1) PARAMETERS) v rs j) q
+        (rw e at h));
+  }
+    where
+      below : (d s c : ℤ) → d ≤ℤ s → pos 0 ≤ℤ (c +ℤ d) → (c +ℤ s) <ℤ pos 0 → ⊥
+      below d s c = rw (split d, split s, split c) (simp split-all (omega arith))

@@ -1,0 +1,107 @@
+-- The loop's invariant: what is cut so far loses no valuation at which the inequality holds.
+use mathlib.Core.Path.{_≡_}
+use Prim.Native.Nat.{_-_, _≤_}
+use native.Mathlib.Omega.{arith}
+use lib.ListN.{length, length-map}
+use mir.Syntax.{w64}
+use mir.Val.{toZ, ofZ}
+use mir.ValLaws.{toZ-ofZ}
+use borrow.Author.Needs.{needs}
+use Rattle.integer.specs.Product.{size-fits}
+use Rattle.expr.specs.Records.{PARAMETERS}
+use Rattle.narrowing.specs.Cut.{Cut}
+use Rattle.narrowing.specs.Flat.{exprAt}
+use Rattle.narrowing.proofs.Cuts.{is-below}
+use Rattle.narrowing.proofs.Terms.{cut-start, cut-turn, cut-none}
+use Rattle.narrowing.proofs.boxes.cut.Statement.{statement}
+use Rattle.narrowing.proofs.boxes.cut.Tie as tie
+
+abbrev Inv-loop : tie.InvT-loop
+Inv-loop flat k b s c₀ i₀ c i = (i ≤ PARAMETERS) × Cut (exprAt flat k) (b .list) (c .list)
+
+abbrev μ-loop : tie.MeasureT-loop
+μ-loop flat k b s c₀ i₀ c i = PARAMETERS - i
+
+best-requires : tie.Need-best-requires Inv-loop μ-loop
+best-requires c κs = search needs
+
+-- the local holds what `best` gave
+best-is : (c : tie.After-best Inv-loop μ-loop) → toZ w64 (ofZ w64 (c .best .result)) ≡ c .best .result
+best-is c = toZ-ofZ w64 _ (size-fits w64 _ (omega (arith, c .best .ensures .1)))
+
+returns : tie.Need-returns Inv-loop μ-loop
+returns c =
+    let t = c .before .before in
+    let l : length (t .args .t1 .list) ≡ PARAMETERS = simp length-map at (t .good .0 .1 .1 .0 .1 .0 .1) in
+    cut-none (t .args .flat .now) (t .args .k) (t .args .t1 .list) (c .before .best .result) l (c .before .best .ensures .0)
+    (is-below _ _ (best-is (c .before)) (c .if1 .taken))
+
+loop-holds : tie.Need-loop-holds Inv-loop μ-loop
+loop-holds c = (omega arith, cut-start _ _ _)
+
+mul-r : tie.Need-mul-r Inv-loop μ-loop
+mul-r c = search needs
+
+element-copy-out-r : tie.Need-element-copy-out-r Inv-loop μ-loop
+element-copy-out-r c = search needs
+
+mul-part : tie.Need-mul-part Inv-loop μ-loop
+mul-part c = search needs
+
+add-part : tie.Need-add-part Inv-loop μ-loop
+add-part c = search needs
+
+add-part-2 : tie.Need-add-part-2 Inv-loop μ-loop
+add-part-2 c = search needs
+
+part-requires : tie.Need-part-requires Inv-loop μ-loop
+part-requires c κs = rw (best-is (c .before .before .before .before)) (c .before .before .before .before .best .ensures .1)
+
+mul-t20 : tie.Need-mul-t20 Inv-loop μ-loop
+mul-t20 c = search needs
+
+element-set-from-c : tie.Need-element-set-from-c Inv-loop μ-loop
+element-set-from-c c = search needs
+
+add-i : tie.Need-add-i Inv-loop μ-loop
+add-i c = search needs
+
+loop-less : tie.Need-loop-less Inv-loop μ-loop
+loop-less c = search needs
+
+loop-again : tie.Need-loop-again Inv-loop μ-loop
+loop-again c =
+    let loop = c .before .before .before .loop in
+    let best = c .before .before .before .before .before in
+    let t = best .before in
+    let l : length (t .args .t1 .list) ≡ PARAMETERS = simp length-map at (t .good .0 .1 .1 .0 .1 .0 .1) in (
+      omega arith,
+      cut-turn (t .args .flat .now) (t .args .k) (t .args .t1 .list) (loop .i) (best .best .result) (loop .c .list) (c .part .result)
+          (omega arith) l
+          (best .best .ensures .0) (rw (best-is best) at (c .part .ensures)) (loop .inv .1),
+    )
+
+returns-2 : tie.Need-returns-2 Inv-loop μ-loop
+returns-2 c = c .before .loop .inv .1
+
+pub cut-spec : {M : Type 1} → statement M
+cut-spec =
+    tie.close
+    (tie.spec
+    Inv-loop
+    μ-loop
+    best-requires
+    returns
+    loop-holds
+    mul-r
+    element-copy-out-r
+    mul-part
+    add-part
+    add-part-2
+    part-requires
+    mul-t20
+    element-set-from-c
+    add-i
+    loop-less
+    loop-again
+    returns-2)

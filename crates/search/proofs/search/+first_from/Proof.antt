@@ -1,0 +1,253 @@
+-- The measure is how many places are left from `start` on. The loop's invariant: the first of what is left of the range is the first of
+-- all.
+use mathlib.Core.Path.{_≡_, refl, sym, ap, _∙_}
+use Prim.Native.Nat.{ℕ, _+_, _-_, _<_, _≤_}
+use native.Mathlib.Omega.{arith}
+use lib.IntN.{pos, _+ℤ_}
+use lib.ListN.{length, getD, length-map}
+use borrow.Author.Needs.{needs}
+use Rattle.expr.specs.Records.{PARAMETERS, blankRange}
+use Rattle.search.specs.BoxLaws.{first-narrows, points-within}
+use Rattle.search.specs.SearchLaws.{firstOver}
+use Rattle.search.specs.System.{exprsIn, solutionOf}
+use Rattle.search.specs.Valuations.{first, width}
+use Rattle.search.proofs.Loops.{first-done}
+use Rattle.search.proofs.Nodes.{not-yes, not-no, firstAt, first-emptied}
+use Rattle.search.proofs.Nodes.{first-cornered, first-pointed, first-begin, first-found, first-later}
+use Rattle.search.proofs.Nodes.{narrows-long, corner-long, points-next}
+use borrow.Fn.Kinds.{In}
+use borrow.Fn.PlainCycle.{Measures, is, falls, and}
+use Rattle.search.proofs.search.first_from.Reads as first-from
+use Rattle.search.proofs.search.first_from.Kinds as first-from-kinds
+use Rattle.search.proofs.search.+first_from.Lts-first_from as first-from-lts
+use Rattle.search.proofs.boxes.can_hold.Reads as can-hold-reads
+use Rattle.narrowing.proofs.corner.Reads as corner-reads
+use Rattle.narrowing.proofs.inside.Reads as inside-reads
+use Rattle.search.proofs.boxes.narrowed.Reads as narrowed-reads
+use Rattle.narrowing.proofs.points.Reads as points-reads
+use Rattle.narrowing.proofs.wide.Reads as wide-reads
+use Rattle.search.proofs.ranges.point.Reads as point-reads
+use Rattle.search.proofs.ranges.width.Reads as width-reads
+use Rattle.search.proofs.search.+first_from.{statement}
+use Rattle.search.proofs.search.+first_from.Tie.{close}
+
+abbrev μ-first-from : Measures 1 first-from-kinds.ps ℕ
+μ-first-from κs a = PARAMETERS - a .1 .1 .1 .0
+
+-- what the function is given at the measure t, and what a call of it asks below t
+abbrev at-t : ℕ → In 1 first-from-kinds.ps
+at-t t = and 1 first-from-kinds.ps (is 1 first-from-kinds.ps μ-first-from t) first-from.Pre
+
+abbrev below : ℕ → In 1 first-from-kinds.ps
+below t = and 1 first-from-kinds.ps (falls 1 first-from-kinds.ps _<_ μ-first-from t) first-from.Pre
+
+abbrev claims : ℕ → first-from-lts.Claims
+claims t = (
+  narrowed-reads.Asked,
+  narrowed-reads.Learnt,
+  corner-reads.Asked,
+  corner-reads.Learnt,
+  inside-reads.Asked,
+  inside-reads.Learnt,
+  points-reads.Asked,
+  points-reads.Learnt,
+  can-hold-reads.Asked,
+  can-hold-reads.Learnt,
+  wide-reads.Asked,
+  wide-reads.Learnt,
+  width-reads.Asked,
+  width-reads.Learnt,
+  point-reads.Asked,
+  point-reads.Learnt,
+  below t,
+  first-from.Post,
+)
+
+abbrev Inv-loop : first-from-lts.InvT-loop
+Inv-loop flat n start c w range m i₀ i =
+    (i ≤ m) × (m ≤ 65536) × (m ≡ width range)
+    × (firstOver (firstAt (exprsIn flat n) (c .list) w) (range .low +ℤ pos i) (m - i) ≡ first (c .list) (exprsIn flat n))
+
+abbrev μ-loop : first-from-lts.MeasureT-loop
+μ-loop flat n start c w range m i₀ i = m - i
+
+-- the narrowed box has all its ranges
+long : (t : ℕ) (c : first-from-lts.After-narrowed (claims t) (at-t t) first-from.Post Inv-loop μ-loop)
+    → length (c .narrowed .result .list) ≡ PARAMETERS
+long t c = narrows-long _ _ _ (c .narrowed .ensures) (simp length-map at (c .before .good .0 .1 .1 .0 .1 .0 .1))
+
+narrowed-requires : (t : ℕ) → first-from-lts.Need-narrowed-requires (claims t) (at-t t) first-from.Post Inv-loop μ-loop
+narrowed-requires t c κs = search needs
+
+corner-requires : (t : ℕ) → first-from-lts.Need-corner-requires (claims t) (at-t t) first-from.Post Inv-loop μ-loop
+corner-requires t c κs = search needs
+
+inside-requires : (t : ℕ) → first-from-lts.Need-inside-requires (claims t) (at-t t) first-from.Post Inv-loop μ-loop
+inside-requires t c κs = search needs
+
+returns : (t : ℕ) → first-from-lts.Need-returns (claims t) (at-t t) first-from.Post Inv-loop μ-loop
+returns t c =
+    let corner = c .before .before in
+    first-emptied _ _ _ (corner .before .narrowed .ensures) _ (corner .corner .ensures)
+    (c .before .inside .ensures .1 (not-yes _ (c .if1 .taken)))
+
+points-requires : (t : ℕ) → first-from-lts.Need-points-requires (claims t) (at-t t) first-from.Post Inv-loop μ-loop
+points-requires t c κs = search needs
+
+can-hold-requires : (t : ℕ) → first-from-lts.Need-can-hold-requires (claims t) (at-t t) first-from.Post Inv-loop μ-loop
+can-hold-requires t c κs = search needs
+
+returns-2 : (t : ℕ) → first-from-lts.Need-returns-2 (claims t) (at-t t) first-from.Post Inv-loop μ-loop
+returns-2 t c =
+    let points = c .before .before in
+    let inside = points .before .before in
+    let narrowed = inside .before .before in
+    let cs = narrowed .narrowed .result .list in
+    first-cornered _ _ cs (narrowed .narrowed .ensures) (inside .before .corner .result) _ (inside .before .corner .ensures)
+    (points .points .ensures)
+    (corner-long _ cs (inside .before .corner .ensures) (long t narrowed))
+    (inside .inside .ensures .0 (not-no _ (points .before .if1 .left)))
+    (sym (c .before .can-hold .ensures) ∙ c .if2 .taken)
+
+wide-requires : (t : ℕ) → first-from-lts.Need-wide-requires (claims t) (at-t t) first-from.Post Inv-loop μ-loop
+wide-requires t c κs =
+    let narrowed = c .before .before .before .before .before .before in
+    let s = narrowed .before in (
+      s .pre .1 .1 .0,
+      points-within (s .args .start) (s .args .b .list) (narrowed .narrowed .result .list) (narrowed .narrowed .ensures .within)
+          (s .pre .1 .1 .1),
+    )
+
+returns-3 : (t : ℕ) → first-from-lts.Need-returns-3 (claims t) (at-t t) first-from.Post Inv-loop μ-loop
+returns-3 t c =
+    let points = c .before .before .before .before in
+    let corner = points .before .before .before in
+    first-pointed _ _ _ (corner .before .narrowed .ensures) (c .before .wide .result) _ _ (corner .corner .ensures)
+    (points .points .ensures)
+    (omega (arith, long t (corner .before))) (c .before .wide .ensures .1 .1)
+    (sym (c .before .before .before .can-hold .ensures) ∙ c .before .before .if2 .left)
+
+mul-range : (t : ℕ) → first-from-lts.Need-mul-range (claims t) (at-t t) first-from.Post Inv-loop μ-loop
+mul-range t c = search needs
+
+element-copy-out-range : (t : ℕ) → first-from-lts.Need-element-copy-out-range (claims t) (at-t t) first-from.Post Inv-loop μ-loop
+element-copy-out-range t c = search needs
+
+width-requires : (t : ℕ) → first-from-lts.Need-width-requires (claims t) (at-t t) first-from.Post Inv-loop μ-loop
+width-requires t c κs = search needs
+
+loop-holds : (t : ℕ) → first-from-lts.Need-loop-holds (claims t) (at-t t) first-from.Post Inv-loop μ-loop
+loop-holds t c =
+    let wide = c .before .before .before in
+    let narrowed = wide .before .before .before .before .before .before .before in (
+      omega arith,
+      c .width .ensures .1,
+      c .width .ensures .0,
+      first-begin _ (narrowed .narrowed .result .list) (wide .wide .result) _ _ (wide .wide .ensures .1 .1)
+          (omega (arith, long t narrowed)) refl
+          (c .width .ensures .0),
+    )
+
+point-requires : (t : ℕ) → first-from-lts.Need-point-requires (claims t) (at-t t) first-from.Post Inv-loop μ-loop
+point-requires t c κs = omega arith
+
+mul-t28 : (t : ℕ) → first-from-lts.Need-mul-t28 (claims t) (at-t t) first-from.Post Inv-loop μ-loop
+mul-t28 t c = search needs
+
+element-set-from-d : (t : ℕ) → first-from-lts.Need-element-set-from-d (claims t) (at-t t) first-from.Post Inv-loop μ-loop
+element-set-from-d t c = search needs
+
+add-first-from : (t : ℕ) → first-from-lts.Need-add-first-from (claims t) (at-t t) first-from.Post Inv-loop μ-loop
+add-first-from t c = search needs
+
+first-from-requires : (t : ℕ) → first-from-lts.Need-first-from-requires (claims t) (at-t t) first-from.Post Inv-loop μ-loop
+first-from-requires t c κs =
+    let loop = c .before .before in
+    let wide = loop .before .before .before .before in
+    let s = wide .before .before .before .before .before .before .before .before in (
+      omega (arith, s .pre .0),
+      (
+        s .pre .1 .0,
+        (omega arith, points-next (wide .wide .result) _ (c .point .result) _ (c .point .ensures) (wide .wide .ensures .1 .1)),
+      ),
+    )
+
+returns-4 : (t : ℕ) → first-from-lts.Need-returns-4 (claims t) (at-t t) first-from.Post Inv-loop μ-loop
+returns-4 t c =
+    let loop = c .before .before .before .before in
+    let width = loop .before in
+    let wide = width .before .before .before in
+    let narrowed = wide .before .before .before .before .before .before .before in
+    let cs = narrowed .narrowed .result .list in
+    let range = getD cs (wide .wide .result) blankRange in
+    first-found _ cs (wide .wide .result) range (width .width .result) (loop .loop .i) (omega arith)
+    (c .before .first-from .result) (c .before .before .point .result) (c .before .before .point .ensures) (c .before .first-from .ensures)
+    (loop .loop .inv .3) (c .if4 .taken)
+    ∙ ap solutionOf (sym (first-narrows _ _ _ (narrowed .narrowed .ensures)))
+
+add-i : (t : ℕ) → first-from-lts.Need-add-i (claims t) (at-t t) first-from.Post Inv-loop μ-loop
+add-i t c = search needs
+
+loop-less : (t : ℕ) → first-from-lts.Need-loop-less (claims t) (at-t t) first-from.Post Inv-loop μ-loop
+loop-less t c = search needs
+
+loop-again : (t : ℕ) → first-from-lts.Need-loop-again (claims t) (at-t t) first-from.Post Inv-loop μ-loop
+loop-again t c =
+    let loop = c .before .before .before .before in
+    let width = loop .before in
+    let wide = width .before .before .before in
+    let narrowed = wide .before .before .before .before .before .before .before in
+    let cs = narrowed .narrowed .result .list in
+    let range = getD cs (wide .wide .result) blankRange in (
+      omega arith,
+      loop .loop .inv .1,
+      loop .loop .inv .2,
+      first-later _ cs (wide .wide .result) range (width .width .result) (loop .loop .i) (omega arith)
+          (c .before .first-from .result) (c .before .before .point .result) (c .before .before .point .ensures)
+          (c .before .first-from .ensures) (loop .loop .inv .3) (c .if4 .left),
+    )
+
+returns-5 : (t : ℕ) → first-from-lts.Need-returns-5 (claims t) (at-t t) first-from.Post Inv-loop μ-loop
+returns-5 t c =
+    let loop = c .before in
+    let width = loop .before in
+    let wide = width .before .before .before in
+    let narrowed = wide .before .before .before .before .before .before .before in
+    let cs = narrowed .narrowed .result .list in
+    let range = getD cs (wide .wide .result) blankRange in
+    ap solutionOf
+    (first-done (firstAt _ cs (wide .wide .result)) (range .low) (width .width .result) (loop .loop .i) _ (omega arith) (loop .loop .inv .3)
+    ∙ sym (first-narrows _ _ _ (narrowed .narrowed .ensures)))
+
+pub +first-from-spec : {M : Type 1} → statement M
++first-from-spec =
+    close μ-first-from (λ t.
+    first-from-lts.spec
+    (claims t)
+    (at-t t)
+    first-from.Post
+    Inv-loop
+    μ-loop
+    (narrowed-requires t)
+    (corner-requires t)
+    (inside-requires t)
+    (returns t)
+    (points-requires t)
+    (can-hold-requires t)
+    (returns-2 t)
+    (wide-requires t)
+    (returns-3 t)
+    (mul-range t)
+    (element-copy-out-range t)
+    (width-requires t)
+    (loop-holds t)
+    (point-requires t)
+    (mul-t28 t)
+    (element-set-from-d t)
+    (add-first-from t)
+    (first-from-requires t)
+    (returns-4 t)
+    (add-i t)
+    (loop-less t)
+    (loop-again t)
+    (returns-5 t))
