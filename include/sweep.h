@@ -28,7 +28,7 @@ enum {
  * Returns one of the numbers above.
  *
  * It reads only the given bytes, writes nothing, keeps nothing between calls, allocates nothing and always returns. It may be called
- * from any thread, also at the same time. A call takes some 90 KB of the stack.
+ * from any thread, also at the same time. A call takes some 10 KB of the stack.
  */
 int64_t sweep_sheet(const uint8_t *sheet, size_t length, int64_t p1, int64_t p2, int64_t p3, int64_t p4);
 

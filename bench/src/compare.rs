@@ -1,12 +1,11 @@
-// Measures two builds of Windows and Sweep, an old and a new one, on the sheets of Windows' table and of Sweep's. Their
+// Measures two builds of Windows and Sweep, an old and a new one, on the sheets of Windows' tables and of Sweep's. Their
 // answers may differ, since a change of the rules is measured too.
 use crate::library::Programs;
-use crate::timing::{mean, round, time};
+use crate::timing::{at_depth, mean, round, time};
 use crate::windows::range;
-use crate::{cuts, sheets};
+use crate::{cuts, drawn, sheets};
 use reference::random::Random;
 use reference::valuations::{some, Valuation};
-use std::hint::black_box;
 
 // One of the old build and one of the new.
 type Two<T> = [T; 2];
@@ -28,8 +27,9 @@ struct Sheet {
 }
 
 struct Family {
-    name: &'static str,
-    moves: usize,
+    name: String,
+    // The moves of the routes.
+    moves: String,
     sheets: Vec<Sheet>,
 }
 
@@ -64,9 +64,9 @@ fn sheet(two: &Two<Programs>, file: Vec<u8>, valuations: &[Valuation]) -> Sheet 
     }
 }
 
-// The families of Windows' table, where random valuations are tried, and those of Sweep's, with one for each sheet.
+// The families of Windows' tables, where random valuations are tried, and those of Sweep's, with one for each sheet.
 fn families(two: &Two<Programs>, quick: bool) -> Vec<Family> {
-    let (n, tried) = if quick { (1, 64) } else { (4, 256) };
+    let (n, few, tried) = if quick { (1, 1, 64) } else { (4, 2, 256) };
     let random = &mut Random::new(7);
     let mut all = Vec::new();
     for f in cuts::all(n) {
@@ -74,11 +74,16 @@ fn families(two: &Two<Programs>, quick: bool) -> Vec<Family> {
         for (plan, file) in f.sheets.iter().zip(f.files()) {
             list.push(sheet(two, file, &some(random, &plan.parameters, tried)));
         }
-        all.push(Family { name: f.name, moves: f.moves, sheets: list });
+        all.push(Family { name: f.name.to_string(), moves: f.moves.to_string(), sheets: list });
+    }
+    for f in drawn::all(few) {
+        let moves = f.moves();
+        let list = f.sheets.into_iter().map(|d| sheet(two, d.file, &some(random, &d.sheet.parameters, tried))).collect();
+        all.push(Family { name: f.name, moves, sheets: list });
     }
     for f in sheets::all(n) {
         let list = f.inputs.into_iter().map(|x| sheet(two, x.file, &[x.valuation])).collect();
-        all.push(Family { name: f.name, moves: f.moves, sheets: list });
+        all.push(Family { name: f.name.to_string(), moves: f.moves.to_string(), sheets: list });
     }
     all
 }
@@ -97,24 +102,13 @@ fn pass(two: &Two<Programs>, s: &mut Sheet, order: Two<usize>, span: f64) {
     }
 }
 
-// Runs f with so many more kilobytes of the stack in use.
-fn deeper(kilobytes: usize, f: &mut dyn FnMut()) {
-    let room = [0u8; 1024];
-    match kilobytes {
-        0 => f(),
-        _ => deeper(kilobytes - 1, f),
-    }
-    black_box(&room);
-}
-
 // The least times over some passes through all sheets: rounds of one sheet lie apart, and the build that comes first
-// is the other one at each pass. The depth of the stack is another one too: where it was not, in one process of a
-// hundred one build of Sweep took up to twice its time, at one depth and not some kilobytes below. Why is not known.
+// is the other one at each pass, at another depth of the stack.
 fn measure(two: &Two<Programs>, families: &mut [Family], quick: bool) {
     let (passes, span) = if quick { (4, 50.0) } else { (60, 500.0) };
     for number in 0..passes {
         let order = if number % 2 == 0 { [0, 1] } else { [1, 0] };
-        deeper(8 * number, &mut || {
+        at_depth(number, &mut || {
             families.iter_mut().flat_map(|f| &mut f.sheets).for_each(|s| pass(two, s, order, span));
         });
     }

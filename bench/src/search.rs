@@ -95,7 +95,8 @@ fn judge(times: &mut [f64]) {
 pub fn run(quick: bool) {
     let (n, passes, span) = if quick { (12, 3, 50.0) } else { (200, 10, 200.0) };
     println!("The search. Times in microseconds.");
-    println!("{:<34} {:>7} {:>6} {:>10} {:>11} {:>11} {:>8} {:>10}", "family", "systems", "ineqs", "valuations", "proved mean", "scan mean", "ratio", "worst");
+    let counts = format!("{:>7} {:>6} {:>10}", "systems", "ineqs", "valuations");
+    println!("{:<34} {counts} {:>11} {:>11} {:>8} {:>10}", "family", "proved mean", "scan mean", "ratio", "worst");
     let mut judged = Vec::new();
     for f in families::all(n) {
         let times = measure(&f, passes, span);

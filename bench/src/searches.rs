@@ -5,7 +5,14 @@ mod proved {
     extern "C" {
         pub fn search_first(ranges: *const i16, ends: usize, inequalities: *const i32, numbers: usize, k: usize) -> i64;
         pub fn search_count(ranges: *const i16, ends: usize, inequalities: *const i32, numbers: usize) -> usize;
-        pub fn search_some(ranges: *const i16, ends: usize, guess: *const i16, places: usize, inequalities: *const i32, numbers: usize) -> bool;
+        pub fn search_some(
+            ranges: *const i16,
+            ends: usize,
+            guess: *const i16,
+            places: usize,
+            inequalities: *const i32,
+            numbers: usize,
+        ) -> bool;
     }
 }
 

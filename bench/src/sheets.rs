@@ -207,6 +207,7 @@ pub struct Family {
 }
 
 pub const LENGTHS: [usize; 7] = [0, 1, 2, 4, 8, 16, 32];
+pub const SMALLEST: &str = "smallest sheet";
 
 // Sheets of one kind with their routes cut to the lengths.
 fn lengths(all: &mut Vec<Family>, name: &'static str, plans: &[Planned]) {
@@ -234,7 +235,7 @@ pub fn all(n: usize) -> Vec<Family> {
     push("no limits", 32, Some(0), wides.iter().map(|plan| input(&unlimited(plan))).collect());
     push("up to 6 limits around a run", 32, None, planned.iter().map(input).collect());
     push("the same, four parameters", 32, None, fours.iter().map(input).collect());
-    push("smallest sheet", 0, Some(0), vec![input(&smallest())]);
+    push(SMALLEST, 0, Some(0), vec![input(&smallest())]);
     push("void at the first limit", 32, Some(1), wides.iter().map(|plan| input(&void_early(plan))).collect());
     push("void at the last move", 32, Some(1), wides.iter().map(|plan| input(&void_late(plan))).collect());
     let good: Vec<Input> = wides.iter().map(input).collect();

@@ -37,9 +37,14 @@ pub struct Input {
 
 impl System {
     pub fn input(&self) -> Input {
+        self.input_of(PARAMETERS)
+    }
+
+    // The numbers of the first parameters alone; the others are 0.
+    pub fn input_of(&self, parameters: usize) -> Input {
         Input {
-            ranges: self.ranges.iter().flat_map(|&(low, high)| [low, high]).collect(),
-            inequalities: self.list.concat(),
+            ranges: self.ranges[..parameters].iter().flat_map(|&(low, high)| [low, high]).collect(),
+            inequalities: self.list.iter().flat_map(|e| &e[..=parameters]).copied().collect(),
         }
     }
 

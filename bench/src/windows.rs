@@ -15,8 +15,8 @@ mod proved {
     }
 }
 
-// The number of pieces, or minus the refusal's number.
-fn windows(file: &[u8]) -> i64 {
+// The number of pieces that Windows lists, or minus the refusal's number.
+pub fn windows(file: &[u8]) -> i64 {
     let file = black_box(file);
     // The function reads the slice, and asks nothing of its contents.
     unsafe { proved::windows_count(file.as_ptr(), file.len()) }
@@ -116,8 +116,9 @@ pub fn run(quick: bool) {
     let families = cuts::all(if quick { 1 } else { 4 });
     let valuations = all(&families[0].sheets[0].parameters).len();
     println!("Windows. Times in microseconds of a whole call, which reads the file. 'all Sweeps' is a Sweep at each of the");
-    println!("{valuations} valuations: the mean over a sample of {sample} of them, times {valuations}. The ratio is that over one Windows.");
-    println!("{:<34} {:>6} {:>5} {:>6} {:>13} {:>10} {:>14} {:>10}", "family", "sheets", "moves", "pieces", "one Windows", "one Sweep", "all Sweeps", "ratio");
+    println!("{valuations} valuations: the mean over a sample of {sample} of them, times that. The ratio is that over one Windows.");
+    let head = format!("{:>13} {:>10} {:>14} {:>10}", "one Windows", "one Sweep", "all Sweeps", "ratio");
+    println!("{:<34} {:>6} {:>5} {:>6} {head}", "family", "sheets", "moves", "pieces");
     let mut times = Vec::new();
     for f in &families {
         let t = measure(f, quick);

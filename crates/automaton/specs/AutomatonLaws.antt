@@ -7,8 +7,8 @@ use lib.ListN.{set}
 use lib.Dec.{ltb}
 use borrow.Author.Tests.{ltb-true}
 use Rattle.cursor.specs.declared.Cursor.{Cursor}
-use Rattle.cursor.specs.Cursor.{byteField, belowField}
-use Rattle.cursor_laws.specs.Laws.{judged-right, finished-ok, byteField-right, belowField-right}
+use Rattle.cursor.specs.Cursor.{advanced, byteField, belowField}
+use Rattle.cursor_laws.specs.Laws.{judged-right, finished-ok, byteField-right, belowField-right, belowField-from}
 use Rattle.cursor_laws.specs.FilledLaws.{step, filled}
 use Rattle.cursor_laws.specs.Right.{Filled}
 use Rattle.expr.specs.Records.{PARAMETERS}
@@ -88,13 +88,22 @@ module _ (s : List ℕ) (end : ℕ) where
       (byteField-right s end 0 255 cursor (j .0) .0, rw (j .1 .1) (ltb-true (t .byte) (2 ^ clocks) (j .1 .0)))
 
   module _ (most parameters clocks locations : ℕ) where
-    transitionAt-right :
+    -- a transition depends on where it stands alone
+    pub transitionAt-from :
+        (cursor : Cursor) → cursor .ok ≡ true →
+        transitionAt s end most parameters clocks locations cursor
+        ≡ transitionAt s end most parameters clocks locations (advanced (cursor .at) 0)
+    unfolding transitionAt
+    transitionAt-from cursor o = rw (belowField-from s end locations cursor o) refl
+
+    -- a transition, after where it starts
+    pub transitionAt-started :
         (cursor : Cursor) → (cursor .ok ≡ true → parameters ≤ PARAMETERS) →
         transitionAt s end most parameters clocks locations cursor .cursor .ok ≡ true →
-        (cursor .ok ≡ true) ×
+        (belowField s end locations cursor .ok ≡ true) ×
         TransitionRight parameters clocks locations (transitionAt s end most parameters clocks locations cursor .transition)
     unfolding transitionAt
-    transitionAt-right cursor few h =
+    transitionAt-started cursor few h =
         let from = belowField s end locations cursor in
         let to = belowField s end locations from in
         let resets = resetsField s end clocks to in
@@ -106,7 +115,17 @@ module _ (s : List ℕ) (end : ℕ) where
         let hr = resetsField-right clocks to (hg .0) in
         let ht = belowField-right s end locations from (hr .0) in
         let hf = belowField-right s end locations cursor (ht .0) in
-        (hf .0, record { from = hf .1; to = ht .1; resets = hr .1; guards = hg .1 })
+        (ht .0, record { from = hf .1; to = ht .1; resets = hr .1; guards = hg .1 })
+
+    -- the same, after where it stands
+    transitionAt-right :
+        (cursor : Cursor) → (cursor .ok ≡ true → parameters ≤ PARAMETERS) →
+        transitionAt s end most parameters clocks locations cursor .cursor .ok ≡ true →
+        (cursor .ok ≡ true) ×
+        TransitionRight parameters clocks locations (transitionAt s end most parameters clocks locations cursor .transition)
+    transitionAt-right cursor few h =
+        let g = transitionAt-started cursor few h in
+        (belowField-right s end locations cursor (g .0) .0, g .1)
 
     transitionsRead-right :
         (cursor : Cursor) → (cursor .ok ≡ true → parameters ≤ PARAMETERS) →

@@ -49,8 +49,8 @@ fn resets_field(file: &[u8], end: usize, clocks: u8, cursor: Cursor) -> Cursor
     judged(cursor, taken, resets_right(clocks, taken.byte))
 }
 
-// The transition where reading stands.
-fn transition_at(
+// The transition where reading stands, and where it stands then.
+pub fn transition_at(
     file: &[u8],
     end: usize,
     most: u8,

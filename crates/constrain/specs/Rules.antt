@@ -1,13 +1,14 @@
 -- What a guard asks of a matrix, test by test, on the code's records.
-use mathlib.Core.List.{List}
+use mathlib.Core.List.{List, [], _∷_, _++_}
 use mathlib.Core.Bool.{cond}
-use Prim.Native.Nat.{ℕ, zero, suc, _+_, _*_, _/_, _%_}
+use Prim.Native.Nat.{ℕ, zero, suc, _+_, _*_, _/_, _%_, min}
 use lib.Dec.{ltb}
 use lib.ListN.{getD}
 use Rattle.expr.specs.Bounds.{sumB, tighterB, saturatedB}
-use Rattle.expr.specs.Records.{boundAs, boundOf, test, noTest, zeroBound}
+use Rattle.expr.specs.Records.{boundAs, boundOf, test, noTest, noneBound, zeroBound}
 use Rattle.expr.specs.declared.bound.Bound.{Bound}
 use Rattle.expr.specs.declared.bound.Test.{Test}
+use Rattle.constrain.specs.declared.rule.Reads.{Reads}
 use Rattle.constrain.specs.declared.rule.Rule.{Rule}
 
 -- entry (k, l) of a matrix, five rows of five
@@ -44,3 +45,28 @@ unfoldable pub askC : Rule → ℕ → Test
 askC r zero = voidTest r
 askC r (suc zero) = tightTest r
 askC r (suc (suc x)) = pushTest r x
+
+-- ---- the same in two steps: where the entries stand, and what becomes of them
+abbrev pub placeC : ℕ → ℕ → ℕ
+placeC k l = min (5 * k + l) 25
+
+unfoldable pub placesAt : ℕ → ℕ → ℕ → Reads
+placesAt left right zero = record { first = placeC right left; last = 25; was = 25; into = 0 }
+placesAt left right (suc zero) = record { first = 25; last = 25; was = placeC left right; into = 0 }
+placesAt left right (suc (suc x)) =
+    record { first = placeC (x / 5) left; last = placeC right (x % 5); was = min x 25; into = min x 24 }
+
+-- a matrix with a place behind it: what is read outside it
+unfoldable pub framedC : List Bound → List Bound
+framedC m = m ++ (zeroBound ∷ [])
+
+-- an entry that was read at a place; outside the matrix zero, not strict
+unfoldable pub insideC : ℕ → Bound → Bound
+insideC x b = cond (ltb x 25) b zeroBound
+
+-- what a phase compares; none past the clocks
+unfoldable pub viaAt : ℕ → ℕ → Bound → Bound → Bound → Bound
+viaAt clocks zero bound first last = sumC bound first
+viaAt clocks (suc zero) bound first last = bound
+viaAt clocks (suc (suc x)) bound first last =
+    cond (ltb clocks (x / 5)) noneBound (cond (ltb clocks (x % 5)) noneBound (sumC (sumC first bound) last))

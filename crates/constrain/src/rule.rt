@@ -1,10 +1,10 @@
-// What a guard asks of a matrix (paper: limit, the three rules), test by test.
+// What a guard asks of a matrix (paper: limit, the three rules), test by test: rule (1) is phase 0, rule (2) phase 1, and from 2 on come
+// the entries in row order. A phase compares a sum of the guard's bound and of entries with an entry; where these stand is told apart
+// from what becomes of them, so that nobody hands a matrix on.
 use expr::Bound;
-use expr::Test;
 ghost use mathlib.Core.Path.{_≡_};
-ghost use lib.ListN.{getD};
-ghost use Rattle.expr.specs.Records.{zeroBound};
-ghost use Rattle.constrain.specs.Rules.{entryC, voidTest, tightTest, viaC, pushTest, askC};
+ghost use Prim.Native.Nat.{_+_, _*_, min};
+ghost use Rattle.constrain.specs.Rules.{placesAt, framedC, insideC, viaAt};
 
 // A guard left - right with a bound, for a sheet's clocks, and the matrix that it finds.
 pub struct Rule {
@@ -15,78 +15,96 @@ pub struct Rule {
     pub old: [Bound; 25],
 }
 
-// Entry x = 5k + l of the matrix; zero, not strict, outside it.
-fn place(r: Rule, x: usize) -> Bound
-    ensures { λ b. ⌜ b ≡ getD (r .old) x zeroBound ⌝ }
-{
-    if x < 25 {
-        return r.old[x];
-    }
-    Bound::ZERO
+// Where the entries of a phase stand in the matrix, 25 for none: the first and the last of its sum, and the one that is compared with it;
+// and where the sum goes if it is tighter, 0 where the phase is no entry's.
+pub struct Reads {
+    pub first: usize,
+    pub last: usize,
+    pub was: usize,
+    pub into: usize,
 }
 
-// Entry (k, l) of the matrix.
-fn entry(r: Rule, k: usize, l: usize) -> Bound
-    ensures { λ b. ⌜ b ≡ entryC (r .old) k l ⌝ }
+// The place of entry (k, l), or 25 outside the matrix.
+fn place(k: usize, l: usize) -> usize
+    ensures { λ x. ⌜ x ≡ min (5 * k + l) 25 ⌝ }
 {
-    if k < 5 {
-        if l < 25 {
-            return place(r, 5 * k + l);
-        }
-    }
-    Bound::ZERO
+    numbers::at_most(5 * numbers::at_most(k, 5) + numbers::at_most(l, 25), 25)
 }
 
-// Rule (1): whether e + (j, i) is tighter than zero, not strict.
-fn void_test(r: Rule) -> Test
-    ensures { λ t. ⌜ t ≡ voidTest r ⌝ }
-{
-    let bound = r.bound;
-    let back = entry(r, r.right, r.left);
-    bound.sum(back).tighter(Bound::ZERO)
-}
-
-// Rule (2): whether e is tighter than (i, j).
-fn tight_test(r: Rule) -> Test
-    ensures { λ t. ⌜ t ≡ tightTest r ⌝ }
-{
-    let bound = r.bound;
-    let was = entry(r, r.left, r.right);
-    bound.tighter(was)
-}
-
-// (k, i) + e + (j, l), two sums from the left: what the entry x = 5k + l takes where it is tighter.
-pub fn via(r: Rule, x: usize) -> Bound
-    ensures { λ b. ⌜ b ≡ viaC r x ⌝ }
-{
-    let bound = r.bound;
-    let first = entry(r, x / 5, r.left);
-    let last = entry(r, r.right, x % 5);
-    first.sum(bound).sum(last)
-}
-
-// Rule (3): whether (k, i) + e + (j, l) is tighter than the entry x = 5k + l; no, past the clocks.
-fn push_test(r: Rule, x: usize) -> Test
-    ensures { λ t. ⌜ t ≡ pushTest r x ⌝ }
-{
-    if r.clocks < x / 5 {
-        return Test::NO;
-    }
-    if r.clocks < x % 5 {
-        return Test::NO;
-    }
-    via(r, x).tighter(place(r, x))
-}
-
-// The test of a phase: 0 is rule (1), 1 is rule (2), and from 2 on come the entries in row order.
-pub fn asked(r: Rule, phase: usize) -> Test
-    ensures { λ t. ⌜ t ≡ askC r phase ⌝ }
+// The places of a phase for a guard left - right.
+pub fn places(left: usize, right: usize, phase: usize) -> Reads
+    ensures { λ p. ⌜ p ≡ placesAt left right phase ⌝ }
 {
     if phase < 1 {
-        return void_test(r);
+        return Reads {
+            first: place(right, left),
+            last: 25,
+            was: 25,
+            into: 0,
+        };
     }
     if phase < 2 {
-        return tight_test(r);
+        return Reads {
+            first: 25,
+            last: 25,
+            was: place(left, right),
+            into: 0,
+        };
     }
-    push_test(r, phase - 2)
+    let x = phase - 2;
+    Reads {
+        first: place(x / 5, left),
+        last: place(right, x % 5),
+        was: numbers::at_most(x, 25),
+        into: numbers::at_most(x, 24),
+    }
+}
+
+// A matrix with a place behind it, 25, which is zero, not strict: what is read outside the matrix.
+pub struct Framed {
+    pub entries: [Bound; 26],
+}
+
+// The matrix with that place.
+pub fn framed_of(old: [Bound; 25]) -> Framed
+    ensures { λ r. ⌜ r .entries ≡ framedC old ⌝ }
+{
+    let mut all = [Bound::ZERO; 26];
+    let mut i = 0;
+    while i < 25 {
+        let b = old[i];
+        all[i] = b;
+        i += 1;
+    }
+    Framed { entries: all }
+}
+
+// The entry b that was read at place x; outside the matrix zero, not strict.
+pub fn inside(x: usize, b: Bound) -> Bound
+    ensures { λ r. ⌜ r ≡ insideC x b ⌝ }
+{
+    if x < 25 {
+        return b;
+    }
+    Bound::ZERO
+}
+
+// What a phase compares: e + (j, i); e; or (k, i) + e + (j, l), two sums from the left, which the entry 5k + l takes where it is tighter;
+// none past the clocks, which is tighter than nothing.
+pub fn via(clocks: usize, phase: usize, bound: Bound, first: Bound, last: Bound) -> Bound
+    ensures { λ b. ⌜ b ≡ viaAt clocks phase bound first last ⌝ }
+{
+    if phase < 1 {
+        return bound.sum(first);
+    }
+    if phase < 2 {
+        return bound;
+    }
+    if clocks < (phase - 2) / 5 {
+        return Bound::NONE;
+    }
+    if clocks < (phase - 2) % 5 {
+        return Bound::NONE;
+    }
+    first.sum(bound).sum(last)
 }

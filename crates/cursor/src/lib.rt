@@ -37,7 +37,7 @@ fn byte_at(s: &[u8], at: usize) -> u8
 }
 
 // Whether a number lies between two others, both included.
-fn within(low: usize, value: usize, high: usize) -> bool
+pub fn within(low: usize, value: usize, high: usize) -> bool
     ensures { λ r. ⌜ r ≡ within low value high ⌝ }
 {
     low <= value && value <= high
@@ -88,7 +88,7 @@ fn take_byte(s: &[u8], end: usize, cursor: Cursor) -> Cursor
 }
 
 // Two bytes as one number, the first being the low one.
-fn word_of(low: u8, high: u8) -> u16
+pub fn word_of(low: u8, high: u8) -> u16
     ensures { λ r. ⌜ r ≡ low + 256 * high ⌝ }
 {
     (low as u16) + 256 * (high as u16)
@@ -116,7 +116,7 @@ fn take_word(s: &[u8], end: usize, cursor: Cursor) -> Cursor
 }
 
 // The number plus 32,768 whose two's complement is `word`.
-fn shifted(word: u16) -> u16
+pub fn shifted(word: u16) -> u16
     ensures { λ r. ⌜ r ≡ shifted word ⌝ }
 {
     if word < 32768 {

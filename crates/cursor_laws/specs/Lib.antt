@@ -3,3 +3,4 @@ pub mod Laws
 pub mod Numbers
 pub mod Signed
 pub mod FilledLaws
+pub mod Counted

@@ -1,6 +1,6 @@
-// Delays (paper: waits) and resets, on every zone (paper: piece) of a list.
+// Delays (paper: waits) and resets, on a zone (paper: piece).
 mod each;
 mod matrix;
 
-pub use each::delayed_all;
-pub use each::resets_all;
+pub use each::delayed_zone;
+pub use each::resets_zone;

@@ -11,8 +11,8 @@ use lib.IntN.{ℤ, pos}
 use borrow.Author.Tests.{eqb-true, eqb-false}
 use Rattle.expr.specs.Records.{PARAMETERS}
 use Rattle.cursor.specs.declared.Cursor.{Cursor}
-use Rattle.cursor.specs.Cursor.{byteField, numberField, zeroField, signedOf, iterate}
-use Rattle.cursor_laws.specs.Laws.{no, judged-right, byteField-right, signedField-right}
+use Rattle.cursor.specs.Cursor.{advanced, byteField, numberField, zeroField, signedOf, iterate}
+use Rattle.cursor_laws.specs.Laws.{no, judged-right, byteField-right, byteField-from, signedField-right}
 use Rattle.guards.specs.declared.Guard.{Guard}
 use Rattle.guards.specs.declared.GuardsAt.{GuardsAt}
 use Rattle.guards.specs.declared.CoefsAt.{CoefsAt}
@@ -135,16 +135,23 @@ module _ (s : List ℕ) (end : ℕ) where
           },
         )
 
-    -- the guards of a location or a transition
-    pub guardsAt-right :
+    -- guards depend on where they stand alone
+    pub guardsAt-from :
+        (cursor : Cursor) → cursor .ok ≡ true →
+        guardsAt s end most parameters clocks cursor ≡ guardsAt s end most parameters clocks (advanced (cursor .at) 0)
+    unfolding guardsAt
+    guardsAt-from cursor o = rw (byteField-from s end 0 6 cursor o) refl
+
+    -- the guards of a location or a transition, after their count
+    pub guardsAt-counted :
         (cursor : Cursor) → (cursor .ok ≡ true → parameters ≤ PARAMETERS) →
         guardsAt s end most parameters clocks cursor .cursor .ok ≡ true →
-        (cursor .ok ≡ true) ×
+        (byteField s end 0 6 cursor .ok ≡ true) ×
         GuardsRight parameters clocks
         (guardsAt s end most parameters clocks cursor .count)
         (guardsAt s end most parameters clocks cursor .guards)
     unfolding guardsAt guardStep blankGuards
-    guardsAt-right cursor few h =
+    guardsAt-counted cursor few h =
         let count = byteField s end 0 6 cursor in
         let start : GuardsAt = record { cursor = count; count = count .byte; guards = blankGuards } in
         let d =
@@ -160,4 +167,16 @@ module _ (s : List ℕ) (end : ℕ) where
         (λ x. (x .count ≡ count .byte) × (x .cursor .ok ≡ true → parameters ≤ PARAMETERS)) (guardStep s end most parameters clocks)
         i x next (read .guard) (ap (λ (n : ℕ). cond (ltb i n) next x) (k .0)) (k .0, λ o. k .1 (right o .0)) k refl right)
         h in
-        (byteField-right s end 0 6 cursor (d .0) .0, rw (d .1 .0 .0) (d .1 .1))
+        (d .0, rw (d .1 .0 .0) (d .1 .1))
+
+    -- the same, after where they stand
+    pub guardsAt-right :
+        (cursor : Cursor) → (cursor .ok ≡ true → parameters ≤ PARAMETERS) →
+        guardsAt s end most parameters clocks cursor .cursor .ok ≡ true →
+        (cursor .ok ≡ true) ×
+        GuardsRight parameters clocks
+        (guardsAt s end most parameters clocks cursor .count)
+        (guardsAt s end most parameters clocks cursor .guards)
+    guardsAt-right cursor few h =
+        let g = guardsAt-counted cursor few h in
+        (byteField-right s end 0 6 cursor (g .0) .0, g .1)

@@ -1,6 +1,8 @@
 // Guards (paper: limits, of 12 bytes in version 1 and 14 in version 2) and counted lists of them (paper 01, "The sheet file").
 //
 // Every public function is total, and its contract is an equation with a definition of specs/Guards.
+mod plain;
+
 ghost use mathlib.Core.Path.{_≡_};
 ghost use Prim.Native.Nat.{_<_};
 ghost use Rattle.cursor.specs.Cursor.{signedOf};
@@ -17,6 +19,7 @@ ghost use Rattle.guards.specs.Guards.{
   guardStep,
   guardsAt,
 };
+ghost use Rattle.guards.specs.Plain.{guardsFrom};
 use cursor::Cursor;
 use cursor::byte_field;
 use cursor::judged;
@@ -62,14 +65,14 @@ pub struct GuardsAt {
 }
 
 // The number of a signed field, from the number plus 32,768.
-fn signed_of(word: u16) -> i32
+pub(crate) fn signed_of(word: u16) -> i32
     ensures { λ r. ⌜ r ≡ signedOf word ⌝ }
 {
     (word as i32) - 32768
 }
 
 // Whether exactly one of two clocks is 0.
-fn one_zero(left: u8, right: u8) -> bool
+pub(crate) fn one_zero(left: u8, right: u8) -> bool
     ensures { λ r. ⌜ r ≡ oneZero left right ⌝ }
 {
     if left == 0 { right != 0 } else { right == 0 }
@@ -155,7 +158,7 @@ fn expr_of(constant: u16, all: CoefsAt) -> Expr
 }
 
 // The bound of a guard: relation 0 is at most, 1 is below.
-fn bound_of(relation: u8, expr: Expr) -> Bound
+pub(crate) fn bound_of(relation: u8, expr: Expr) -> Bound
     ensures { λ r. ⌜ r ≡ guardBound relation expr ⌝ }
 {
     Bound {
@@ -220,6 +223,74 @@ fn guard_step(
     }
 }
 
+// The guards after a count, read by fields.
+fn guards_by_field(
+    file: &[u8],
+    end: usize,
+    most: u8,
+    parameters: u8,
+    clocks: u8,
+    count: Cursor,
+) -> GuardsAt
+    ensures { λ r. ⌜ r ≡ guardsFrom (now (file .entry)) end most parameters clocks count 6 ⌝ }
+{
+    let mut list = GuardsAt {
+        cursor: count,
+        count: count.byte as usize,
+        guards: [Guard::BLANK; 6],
+    };
+    let mut i: usize = 0;
+    while i < 6 {
+        list = guard_step(file, end, most, parameters, clocks, i, list);
+        i += 1;
+    }
+    list
+}
+
+// The guards after a count: straight from their bytes, and by fields where one is not right.
+fn guards_from(
+    file: &[u8],
+    end: usize,
+    most: u8,
+    parameters: u8,
+    clocks: u8,
+    count: Cursor,
+) -> GuardsAt
+    ensures { λ r. ⌜ r ≡ guardsFrom (now (file .entry)) end most parameters clocks count 6 ⌝ }
+{
+    if !count.ok {
+        return guards_by_field(file, end, most, parameters, clocks, count);
+    }
+    let n = numbers::at_most(count.byte as usize, 6);
+    let mut guards = [Guard::BLANK; 6];
+    let mut at = count.at;
+    let mut byte = count.byte;
+    let mut word = count.word;
+    let mut i = 0;
+    while i < n {
+        let read = plain::guard_plain(file, end, most, parameters, clocks, at);
+        if !read.ok {
+            return guards_by_field(file, end, most, parameters, clocks, count);
+        }
+        let guard = read.guard;
+        guards[i] = guard;
+        at += 6 + 2 * (most as usize);
+        byte = 0;
+        word = read.word;
+        i += 1;
+    }
+    GuardsAt {
+        cursor: Cursor {
+            ok: true,
+            at,
+            byte,
+            word,
+        },
+        count: count.byte as usize,
+        guards,
+    }
+}
+
 // The guards at a cursor: a count, 0 to 6, then the guards, each with `most` coefficients.
 pub fn guards_at(
     file: &[u8],
@@ -232,15 +303,5 @@ pub fn guards_at(
     ensures { λ r. ⌜ r ≡ guardsAt (now (file .entry)) end most parameters clocks cursor ⌝ }
 {
     let count = byte_field(file, end, 0, 6, cursor);
-    let mut list = GuardsAt {
-        cursor: count,
-        count: count.byte as usize,
-        guards: [Guard::BLANK; 6],
-    };
-    let mut i: usize = 0;
-    while i < 6 {
-        list = guard_step(file, end, most, parameters, clocks, i, list);
-        i += 1;
-    }
-    list
+    guards_from(file, end, most, parameters, clocks, count)
 }

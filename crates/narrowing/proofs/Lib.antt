@@ -1,6 +1,6 @@
 -- Laws that the proofs of several functions cite.
-pub mod Caps
 pub mod Cuts
 pub mod Floors
-pub mod Lists
+pub mod Pairs
+pub mod Reading
 pub mod Terms

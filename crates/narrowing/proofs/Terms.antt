@@ -1,6 +1,6 @@
 -- The most of an inequality in a box, term by term, and what a cut at one place keeps.
 use mathlib.Core.Path.{_≡_, refl, ap, sym, _∙_}
-use mathlib.Core.Bool.{true, false}
+use mathlib.Core.Bool.{Bool, true, false, cond}
 use mathlib.Core.List.{List, [], _∷_}
 use Prim.Native.Nat.{ℕ, zero, suc, _+_, _*_, _-_, _≤_, _<_}
 use native.Mathlib.Numerals.{add-one}
@@ -11,6 +11,7 @@ use lib.Seq.{drop-cons}
 use lib.Signed.{leZ, _≤ℤ_, _<ℤ_}
 use mir.Syntax.{w16, w32, w64}
 use mir.Val.{SFits, toZ, ofZ}
+use mir.ValLaws.{toZ-ofZ}
 use Rattle.integer.specs.Bits.{op-fits, op-back}
 use Rattle.integer.specs.Order.{leZ-true}
 use Rattle.integer.specs.Parts.{n}
@@ -18,10 +19,10 @@ use Rattle.integer.specs.Product.{fits-size, size-fits, sum-size, difference-si
 use Rattle.integer.specs.Split.{split, split-all}
 use Rattle.expr.specs.Affine.{dot, value}
 use Rattle.expr.specs.Ranges.{In, Inside}
-use Rattle.expr.specs.Records.{PARAMETERS, placesFrom, blankRange}
+use Rattle.expr.specs.Records.{PARAMETERS, placesFrom, four, affine, blankRange}
+use Rattle.expr.specs.declared.number.Expr.{Expr}
 use Rattle.expr.specs.declared.range.Range.{Range}
 use Rattle.narrowing.specs.Cut.{Within, Cut, Part}
-use Rattle.narrowing.specs.Flat.{exprAt}
 use Rattle.narrowing.specs.Interval.{EMPTY, interval, best, bestSum, bestOf, Sized, SizedTo, Tame}
 use Rattle.narrowing.specs.IntervalLaws.{In-EMPTY, interval-exact, best-most, bestSum-most}
 
@@ -31,20 +32,24 @@ pub record Most (a : ℤ) (r : Range) (x : ℤ) : Type 0 where
   pub is : x ≡ best a r
   pub size : Sized x
 
-pub most-high : (a : ℤ) (r : Range) → SFits w32 a → SFits w16 (r .high) → leZ (pos 0) a ≡ true → Most a r (a *ℤ r .high)
-most-high a r f g h = record { is = rw h refl; size = product-size a (r .high) (fits-size f) (fits-size g) }
-
-pub most-low : (a : ℤ) (r : Range) → SFits w32 a → SFits w16 (r .low) → leZ (pos 0) a ≡ false → Most a r (a *ℤ r .low)
-most-low a r f g h = record { is = rw h refl; size = product-size a (r .low) (fits-size f) (fits-size g) }
+-- a product at the end that gives the most, held as its bits
+pub most-is : (a : ℤ) (r : Range) (t : Bool) (x y : ℤ) → y ≡ cond t (r .high) (r .low) → leZ (pos 0) a ≡ t → x ≡ a *ℤ y → Sized x
+    → (toZ w64 (ofZ w64 x) ≡ best a r) × Sized (toZ w64 (ofZ w64 x))
+most-is a r true x y h k e s =
+    let f : SFits w64 x = size-fits w64 x (omega arith) in
+    rw (toZ-ofZ w64 x f) (e ∙ rw (h, k) refl, s)
+most-is a r false x y h k e s =
+    let f : SFits w64 x = size-fits w64 x (omega arith) in
+    rw (toZ-ofZ w64 x f) (e ∙ rw (h, k) refl, s)
 
 -- ---- the constant and the products, one after another
 -- what the products from place i on add, at most
-abbrev rest : List ℤ → List Range → ℕ → ℕ → ℤ
-rest l rs s i = bestSum (placesFrom (pos 0) l (s + i) (PARAMETERS - i)) (drop i rs)
+abbrev rest : List ℤ → List Range → ℕ → ℤ
+rest l rs i = bestSum (placesFrom (pos 0) l i (PARAMETERS - i)) (drop i rs)
 
 -- the sum of i products so far, and its size
-pub record SumTo (l : List ℤ) (k : ℕ) (rs : List Range) (i : ℕ) (x : ℤ) : Type 0 where
-  pub is : x +ℤ rest l rs (5 * k + 1) i ≡ bestOf (exprAt l k) rs
+pub record SumTo (e : Expr) (rs : List Range) (i : ℕ) (x : ℤ) : Type 0 where
+  pub is : x +ℤ rest (e .coefs) rs i ≡ bestOf (affine e) rs
   pub size : SizedTo i x
 
 sum-moved : (c d e : ℤ) → c +ℤ (d +ℤ e) ≡ (c +ℤ d) +ℤ e
@@ -53,32 +58,23 @@ sum-moved c d e = rw (split c, split d, split e) (simp split-all (omega arith))
 no-more : (c : ℤ) → c +ℤ pos 0 ≡ c
 no-more c = rw (split c) (simp split-all (omega arith))
 
-pub sum-start : (l : List ℤ) (k : ℕ) (rs : List Range) → SFits w32 (getD l (5 * k) (pos 0)) → SumTo l k rs 0 (getD l (5 * k) (pos 0))
-unfolding bestOf exprAt
-sum-start l k rs f = record {
-  is = ap (λ (s : ℕ). getD l (5 * k) (pos 0) +ℤ bestSum (placesFrom (pos 0) l s PARAMETERS) rs) (no-places (5 * k + 1));
-  size = omega (arith, fits-size f);
-}
-  where
-    no-places : (s : ℕ) → s + 0 ≡ s
-    no-places s = omega arith
+pub sum-start : (e : Expr) (rs : List Range) → SFits w32 (e .constant) → SumTo e rs 0 (e .constant)
+unfolding bestOf
+sum-start e rs f = record { is = refl; size = omega (arith, fits-size f) }
 
-rest-turn : (l : List ℤ) (rs : List Range) (s i j : ℕ) → i < length rs → PARAMETERS - i ≡ suc j
-    → rest l rs s i ≡ best (getD l (s + i) (pos 0)) (getD rs i blankRange) +ℤ bestSum (placesFrom (pos 0) l (s + (i + 1)) j)
-    (drop (i + 1) rs)
+rest-turn : (l : List ℤ) (rs : List Range) (i j : ℕ) → i < length rs → PARAMETERS - i ≡ suc j
+    → rest l rs i ≡ best (getD l i (pos 0)) (getD rs i blankRange) +ℤ bestSum (placesFrom (pos 0) l (i + 1) j) (drop (i + 1) rs)
 unfolding bestSum
-rest-turn l rs s i j h e =
-    let m : s + (i + 1) ≡ suc (s + i) = omega arith in
-    rw (e, drop-cons rs i blankRange h, m, add-one) refl
+rest-turn l rs i j h e = rw (e, drop-cons rs i blankRange h, add-one) refl
 
-pub sum-turn : (l : List ℤ) (k : ℕ) (rs : List Range) (i : ℕ) (x y : ℤ) → SumTo l k rs i x → i < PARAMETERS → length rs ≡ PARAMETERS
-    → Most (getD l (5 * k + 1 + i) (pos 0)) (getD rs i blankRange) y → SumTo l k rs (i + 1) (x +ℤ y)
-sum-turn l k rs i x y s h m t =
-    let e : PARAMETERS - i ≡ suc (PARAMETERS - (i + 1)) = omega arith in
+pub sum-turn : (e : Expr) (rs : List Range) (i : ℕ) (x y : ℤ) → SumTo e rs i x → i < PARAMETERS → length rs ≡ PARAMETERS
+    → Most (getD (e .coefs) i (pos 0)) (getD rs i blankRange) y → SumTo e rs (i + 1) (x +ℤ y)
+sum-turn e rs i x y s h m t =
+    let q : PARAMETERS - i ≡ suc (PARAMETERS - (i + 1)) = omega arith in
     let g : i < length rs = omega arith in record {
-      is = sym (sum-moved x y (rest l rs (5 * k + 1) (i + 1)))
-          ∙ ap (λ (z : ℤ). x +ℤ (z +ℤ rest l rs (5 * k + 1) (i + 1))) (t .is)
-          ∙ ap (λ (z : ℤ). x +ℤ z) (sym (rest-turn l rs (5 * k + 1) i (PARAMETERS - (i + 1)) g e))
+      is = sym (sum-moved x y (rest (e .coefs) rs (i + 1)))
+          ∙ ap (λ (z : ℤ). x +ℤ (z +ℤ rest (e .coefs) rs (i + 1))) (t .is)
+          ∙ ap (λ (z : ℤ). x +ℤ z) (sym (rest-turn (e .coefs) rs i (PARAMETERS - (i + 1)) g q))
           ∙ s .is;
       size = omega (arith, sum-size x y (s .size) (t .size));
     }
@@ -86,57 +82,50 @@ sum-turn l k rs i x y s h m t =
 pub sum-fits : (i : ℕ) (x : ℤ) → i ≤ PARAMETERS → SizedTo i x → SFits w64 x
 sum-fits i x h k = size-fits w64 x (omega arith)
 
-pub sum-all : (l : List ℤ) (k : ℕ) (rs : List Range) (i : ℕ) (x : ℤ) → SumTo l k rs i x → i ≤ PARAMETERS → (i < PARAMETERS → ⊥)
-    → (x ≡ bestOf (exprAt l k) rs) × SizedTo 4 x
+pub sum-all : (e : Expr) (rs : List Range) (i : ℕ) (x : ℤ) → SumTo e rs i x → i ≤ PARAMETERS → (i < PARAMETERS → ⊥)
+    → (x ≡ bestOf (affine e) rs) × SizedTo 4 x
 unfolding bestSum
-sum-all l k rs i x s h g =
-    let e : i ≡ PARAMETERS = omega arith in
-    let t : SumTo l k rs PARAMETERS x = rw e at s in
+sum-all e rs i x s h g =
+    let q : i ≡ PARAMETERS = omega arith in
+    let t : SumTo e rs PARAMETERS x = rw q at s in
     (sym (no-more x) ∙ t .is, t .size)
 
 -- ---- the value at a valuation, in the same way
 -- what the products from place i on add
-abbrev left : List ℤ → List ℤ → ℕ → ℕ → ℤ
-left l v s i = dot (placesFrom (pos 0) l (s + i) (PARAMETERS - i)) (drop i v)
+abbrev left : List ℤ → List ℤ → ℕ → ℤ
+left l v i = dot (placesFrom (pos 0) l i (PARAMETERS - i)) (drop i v)
 
-pub record ValueTo (l : List ℤ) (k : ℕ) (v : List ℤ) (i : ℕ) (x : ℤ) : Type 0 where
-  pub is : x +ℤ left l v (5 * k + 1) i ≡ value (exprAt l k) v
+pub record ValueTo (e : Expr) (v : List ℤ) (i : ℕ) (x : ℤ) : Type 0 where
+  pub is : x +ℤ left (e .coefs) v i ≡ value (affine e) v
   pub size : SizedTo i x
 
-pub value-start : (l : List ℤ) (k : ℕ) (v : List ℤ) → SFits w32 (getD l (5 * k) (pos 0)) → ValueTo l k v 0 (getD l (5 * k) (pos 0))
-unfolding value exprAt
-value-start l k v f =
-    let same : 5 * k + 1 + 0 ≡ 5 * k + 1 = omega arith in
-    record {
-      is = ap (λ (s : ℕ). getD l (5 * k) (pos 0) +ℤ dot (placesFrom (pos 0) l s PARAMETERS) v) same;
-      size = omega (arith, fits-size f);
-    }
+pub value-start : (e : Expr) (v : List ℤ) → SFits w32 (e .constant) → ValueTo e v 0 (e .constant)
+unfolding value
+value-start e v f = record { is = refl; size = omega (arith, fits-size f) }
 
-left-turn : (l v : List ℤ) (s i j : ℕ) → i < length v → PARAMETERS - i ≡ suc j
-    → left l v s i ≡ (getD l (s + i) (pos 0) *ℤ getD v i (pos 0)) +ℤ dot (placesFrom (pos 0) l (s + (i + 1)) j) (drop (i + 1) v)
+left-turn : (l v : List ℤ) (i j : ℕ) → i < length v → PARAMETERS - i ≡ suc j
+    → left l v i ≡ (getD l i (pos 0) *ℤ getD v i (pos 0)) +ℤ dot (placesFrom (pos 0) l (i + 1) j) (drop (i + 1) v)
 unfolding dot
-left-turn l v s i j h e =
-    let m : s + (i + 1) ≡ suc (s + i) = omega arith in
-    rw (e, drop-cons v i (pos 0) h, m, add-one) refl
+left-turn l v i j h e = rw (e, drop-cons v i (pos 0) h, add-one) refl
 
-pub value-turn : (l : List ℤ) (k : ℕ) (v : List ℤ) (i : ℕ) (x y : ℤ) → ValueTo l k v i x → i < PARAMETERS → length v ≡ PARAMETERS
-    → y ≡ getD l (5 * k + 1 + i) (pos 0) *ℤ getD v i (pos 0) → Sized y → ValueTo l k v (i + 1) (x +ℤ y)
-value-turn l k v i x y s h m q z =
-    let e : PARAMETERS - i ≡ suc (PARAMETERS - (i + 1)) = omega arith in
+pub value-turn : (e : Expr) (v : List ℤ) (i : ℕ) (x y : ℤ) → ValueTo e v i x → i < PARAMETERS → length v ≡ PARAMETERS
+    → y ≡ getD (e .coefs) i (pos 0) *ℤ getD v i (pos 0) → Sized y → ValueTo e v (i + 1) (x +ℤ y)
+value-turn e v i x y s h m q z =
+    let f : PARAMETERS - i ≡ suc (PARAMETERS - (i + 1)) = omega arith in
     let g : i < length v = omega arith in record {
-      is = sym (sum-moved x y (left l v (5 * k + 1) (i + 1)))
-          ∙ ap (λ (u : ℤ). x +ℤ (u +ℤ left l v (5 * k + 1) (i + 1))) q
-          ∙ ap (λ (u : ℤ). x +ℤ u) (sym (left-turn l v (5 * k + 1) i (PARAMETERS - (i + 1)) g e))
+      is = sym (sum-moved x y (left (e .coefs) v (i + 1)))
+          ∙ ap (λ (u : ℤ). x +ℤ (u +ℤ left (e .coefs) v (i + 1))) q
+          ∙ ap (λ (u : ℤ). x +ℤ u) (sym (left-turn (e .coefs) v i (PARAMETERS - (i + 1)) g f))
           ∙ s .is;
       size = omega (arith, sum-size x y (s .size) z);
     }
 
-pub value-all : (l : List ℤ) (k : ℕ) (v : List ℤ) (i : ℕ) (x : ℤ) → ValueTo l k v i x → i ≤ PARAMETERS → (i < PARAMETERS → ⊥)
-    → (x ≡ value (exprAt l k) v) × SizedTo 4 x
+pub value-all : (e : Expr) (v : List ℤ) (i : ℕ) (x : ℤ) → ValueTo e v i x → i ≤ PARAMETERS → (i < PARAMETERS → ⊥)
+    → (x ≡ value (affine e) v) × SizedTo 4 x
 unfolding dot
-value-all l k v i x s h g =
-    let e : i ≡ PARAMETERS = omega arith in
-    let t : ValueTo l k v PARAMETERS x = rw e at s in
+value-all e v i x s h g =
+    let q : i ≡ PARAMETERS = omega arith in
+    let t : ValueTo e v PARAMETERS x = rw q at s in
     (sym (no-more x) ∙ t .is, t .size)
 
 -- ---- the cut of one range
@@ -254,31 +243,37 @@ place-most (suc i) l j (suc n) (x ∷ v) (r ∷ rs) h g k =
 with-constant : (c d s e x : ℤ) → d ≤ℤ ((s -ℤ e) +ℤ x) → pos 0 ≤ℤ (c +ℤ d) → pos 0 ≤ℤ (((c +ℤ s) -ℤ e) +ℤ x)
 with-constant c d s e x = rw (split c, split d, split s, split e, split x) (simp split-all (omega arith))
 
-module _ (l : List ℤ) (k : ℕ) (rs : List Range) where
-  pub cut-start : Cut (exprAt l k) rs rs
+module _ (e : Expr) (rs : List Range) where
+  pub cut-start : Cut (affine e) rs rs
   cut-start = record { within = within-refl rs; keeps = λ v h g. h }
 
   -- one more range is cut
-  pub cut-turn : (i : ℕ) (m : ℤ) (ss : List Range) (s : Range) → i < PARAMETERS → length rs ≡ PARAMETERS → m ≡ bestOf (exprAt l k) rs
-      → Part (getD l (5 * k + 1 + i) (pos 0)) m (getD rs i blankRange) s → Cut (exprAt l k) rs ss → Cut (exprAt l k) rs (set ss i s)
-  unfolding exprAt bestOf value
-  cut-turn i m ss s h g e t c = record {
+  pub cut-turn : (i : ℕ) (m : ℤ) (ss : List Range) (s : Range) → i < PARAMETERS → length rs ≡ PARAMETERS → m ≡ bestOf (affine e) rs
+      → Part (getD (e .coefs) i (pos 0)) m (getD rs i blankRange) s → Cut (affine e) rs ss → Cut (affine e) rs (set ss i s)
+  unfolding bestOf value
+  cut-turn i m ss s h g q t c = record {
     within = within-set i ss rs s (c .within) (t .within);
-    keeps = λ v j q. inside-set i v ss s (c .keeps v j q)
-        (t .keeps (getD v i (pos 0)) (inside-at i v rs (omega arith) j) (rw e
-        (with-constant (getD l (5 * k) (pos 0)) (dot (placesFrom (pos 0) l (5 * k + 1) PARAMETERS) v)
-        (bestSum (placesFrom (pos 0) l (5 * k + 1) PARAMETERS) rs) (best (getD l (5 * k + 1 + i) (pos 0)) (getD rs i blankRange))
-        (getD l (5 * k + 1 + i) (pos 0) *ℤ getD v i (pos 0)) (place-most i l (5 * k + 1) PARAMETERS v rs h (omega arith) j) q)));
+    keeps = λ v j k. inside-set i v ss s (c .keeps v j k)
+        (t .keeps (getD v i (pos 0)) (inside-at i v rs (omega arith) j) (rw q
+        (with-constant (e .constant) (dot (four (e .coefs)) v) (bestSum (four (e .coefs)) rs)
+        (best (getD (e .coefs) i (pos 0)) (getD rs i blankRange)) (getD (e .coefs) i (pos 0) *ℤ getD v i (pos 0)) (most-at v j) k)));
   }
+    where
+      most-at : (v : List ℤ) → Inside v rs
+          → dot (four (e .coefs)) v
+          ≤ℤ ((bestSum (four (e .coefs)) rs -ℤ best (getD (e .coefs) i (pos 0)) (getD rs i blankRange)) +ℤ
+          (getD (e .coefs) i (pos 0) *ℤ getD v i (pos 0)))
+      most-at v j =
+          let z : 0 + i ≡ i = omega arith in
+          rw z at (place-most i (e .coefs) 0 PARAMETERS v rs h (omega arith) j)
 
   -- an inequality that is below 0 at its best leaves nothing
-  pub cut-none : (m : ℤ) → length rs ≡ PARAMETERS → m ≡ bestOf (exprAt l k) rs → m <ℤ pos 0
-      → Cut (exprAt l k) rs (replicate PARAMETERS EMPTY)
-  unfolding exprAt bestOf value
-  cut-none m g e h = record {
+  pub cut-none : (m : ℤ) → length rs ≡ PARAMETERS → m ≡ bestOf (affine e) rs → m <ℤ pos 0
+      → Cut (affine e) rs (replicate PARAMETERS EMPTY)
+  unfolding bestOf value
+  cut-none m g q h = record {
     within = rw g at (within-empty rs);
-    keeps = λ v j q. absurd (below _ _ (getD l (5 * k) (pos 0)) (bestSum-most (placesFrom (pos 0) l (5 * k + 1) PARAMETERS) v rs j) q
-        (rw e at h));
+    keeps = λ v j k. absurd (below _ _ (e .constant) (bestSum-most (four (e .coefs)) v rs j) k (rw q at h));
   }
     where
       below : (d s c : ℤ) → d ≤ℤ s → pos 0 ≤ℤ (c +ℤ d) → (c +ℤ s) <ℤ pos 0 → ⊥

@@ -6,6 +6,10 @@ use lib.ListN.{getD}
 use Rattle.expr.specs.Affine.{Affine}
 use Rattle.expr.specs.Records.{PARAMETERS, placesFrom}
 
--- inequality k: its constant, then its coefficients
+-- the inequality whose numbers start at s: its constant, then its coefficients
+unfoldable pub exprFrom : List ℤ → ℕ → Affine
+exprFrom l s = record { constant = getD l s (pos 0); coefs = placesFrom (pos 0) l (s + 1) PARAMETERS }
+
+-- inequality k
 unfoldable pub exprAt : List ℤ → ℕ → Affine
 exprAt l k = record { constant = getD l (5 * k) (pos 0); coefs = placesFrom (pos 0) l (5 * k + 1) PARAMETERS }

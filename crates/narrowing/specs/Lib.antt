@@ -1,8 +1,7 @@
--- What is read first: Flat (inequalities in a list of numbers), Interval (an inequality's interval), Cut (what a cut promises) and Boxes
--- (boxes of ranges). BoxLaws and IntervalLaws are laws of these.
-pub mod BoxLaws
-pub mod Boxes
+-- What is read first: Flat (inequalities in a list of numbers), Interval (an inequality's interval), Cut (what a cut promises) and
+-- Opposite (pairs that no valuation meets, with its law). IntervalLaws are laws of Interval.
 pub mod Cut
 pub mod Flat
 pub mod Interval
 pub mod IntervalLaws
+pub mod Opposite

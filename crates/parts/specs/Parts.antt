@@ -1,8 +1,8 @@
 -- A part of a zone on its way through the tests of a guard: one test, and the two parts of a split, on the code's records.
 use mathlib.Core.List.{List}
-use mathlib.Core.Bool.{Bool, true, false, cond}
+use mathlib.Core.Bool.{Bool, true, false, cond, _&&_}
 use Prim.Native.Nat.{ℕ, _+_, _-_, min}
-use lib.Dec.{ltb}
+use lib.Dec.{ltb, eqb}
 use lib.ListN.{set}
 use Rattle.constrain.specs.Rules.{viaC, askC}
 use Rattle.constrain.specs.declared.rule.Rule.{Rule}
@@ -12,10 +12,11 @@ use Rattle.expr.specs.declared.bound.Asked.the-variants.{Yes, No, Ask}
 use Rattle.expr.specs.declared.bound.Test.{Test}
 use Rattle.expr.specs.declared.number.Expr.{Expr}
 use Rattle.expr.specs.declared.range.Ranges.{Ranges}
+use Rattle.parts.specs.declared.part.Next.{Next}
 use Rattle.parts.specs.declared.part.Part.{Part}
-use Rattle.zones.specs.Settled.{oppositeC, settledC}
+use Rattle.parts.specs.declared.part.Turn.{Turn}
+use Rattle.zones.specs.Settled.{Verdict, oppositeC, settledC}
 use Rattle.zones.specs.Zone.{moreC}
-use Rattle.zones.specs.declared.settle.Verdict.{Verdict}
 use Rattle.zones.specs.declared.zone.Zone.{Zone}
 
 abbrev pub withBounds : Zone → List Bound → Zone
@@ -67,6 +68,29 @@ forwardC b r p =
     let v = settledC b (p .zone) t in
     let q = countedC p t in
     cond (ltb (v .kind) 1) (answeredC r q false) (cond (ltb (v .kind) 2) (answeredC r q true) (haltedC q v))
+
+-- ---- the same in numbers: the phase after a verdict and whether the part goes on; and whether an entry is put in
+abbrev pub next : ℕ → ℕ → Next
+next phase halt = record { phase = phase; halt = halt }
+
+unfoldable pub afterC : ℕ → ℕ → Next
+afterC phase kind =
+    cond (ltb 1 kind) (next phase kind)
+    (cond (ltb phase 1) (cond (ltb kind 1) (next 1 0) (next 27 1))
+    (cond (ltb phase 2) (cond (ltb kind 1) (next 27 2) (next 2 0)) (cond (ltb phase 26) (next (phase + 1) 0) (next 27 2))))
+
+unfoldable pub entersC : ℕ → ℕ → Bool
+entersC phase kind = ltb 1 phase && eqb kind 1
+
+unfoldable pub turnC : ℕ → ℕ → Expr → Bound → Test → Bound → ℕ → Turn
+turnC phase tests test was t via kind =
+    record {
+      phase = afterC phase kind .phase;
+      halt = afterC phase kind .halt;
+      tests = min tests 26 + testsIn t;
+      test = cond (ltb 1 kind) (t .expr) test;
+      entry = cond (entersC phase kind) via was;
+    }
 
 -- the two parts of a split
 abbrev pub withMore : Part → Expr → Part

@@ -1,7 +1,9 @@
-// A part of a zone on its way through the tests of a guard: one test, and the two parts of a split.
+// A part of a zone on its way through the tests of a guard: what follows a test, and the two parts of a split.
 mod part;
 
+pub use part::Next;
 pub use part::Part;
-pub use part::forward;
+pub use part::Turn;
 pub use part::no_part;
+pub use part::turned;
 pub use part::yes_part;

@@ -1,6 +1,11 @@
-// The sheet file (paper 01, "The sheet file") read whole: `read` gives the sheet by value, or why the file is refused, with the place.
+// The sheet file (paper 01, "The sheet file") read whole: `read` gives the sheet by value, or why the file is refused, with the place;
+// `indexed` gives the file's index in place of the sheet.
 //
 // Every function is total, and its contract is an equation with a definition of specs/File.
+mod kept;
+
+pub use kept::Indexing;
+pub use kept::indexed;
 ghost use mathlib.Core.Path.{_≡_};
 ghost use Rattle.reading.specs.File.{blankSheet, bodiesOf, judgedRoute, judgedWidths, judgedBodies, readOf, readAs};
 ghost use lib.Dec.{leb};
@@ -108,7 +113,7 @@ fn judged_route(third: u32, sheet: Sheet) -> Reading
 }
 
 // Whether the ranges have at most 262,144 valuations.
-fn few_valuations(b: Ranges) -> bool
+pub(crate) fn few_valuations(b: Ranges) -> bool
     ensures { λ r. ⌜ r ≡ leb (widths (rangeList b)) MOST_VALUATIONS ⌝ }
 {
     let none = [0i32; 1];

@@ -4,7 +4,7 @@
 // Every public function is total, and its contract is an equation with a definition of specs/Route.
 ghost use mathlib.Core.Path.{_≡_};
 ghost use Prim.Native.Nat.{_<_};
-ghost use Rattle.route.specs.Route.{routeStep, routeRead, routeAt, endsAt, linkStep, linksOf};
+ghost use Rattle.route.specs.Route.{routeRead, routeAt, endsAt, linkStep, linksOf};
 use automaton::Transition;
 use cursor::Cursor;
 use cursor::below_field;
@@ -32,38 +32,26 @@ pub struct Link {
     pub location: usize,
 }
 
-// One more move of the route, if the count says so.
-fn route_step(file: &[u8], end: usize, transitions: u8, i: usize, all: RouteAt) -> RouteAt
-    requires { ⌜ i < 32 ⌝ }
-    ensures { λ r. ⌜ r ≡ routeStep (now (file .entry)) end transitions i all ⌝ }
-{
-    if i < (all.count as usize) {
-        let cursor = below_field(file, end, transitions, all.cursor);
-        let mut next = all;
-        next.cursor = cursor;
-        next.list[i] = cursor.byte;
-        next
-    } else {
-        all
-    }
-}
-
 // The fields of body 4.
 fn route_read(file: &[u8], end: usize, transitions: u8, cursor: Cursor) -> RouteAt
     ensures { λ r. ⌜ r ≡ routeRead (now (file .entry)) end transitions cursor ⌝ }
 {
     let count = byte_field(file, end, 0, 32, cursor);
-    let mut all = RouteAt {
-        cursor: count,
-        count: count.byte,
-        list: [0; 32],
-    };
+    let n = numbers::at_most(count.byte as usize, 32);
+    let mut list = [0u8; 32];
+    let mut here = count;
     let mut i: usize = 0;
-    while i < 32 {
-        all = route_step(file, end, transitions, i, all);
+    while i < n {
+        let number = below_field(file, end, transitions, here);
+        list[i] = number.byte;
+        here = number;
         i += 1;
     }
-    all
+    RouteAt {
+        cursor: here,
+        count: count.byte,
+        list,
+    }
 }
 
 // Body 4: the route.

@@ -2,8 +2,8 @@
 use mathlib.Core.Path.{_≡_, refl, sym, ap, _∙_}
 use mathlib.Core.Bool.{Bool, true, false}
 use mathlib.Core.List.{List}
-use Prim.Native.Nat.{ℕ, zero, suc, _+_, _*_, _≤_, _<_, min}
-use native.Mathlib.Nat.{mul-assoc}
+use Prim.Native.Nat.{ℕ, zero, suc, _+_, _*_, _/_, _≤_, _<_, min}
+use native.Mathlib.Nat.{mul-assoc, mul-le-mul-right, div-add-mod', mod-lt}
 use native.Mathlib.Numerals.{add-one}
 use native.Mathlib.Omega.{arith}
 use lib.Dec.{ltb}
@@ -17,6 +17,13 @@ use Rattle.search.specs.Valuations.{width, widths}
 -- the largest usize
 abbrev pub CAP : ℕ
 CAP = 18446744073709551615
+
+-- ---- products
+pub mul-within : (a b : ℕ) → a ≤ CAP / b → a * b ≤ CAP
+mul-within a b h = omega (arith, mul-le-mul-right b h, div-add-mod' CAP b)
+
+pub mul-past : (a b : ℕ) → 0 < b → CAP / b < a → CAP < a * b
+mul-past a b g h = omega (arith, mul-le-mul-right b h, div-add-mod' CAP b, mod-lt CAP g)
 
 cap-large : (p y : ℕ) (b : Bool) → ltb CAP p ≡ b → min (min p CAP * suc y) CAP ≡ min (p * suc y) CAP
 cap-large p y true e =

@@ -10,12 +10,14 @@ use lib.IntN.{ℤ, pos, _+ℤ_, +ℤ-idr}
 use lib.Signed.{leZ, _≤ℤ_, _<ℤ_}
 use Rattle.integer.specs.Order.{true-leZ, false-leZ}
 use Rattle.integer.specs.Split.{split, split-all}
+use Rattle.expr.specs.Affine.{value}
 use Rattle.expr.specs.declared.range.Range.{Range}
 use Rattle.narrowing.specs.Flat.{exprAt}
 use Rattle.narrowing.specs.Interval.{bestOf}
 use Rattle.search.specs.Boxes.{canHold}
 use Rattle.search.specs.SearchLaws.{total, firstOver, orElse}
 use Rattle.search.specs.System.{exprsFrom}
+use Rattle.search.specs.Valuations.{satisfies}
 
 next : (x : ℤ) (i : ℕ) → (x +ℤ pos i) +ℤ pos 1 ≡ x +ℤ pos (i + 1)
 next x i = rw (split x) (simp split-all (omega arith))
@@ -98,5 +100,37 @@ module _ (l : List ℤ) (n k : ℕ) (rs : List Range) (x : ℤ) (w : Bool) where
 
 pub hold-start : (l : List ℤ) (n : ℕ) (rs : List Range) → canHold (exprsFrom l 0 (n - 0)) rs ≡ canHold (exprsFrom l 0 n) rs
 hold-start l n rs =
+    let e : n - 0 ≡ n = omega arith in
+    rw e refl
+
+-- ---- the same at a valuation: it meets those from k on exactly if it meets all
+module _ (l : List ℤ) (n k : ℕ) (v : List ℤ) (x : ℤ) (w : Bool) where
+  meet-turn : k < n
+      → satisfies (exprsFrom l k (n - k)) v ≡ (leZ (pos 0) (value (exprAt l k) v) && satisfies (exprsFrom l (k + 1) (n - (k + 1))) v)
+  unfolding satisfies exprsFrom
+  meet-turn h = rw (left n k h, add-one) refl
+
+  pub meet-stop : k < n → x ≡ value (exprAt l k) v → x <ℤ pos 0 → satisfies (exprsFrom l k (n - k)) v ≡ w → false ≡ w
+  meet-stop h e g q =
+      let f : leZ (pos 0) (value (exprAt l k) v) ≡ false = false-leZ (rw e at g) in
+      let t : satisfies (exprsFrom l k (n - k)) v ≡ false = rw (meet-turn h, f) refl in
+      sym t ∙ q
+
+  pub meet-next : k < n → x ≡ value (exprAt l k) v → pos 0 ≤ℤ x → satisfies (exprsFrom l k (n - k)) v ≡ w
+      → satisfies (exprsFrom l (k + 1) (n - (k + 1))) v ≡ w
+  meet-next h e g q =
+      let f : leZ (pos 0) (value (exprAt l k) v) ≡ true = true-leZ (rw e at g) in
+      let t : satisfies (exprsFrom l k (n - k)) v ≡ satisfies (exprsFrom l (k + 1) (n - (k + 1))) v = rw (meet-turn h, f) refl in
+      sym t ∙ q
+
+  pub meet-done : n ≤ k → satisfies (exprsFrom l k (n - k)) v ≡ w → true ≡ w
+  unfolding satisfies exprsFrom
+  meet-done h q =
+      let e : n - k ≡ 0 = omega arith in
+      let t : satisfies (exprsFrom l k (n - k)) v ≡ true = rw e refl in
+      sym t ∙ q
+
+pub meet-start : (l : List ℤ) (n : ℕ) (v : List ℤ) → satisfies (exprsFrom l 0 (n - 0)) v ≡ satisfies (exprsFrom l 0 n) v
+meet-start l n v =
     let e : n - 0 ≡ n = omega arith in
     rw e refl

@@ -12,18 +12,18 @@ use lib.ListN.{length, getD, set, length-map}
 use Rattle.integer.specs.Apart.{apart}
 use Rattle.expr.specs.Affine.{Affine}
 use Rattle.expr.specs.Ranges.{Inside}
-use Rattle.expr.specs.Records.{PARAMETERS, placesFrom, four, blankRange}
-use Rattle.expr.specs.RecordLaws.{places-same}
+use Rattle.expr.specs.Records.{PARAMETERS, four, blankRange}
 use Rattle.expr.specs.declared.number.Valuation.{Valuation}
 use Rattle.expr.specs.declared.range.Range.{Range}
-use Rattle.narrowing.specs.Cut.{Within}
-use Rattle.narrowing.specs.Boxes.{lowOf, turn, pointOf, Points}
-use Rattle.search.specs.Boxes.{canHold, Narrows}
+use Rattle.corners.specs.Boxes.{lowOf, turn, pointOf, Points}
+use Rattle.search.specs.Boxes.{canHold, Narrows, Never}
 use Rattle.search.specs.BoxLaws.{first-narrows, count-narrows, first-nothing, count-nothing}
 use Rattle.search.specs.BoxLaws.{count-all, count-empty, first-place, count-place}
-use Rattle.search.specs.BoxLaws.{corner-inside, corner-first, can-hold-point, turned-all, one-corner, one-turned, points-set}
+use Rattle.search.specs.BoxLaws.{corner-inside, corner-first, can-hold-point, turned-all}
+use Rattle.search.specs.BoxLaws.{one-corner, one-turned, points-set, places-all}
 use Rattle.search.specs.SearchLaws.{total, firstOver, orElse}
-use Rattle.search.specs.System.{solutionOf}
+use Rattle.search.specs.Sifting.{Sifted, count-sifted, put-inside}
+use Rattle.search.specs.System.{exprsFrom, exprsIn, solutionOf}
 use Rattle.search.specs.Valuations.{satisfies, first, count, width, widths}
 use Rattle.search.specs.declared.search.Solution.{Solution}
 use Rattle.search.proofs.Caps.{CAP}
@@ -37,10 +37,6 @@ pub not-no : (b : Bool) → not b ≡ false → b ≡ true
 not-no true h = refl
 not-no false h = sym h
 
--- ---- a list with a place for each parameter
-pub places-all : {A : Type 0} (d : A) (l : List A) → length l ≡ PARAMETERS → placesFrom d l 0 PARAMETERS ≡ l
-places-all d l h = ap (λ (n : ℕ). placesFrom d l 0 n) (sym h) ∙ places-same d l
-
 -- ---- the first
 module _ (es : List Affine) (rs cs : List Range) (h : Narrows es rs cs) where
   -- the corner does not lie in the box
@@ -49,12 +45,9 @@ module _ (es : List Affine) (rs cs : List Range) (h : Narrows es rs cs) where
       ap solutionOf (sym (first-narrows es rs cs h ∙ first-nothing cs es (λ v i. absurd (k (rw e (corner-inside v cs i))))))
 
   -- the corner meets the inequalities
-  pub first-cornered : (v : Valuation) (ps : List Range) → v .numbers ≡ map lowOf cs → ps ≡ map pointOf (v .numbers)
-      → length (v .numbers) ≡ PARAMETERS
-      → Inside (v .numbers) cs → canHold es ps ≡ true → _≡_ {A = Solution} (record { found = true; valuation = v })
-      (solutionOf (first rs es))
-  first-cornered v ps e f l i k =
-      let m : satisfies es (v .numbers) ≡ true = sym (can-hold-point es (v .numbers)) ∙ ap (canHold es) (sym f) ∙ k in
+  pub first-cornered : (v : Valuation) → v .numbers ≡ map lowOf cs → length (v .numbers) ≡ PARAMETERS → Inside (v .numbers) cs
+      → satisfies es (v .numbers) ≡ true → _≡_ {A = Solution} (record { found = true; valuation = v }) (solutionOf (first rs es))
+  first-cornered v e l i m =
       let q : first rs es ≡ some (map lowOf cs) = first-narrows es rs cs h ∙ corner-first cs es (rw e at i) (rw e at m) in
       found-path (v .numbers) (four (v .numbers)) (sym (places-all (pos 0) (v .numbers) l)) ∙ ap (λ (u : List ℤ). solutionOf (some u))
       e ∙ ap solutionOf (sym q)
@@ -65,13 +58,15 @@ module _ (es : List Affine) (rs cs : List Range) (h : Narrows es rs cs) where
       found-path a b e = λ i. record { found = true; valuation = record { numbers = e i } }
 
   -- one valuation is left, and it does not
-  pub first-pointed : (w : ℕ) (u : List ℤ) (ps : List Range) → u ≡ map lowOf cs → ps ≡ map pointOf u → length cs ≤ w → Points w cs
-      → canHold es ps ≡ false
+  pub first-pointed : (w : ℕ) (u : List ℤ) → u ≡ map lowOf cs → length cs ≤ w → Points w cs → satisfies es u ≡ false
       → solutionOf none ≡ solutionOf (first rs es)
-  first-pointed w u ps e f l p k =
-      let m : satisfies es (map lowOf cs) ≡ false = sym
-      (can-hold-point es (map lowOf cs)) ∙ ap (λ (z : List ℤ). canHold es (map pointOf z)) (sym e) ∙ ap (canHold es) (sym f) ∙ k in
+  first-pointed w u e l p k =
+      let m : satisfies es (map lowOf cs) ≡ false = ap (satisfies es) (sym e) ∙ k in
       ap solutionOf (sym (first-narrows es rs cs h ∙ first-nothing cs es (λ v i. ap (satisfies es) (one-corner w cs v l p i) ∙ m)))
+
+-- no valuation meets the inequalities
+pub first-never-met : (es : List Affine) (rs : List Range) → Never es → solutionOf none ≡ solutionOf (first rs es)
+first-never-met es rs k = ap solutionOf (sym (first-nothing rs es (λ v i. k .none v)))
 
 -- what the search finds with x put in at place w
 abbrev pub firstAt : List Affine → List Range → ℕ → ℤ → Option (List ℤ)
@@ -108,6 +103,11 @@ module _ (es : List Affine) (cs : List Range) (w : ℕ) (r : Range) (n : ℕ) wh
         nothing (some v) e = apart cc
 
 -- ---- the count
+-- no inequality is asked
+none-asked : (l : List ℤ) (k : ℕ) (v : List ℤ) → k ≡ 0 → satisfies (exprsIn l k) v ≡ true
+unfolding satisfies exprsFrom
+none-asked l k v z = rw z refl
+
 module _ (es : List Affine) (rs cs : List Range) (h : Narrows es rs cs) where
   pub count-emptied : (v : ℕ) → v ≡ min (widths cs) CAP → v ≡ 0 → 0 ≡ min (count rs es) CAP
   count-emptied v e k =
@@ -120,6 +120,14 @@ module _ (es : List Affine) (rs cs : List Range) (h : Narrows es rs cs) where
   count-whole-box v ts e f k =
       let q : count rs es ≡ widths cs = count-narrows es rs cs h ∙ count-all cs es (turned-all es cs (ap (canHold es) (sym f) ∙ k)) in
       e ∙ ap (λ (z : ℕ). min z CAP) (sym q)
+
+  -- none of them is left in the box
+  pub count-sifted-out : (v k : ℕ) (l : List ℤ) → v ≡ min (widths cs) CAP → k ≡ 0 → (k ≤ 25 → Sifted es (exprsIn l k) cs)
+      → v ≡ min (count rs es) CAP
+  count-sifted-out v k l e z s =
+      let g : k ≤ 25 = omega arith in
+      let q : count rs es ≡ widths cs = count-narrows es rs cs h ∙ count-all cs es (λ u i. s g .same u i ∙ none-asked l k u z) in
+      e ∙ ap (λ (y : ℕ). min y CAP) (sym q)
 
   pub count-pointed : (w : ℕ) (ts : List Range) → ts ≡ map turn cs → length cs ≤ w → Points w cs → canHold es ts ≡ false
       → 0 ≡ min (count rs es) CAP
@@ -138,16 +146,6 @@ module _ (es : List Affine) (cs : List Range) (w : ℕ) (r : Range) (n : ℕ) wh
   pub count-begin : Points w cs → w < length cs → r ≡ getD cs w blankRange → n ≡ width r
       → min (0 + total (countAt es cs w) (r .low +ℤ pos 0) (n - 0)) CAP ≡ min (count cs es) CAP
   count-begin p l e f = ap (λ (z : ℕ). min z CAP) (total-start (countAt es cs w) (r .low) n ∙ rw (f, e) (sym (count-place w cs es p l)))
-
--- narrower ranges are as many
-pub narrows-long : (es : List Affine) (rs cs : List Range) → Narrows es rs cs → length rs ≡ PARAMETERS → length cs ≡ PARAMETERS
-narrows-long es rs cs h l = within-long cs rs (h .within) ∙ l
-  where
-    within-long : (cs rs : List Range) → Within cs rs → length cs ≡ length rs
-    within-long [] [] h = refl
-    within-long [] (r ∷ rs) h = absurd h
-    within-long (c ∷ cs) [] h = absurd h
-    within-long (c ∷ cs) (r ∷ rs) h = ap suc (within-long cs rs (h .1))
 
 pub corner-long : (u : List ℤ) (cs : List Range) → u ≡ map lowOf cs → length cs ≡ PARAMETERS → length u ≡ PARAMETERS
 corner-long u cs e l = ap length e ∙ length-map cs lowOf ∙ l
@@ -175,3 +173,9 @@ module _ (es : List Affine) (cs : List Range) (w : ℕ) (r : Range) (n i t : ℕ
   count-done h l z =
       let s = total-end (countAt es cs w) (r .low) n i h in
       omega arith
+
+-- the count of a box with a number put in, by the inequalities that a sift kept
+pub count-kept : (es fs : List Affine) (cs : List Range) (w i k : ℕ) (q : Range) → Sifted es fs cs
+    → q ≡ pointOf (getD cs w blankRange .low +ℤ pos i) → i < width (getD cs w blankRange) → k ≡ min (count (set cs w q) fs) CAP
+    → k ≡ min (count (set cs w q) es) CAP
+count-kept es fs cs w i k q s e h f = f ∙ ap (λ (z : ℕ). min z CAP) (count-sifted es fs cs (set cs w q) s (put-inside cs w i q e h))

@@ -1,15 +1,16 @@
 -- The part of one range, inequality by inequality.
 use mathlib.Core.Path.{_≡_, sym, ap, _∙_}
 use mathlib.Core.List.{List, map}
-use Prim.Native.Nat.{ℕ, zero, suc, _+_, _-_, _*_, _≤_, _<_, min}
+use Prim.Native.Nat.{ℕ, zero, suc, _+_, _-_, _≤_, _<_, min}
 use native.Mathlib.Numerals.{add-one}
 use native.Mathlib.Omega.{arith}
 use lib.IntN.{ℤ, pos}
 use lib.ListN.{length, getD, set}
-use Rattle.expr.specs.Affine.{value}
-use Rattle.expr.specs.Records.{PARAMETERS, placesFrom, blankRange}
+use Rattle.expr.specs.Affine.{Affine, value}
+use Rattle.expr.specs.Records.{PARAMETERS, placesFrom, affine, blankRange}
+use Rattle.expr.specs.declared.number.Expr.{Expr}
 use Rattle.expr.specs.declared.range.Range.{Range}
-use Rattle.narrowing.specs.Boxes.{lowOf, Alone}
+use Rattle.corners.specs.Boxes.{lowOf, Alone}
 use Rattle.narrowing.specs.Flat.{exprAt}
 use Rattle.narrowing.specs.Interval.{interval}
 use Rattle.search.specs.Boxes.{partOf}
@@ -26,9 +27,11 @@ places-at l (suc n) i (suc w) h =
     let same : suc i + w ≡ i + suc w = omega arith in
     places-at l n (suc i) w (omega arith) ∙ ap (λ (j : ℕ). getD l j (pos 0)) same
 
-coefficient-at : (l : List ℤ) (k w : ℕ) → w < PARAMETERS → getD (exprAt l k .coefs) w (pos 0) ≡ getD l (5 * k + 1 + w) (pos 0)
-unfolding exprAt
-coefficient-at l k w h = places-at l PARAMETERS (5 * k + 1) w h
+coefficient-at : (e : Expr) (f : Affine) (w : ℕ) → affine e ≡ f → w < PARAMETERS → getD (f .coefs) w (pos 0) ≡ getD (e .coefs) w (pos 0)
+coefficient-at e f w h g =
+    let same : 0 + w ≡ w = omega arith in
+    ap (λ (a : Affine). getD (a .coefs) w (pos 0)) (sym h) ∙ places-at (e .coefs) PARAMETERS 0 w g
+    ∙ ap (λ (j : ℕ). getD (e .coefs) j (pos 0)) same
 
 -- the first k inequalities have been put to the range
 pub record PartTo (l : List ℤ) (n w : ℕ) (u : List ℤ) (r : Range) (k : ℕ) (s : Range) : Type 0 where
@@ -41,17 +44,18 @@ module _ (l : List ℤ) (n w : ℕ) (u : List ℤ) (r : Range) where
       let all : n - 0 ≡ n = omega arith in
       record { few = omega arith; rest = ap (λ (m : ℕ). partOf (exprsFrom l 0 m) u w r) all }
 
-  pub part-turn : (k : ℕ) (s x : Range) → PartTo l n w u r k s → k < n → w < PARAMETERS
-      → x ≡ interval s (value (exprAt l k) u) (getD l (5 * k + 1 + w) (pos 0)) → PartTo l n w u r (k + 1) x
+  pub part-turn : (k : ℕ) (s x : Range) (e : Expr) → PartTo l n w u r k s → k < n → w < PARAMETERS → affine e ≡ exprAt l k
+      → x ≡ interval s (value (affine e) u) (getD (e .coefs) w (pos 0)) → PartTo l n w u r (k + 1) x
   unfolding exprsFrom partOf
-  part-turn k s x p h g e =
+  part-turn k s x f p h g q e =
       let one : n - k ≡ suc (n - suc k) = omega arith in
       record {
         few = omega arith;
         rest =
             ap (λ (j : ℕ). partOf (exprsFrom l j (n - j)) u w x) (add-one k)
             ∙ ap (partOf (exprsFrom l (suc k) (n - suc k)) u w)
-            (e ∙ ap (λ (c : ℤ). interval s (value (exprAt l k) u) c) (sym (coefficient-at l k w g)))
+            (e ∙ ap (λ (a : Affine). interval s (value a u) (getD (f .coefs) w (pos 0))) q
+            ∙ ap (λ (c : ℤ). interval s (value (exprAt l k) u) c) (sym (coefficient-at f (exprAt l k) w q g)))
             ∙ ap (λ (m : ℕ). partOf (exprsFrom l k m) u w s) (sym one)
             ∙ p .rest;
       }

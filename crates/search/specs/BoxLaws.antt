@@ -3,7 +3,7 @@
 use mathlib.Core.Path.{_≡_, refl, sym, ap, _∙_}
 use mathlib.Core.Logic.{_⊎_, inl, inr}
 use mathlib.Core.Bool.{Bool, true, false, cond}
-use mathlib.Core.List.{List, [], _∷_, map, List·Memᴰ, List·Memᴰ·head, List·Memᴰ·tail}
+use mathlib.Core.List.{List, [], _∷_, _++_, map, List·Memᴰ, List·Memᴰ·head, List·Memᴰ·tail}
 use mathlib.Core.Option.{Option, none, some}
 use Prim.Native.Nat.{ℕ, zero, suc, _+_, _*_, _≤_, _<_, min}
 use native.Mathlib.Omega.{arith}
@@ -18,12 +18,16 @@ use Rattle.integer.specs.Product.{*ℤ-mono-nonneg, *ℤ-mono-nonpos}
 use Rattle.integer.specs.Split.{split, split-all}
 use Rattle.expr.specs.Affine.{Affine, dot, value}
 use Rattle.expr.specs.Ranges.{In, Inside}
-use Rattle.expr.specs.Records.{PARAMETERS, placesFrom, blankRange}
+use Rattle.expr.specs.RecordLaws.{places-same}
+use Rattle.expr.specs.Records.{PARAMETERS, placesFrom, rangeList, blankRange}
 use Rattle.expr.specs.declared.range.Range.{Range}
+use Rattle.expr.specs.declared.range.Ranges.{Ranges}
 use Rattle.narrowing.specs.Cut.{Within, Cut}
 use Rattle.narrowing.specs.Flat.{exprAt}
 use Rattle.narrowing.specs.Interval.{bestSum, bestOf}
-use Rattle.narrowing.specs.Boxes.{lowOf, turn, pointOf, Points, Apart}
+use Rattle.narrowing.specs.IntervalLaws.{bestSum-most}
+use Rattle.corners.specs.Boxes.{lowOf, turn, pointOf, Points}
+use Rattle.narrowing.specs.Opposite.{Apart}
 use Rattle.search.specs.Boxes.{canHold, Narrows, Never}
 use Rattle.search.specs.First.{Earlier}
 use Rattle.search.specs.FirstProof.{search-right}
@@ -127,6 +131,12 @@ within-inside (x ∷ v) (s ∷ ss) (r ∷ rs) h k = (h .0 x (k .0), within-insid
 pub narrows-refl : (es : List Affine) (rs : List Range) → Narrows es rs rs
 narrows-refl es rs = record { within = within-refl rs; keeps = λ v h k. h }
 
+pub narrows-trans : (es : List Affine) (rs ss qs : List Range) → Narrows es rs ss → Narrows es ss qs → Narrows es rs qs
+narrows-trans es rs ss qs h k = record {
+  within = within-trans qs ss rs (k .within) (h .within);
+  keeps = λ v i m. k .keeps v (h .keeps v i m) m;
+}
+
 -- one more cut by one of the inequalities
 pub narrows-cut : (l : List ℤ) (n k : ℕ) (rs ss qs : List Range) → k < n → Narrows (exprsIn l n) rs ss → Cut (exprAt l k) ss qs
     → Narrows (exprsIn l n) rs qs
@@ -145,6 +155,17 @@ first-nothing rs es h = search-right rs es .nothing .1 h
 
 pub count-nothing : (rs : List Range) (es : List Affine) → ((v : List ℤ) → Inside v rs → satisfies es v ≡ false) → count rs es ≡ 0
 count-nothing rs es h = count-zero rs es .1 (first-nothing rs es h)
+
+-- one of the inequalities is below 0 at its best
+pub best-nothing : (l : List ℤ) (n k : ℕ) (rs : List Range) → k < n → bestOf (exprAt l k) rs <ℤ pos 0 → first rs (exprsIn l n) ≡ none
+unfolding bestOf value
+best-nothing l n k rs h g =
+    first-nothing rs (exprsIn l n) (λ v i. not-true (satisfies (exprsIn l n) v)
+    (λ m. below (dot (exprAt l k .coefs) v) (bestSum (exprAt l k .coefs) rs) (exprAt l k .constant)
+    (bestSum-most (exprAt l k .coefs) v rs i) (met-at l n k v m h) g))
+  where
+    below : (d s c : ℤ) → d ≤ℤ s → pos 0 ≤ℤ (c +ℤ d) → (c +ℤ s) <ℤ pos 0 → ⊥
+    below d s c = rw (split d, split s, split c) (simp split-all (omega arith))
 
 -- ---- the first over narrower ranges
 pub first-narrows : (es : List Affine) (rs ss : List Range) → Narrows es rs ss → first rs es ≡ first ss es
@@ -192,6 +213,44 @@ count-within es (r ∷ rs) (s ∷ ss) h k =
 
 pub count-narrows : (es : List Affine) (rs ss : List Range) → Narrows es rs ss → count rs es ≡ count ss es
 count-narrows es rs ss h = count-within es rs ss (h .within) (h .keeps)
+
+-- ---- some inequalities narrow the ranges, and more are asked
+satisfies-front : (es fs : List Affine) (v : List ℤ) → satisfies (es ++ fs) v ≡ true → satisfies es v ≡ true
+unfolding satisfies
+satisfies-front [] fs v h = refl
+satisfies-front (e ∷ es) fs v h =
+    let t = leZ (pos 0) (value e v) in
+    and-both t (satisfies es v) (and-left t (satisfies (es ++ fs) v) h) (satisfies-front es fs v (and-right t (satisfies (es ++ fs) v) h))
+
+pub narrows-more : (es fs : List Affine) (rs ss : List Range) → Narrows es rs ss → Narrows (es ++ fs) rs ss
+narrows-more es fs rs ss h = record { within = h .within; keeps = λ v i m. h .keeps v i (satisfies-front es fs v m) }
+
+-- the first solution of these and further inequalities is the same in the narrower ranges, and so is the count
+pub first-in-narrower : (es fs : List Affine) (rs ss : List Range) → Narrows es rs ss → first ss (es ++ fs) ≡ first rs (es ++ fs)
+first-in-narrower es fs rs ss h = sym (first-narrows (es ++ fs) rs ss (narrows-more es fs rs ss h))
+
+pub count-in-narrower : (es fs : List Affine) (rs ss : List Range) → Narrows es rs ss → count ss (es ++ fs) ≡ count rs (es ++ fs)
+count-in-narrower es fs rs ss h = sym (count-narrows (es ++ fs) rs ss (narrows-more es fs rs ss h))
+
+-- the same of the places of lists, as contracts have them (`rangeList`)
+within-long : (ss rs : List Range) → Within ss rs → length ss ≡ length rs
+within-long [] [] h = refl
+within-long [] (r ∷ rs) h = absurd h
+within-long (s ∷ ss) [] h = absurd h
+within-long (s ∷ ss) (r ∷ rs) h = ap suc (within-long ss rs (h .1))
+
+-- narrower ranges are as many
+pub narrows-long : (es : List Affine) (rs ss : List Range) (n : ℕ) → Narrows es rs ss → length rs ≡ n → length ss ≡ n
+narrows-long es rs ss n h l = within-long ss rs (h .within) ∙ l
+
+-- a list with a place for each parameter
+pub places-all : {A : Type 0} (d : A) (l : List A) → length l ≡ PARAMETERS → placesFrom d l 0 PARAMETERS ≡ l
+places-all d l h = ap (λ (n : ℕ). placesFrom d l 0 n) (sym h) ∙ places-same d l
+
+pub narrows-listed : (es : List Affine) (b c : Ranges) → length (b .list) ≡ PARAMETERS → Narrows es (b .list) (c .list)
+    → Narrows es (rangeList b) (rangeList c)
+narrows-listed es b c l h =
+    rw (places-all blankRange (b .list) l, places-all blankRange (c .list) (narrows-long es (b .list) (c .list) PARAMETERS h l)) h
 
 -- ---- all of the box, or nothing of it
 count-every : (t : List ℤ → Bool) (vs : List (List ℤ)) → ((v : List ℤ) → List·Memᴰ v vs → t v ≡ true) → countIn t vs ≡ length vs
@@ -261,6 +320,12 @@ turn-sum (c ∷ cs) (x ∷ v) (r ∷ rs) h = +ℤ-mono (turn-least c x r (leZ (p
 
 more-holds : (c d s : ℤ) → s ≤ℤ d → pos 0 ≤ℤ (c +ℤ s) → pos 0 ≤ℤ (c +ℤ d)
 more-holds c d s = rw (split c, split d, split s) (simp split-all (omega arith))
+
+-- an inequality that holds at its worst holds in all of the box
+pub turned-one : (e : Affine) (rs : List Range) → pos 0 ≤ℤ bestOf e (map turn rs) → (v : List ℤ) → Inside v rs → pos 0 ≤ℤ value e v
+unfolding bestOf value
+turned-one e rs h v i =
+    more-holds (e .constant) (dot (e .coefs) v) (bestSum (e .coefs) (map turn rs)) (turn-sum (e .coefs) v rs i) h
 
 -- inequalities that hold at their worst hold in all of the box
 pub turned-all : (es : List Affine) (rs : List Range) → canHold es (map turn rs) ≡ true → (v : List ℤ) → Inside v rs → satisfies es v ≡ true

@@ -9,7 +9,7 @@ use lib.Signed.{leZ}
 use Rattle.expr.specs.Affine.{Affine, value}
 use Rattle.expr.specs.Ranges.{Inside}
 use Rattle.expr.specs.declared.range.Range.{Range}
-use Rattle.narrowing.specs.Boxes.{pointOf}
+use Rattle.corners.specs.Boxes.{pointOf}
 use Rattle.narrowing.specs.Cut.{Within}
 use Rattle.narrowing.specs.Interval.{interval, bestOf}
 use Rattle.search.specs.Valuations.{satisfies}

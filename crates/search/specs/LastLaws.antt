@@ -15,7 +15,7 @@ use Rattle.expr.specs.Affine.{Affine, dot, value}
 use Rattle.expr.specs.Ranges.{In, Inside}
 use Rattle.expr.specs.Records.{blankRange}
 use Rattle.expr.specs.declared.range.Range.{Range}
-use Rattle.narrowing.specs.Boxes.{lowOf, Alone}
+use Rattle.corners.specs.Boxes.{lowOf, Alone}
 use Rattle.narrowing.specs.Cut.{Within}
 use Rattle.narrowing.specs.Interval.{interval}
 use Rattle.narrowing.specs.IntervalLaws.{interval-exact}
@@ -112,7 +112,7 @@ module _ (w : ℕ) (rs : List Range) (h : Alone w rs) where
       (k, subst (λ (y : ℤ). pos 0 ≤ℤ y) (alone-value e v i) here))
 
 -- ---- a box with another range at w
-within-set : (w : ℕ) (rs : List Range) (s : Range) → ((x : ℤ) → In x s → In x (getD rs w blankRange)) → Within (set rs w s) rs
+pub within-set : (w : ℕ) (rs : List Range) (s : Range) → ((x : ℤ) → In x s → In x (getD rs w blankRange)) → Within (set rs w s) rs
 within-set w [] s h = tt
 within-set zero (r ∷ rs) s h = (h, within-refl rs)
 within-set (suc w) (r ∷ rs) s h = (λ x i. i, within-set w rs s h)

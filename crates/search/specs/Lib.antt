@@ -7,5 +7,6 @@ pub mod FirstProof
 pub mod LastLaws
 pub mod Once
 pub mod SearchLaws
+pub mod Sifting
 pub mod System
 pub mod Valuations

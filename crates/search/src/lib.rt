@@ -3,8 +3,11 @@
 mod boxes;
 mod opposite;
 mod ranges;
+mod saturating;
 mod search;
+mod sift;
 
+pub use boxes::narrowed;
 pub use search::Solution;
 pub use search::count;
 pub use search::first;

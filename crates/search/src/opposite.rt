@@ -1,19 +1,20 @@
 // Whether two of the inequalities are opposite and too far apart.
 ghost use mathlib.Core.Path.{_≡_};
 ghost use mathlib.Core.Bool.{true};
-ghost use lib.ListN.{length};
-ghost use Prim.Native.Nat.{_≤_};
 ghost use Rattle.search.specs.Boxes.{Never};
 ghost use Rattle.search.specs.System.{exprsIn};
 
-// Whether the last of n inequalities is opposite to an earlier one and too far apart.
-pub(crate) fn opposed(flat: &[i32], n: usize) -> bool
-    requires { ⌜ n ≤ length (now flat) ⌝ }
+// Whether the last of n inequalities is opposite to an earlier one and too far apart; asked only at the start of a search.
+pub(crate) fn opposed(flat: &[i32], n: usize, start: usize) -> bool
     ensures { λ r. ⌜ (r ≡ true → Never (exprsIn (now (flat .entry)) n)) ⌝ }
 {
+    if 0 < start {
+        return false;
+    }
+    let last = narrowing::inequality(flat, numbers::less(n, 1));
     let mut k = 1;
     while k < n {
-        if narrowing::apart(flat, k - 1, n - 1) {
+        if narrowing::apart(narrowing::inequality(flat, k - 1), last) {
             return true;
         }
         k += 1;

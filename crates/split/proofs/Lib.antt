@@ -1,3 +1,2 @@
-pub mod Runs
-pub mod Stack
 pub mod Steps
+pub mod Turns

@@ -1,30 +1,16 @@
-// One guard over zones in order: the parts still to be worked on stand on a stack, the next one on top.
+// One guard over a zone: the parts still to be worked on stand on a stack, the next one on top.
 use crate::list;
 use crate::list::Counted;
+use crate::tests::run;
 use constrain::Rule;
 use expr::Expr;
 use expr::Ranges;
 use guards::Guard;
 use parts::Part;
 use zones::Zone;
-use zones::Zones;
 ghost use mathlib.Core.Path.{_≡_};
-ghost use Rattle.split.specs.Guarded.{cutC, ruleC, oneC, guardedC};
-ghost use Rattle.split.specs.Trees.{startC, endedC, Live, Ran};
-
-// The part where it stops.
-fn run(b: Ranges, r: Rule, p: Part) -> Part
-    requires { ⌜ Live p ⌝ }
-    ensures { λ q. ⌜ Ran b r p q ⌝ }
-{
-    let guess = zones::first_held(b, p.zone);
-    let mut q = p;
-    while q.halt < 1 {
-        let next = parts::forward(b, guess, r, q);
-        q = next;
-    }
-    q
-}
+ghost use Rattle.split.specs.Guarded.{cutC, ruleC, oneC};
+ghost use Rattle.split.specs.Trees.{startC, endedC};
 
 // The zones listed so far, after a part that is not split: cut, it leaves them; kept, it is listed; or refused.
 fn ended(out: Counted, p: Part) -> Counted
@@ -44,7 +30,7 @@ fn ended(out: Counted, p: Part) -> Counted
 }
 
 // The zone before the first test.
-fn start(zone: Zone) -> Part
+pub fn start(zone: Zone) -> Part
     ensures { λ r. ⌜ r ≡ startC zone ⌝ }
 {
     Part {
@@ -89,7 +75,7 @@ fn cut_zone(b: Ranges, r: Rule, zone: Zone, out: Counted) -> Counted
 }
 
 // The rule of a guard for a zone's matrix.
-fn rule(clocks: usize, g: Guard, zone: Zone) -> Rule
+pub fn rule(clocks: usize, g: Guard, zone: Zone) -> Rule
     ensures { λ r. ⌜ r ≡ ruleC clocks g zone ⌝ }
 {
     let old = zone.bounds;
@@ -108,29 +94,4 @@ pub fn cut_one(b: Ranges, clocks: usize, g: Guard, visit: usize, zone: Zone) -> 
     ensures { λ r. ⌜ r ≡ oneC b clocks g visit zone ⌝ }
 {
     cut_zone(b, rule(clocks, g, zone), zone, list::none_at(visit))
-}
-
-// What a guard leaves of zones in order. Zones that were refused stay so, and so do all where the guard has no such clock.
-pub fn cut_by(b: Ranges, clocks: usize, g: Guard, zones: Zones) -> Zones
-    ensures { λ r. ⌜ r ≡ guardedC b clocks g zones ⌝ }
-{
-    if 0 < zones.refusal {
-        return zones;
-    }
-    if 4 < g.left {
-        return zones;
-    }
-    if 4 < g.right {
-        return zones;
-    }
-    let n = numbers::at_most(zones.count, 32);
-    let mut out = list::none_at(zones.visit);
-    let mut i = 0;
-    while i < n {
-        let zone = zones.list[i];
-        let next = cut_zone(b, rule(clocks, g, zone), zone, out);
-        out = next;
-        i += 1;
-    }
-    out.zones
 }

@@ -1,7 +1,10 @@
-// One guard (paper: limit) over zones (paper: pieces): each is split by the guard's tests, and its parts are listed in order.
+// One guard (paper: limit) over a zone (paper: piece): it is split by the guard's tests, and its parts are listed in order.
 mod cut;
 mod list;
+mod tests;
 
-pub use cut::cut_by;
 pub use cut::cut_one;
+pub use cut::rule;
+pub use cut::start;
 pub use list::Counted;
+pub use tests::run;

@@ -26,9 +26,11 @@ use Rattle.expr.specs.RecordLaws.{filledTo, filled-none, filled-next, filled-al
 use Rattle.expr.specs.declared.number.Valuation.{Valuation}
 use Rattle.integer.specs.Split.{split, split-all}
 use Rattle.sheet.specs.declared.Sheet.{Sheet}
-use Rattle.reading.specs.declared.Reading.{Reading}
-use Rattle.reading.specs.Accepted.{reading-well-formed}
-use Rattle.reading.specs.File.{Read, readAs, readOf}
+use Rattle.index.specs.SheetIn.{sheetIn}
+use Rattle.reading.specs.declared.kept.Indexing.{Indexing}
+use Rattle.reading.specs.File.{Read, readOf}
+use Rattle.reading.specs.Indexed.{indexedAs}
+use Rattle.reading.specs.IndexedLaws.{indexing-well-formed}
 use Rattle.sweep.specs.Faithful.{sheet-faithful}
 use Rattle.sweep.specs.Reply.{SweepReply, blankReply, inRange, outside, orOutside, sheetReply, readReply, replyOf}
 use Rattle.sweep.specs.TableReply.{placedBy, placedOf, sweptTable, sheetTable}
@@ -149,13 +151,14 @@ module _ (s : Sheet) (xs : List ℤ) (x : Placed) (e : x ≡ placedOf (rangeList
       by (some k) f h g = g ∙ ap (λ (y : Placed). blankReply (numbered 6 (y .index))) f
 
 -- ---- the whole reply
-pub fine-reply : (file : List ℕ) (v : List ℤ) (reading : Reading) → readAs reading ≡ readOf file → reading .checked ≡ checked.Fine
-    → sheetTable (reading .sheet) v ≡ replyOf file v
+pub fine-reply : (file : List ℕ) (v : List ℤ) (reading : Indexing) → indexedAs file reading ≡ readOf file → reading .checked ≡ checked.Fine
+    → sheetTable (sheetIn file (reading .index)) v ≡ replyOf file v
 unfolding replyOf readReply
 fine-reply file v reading e h =
     let k : checkedAs (reading .checked) .number ≡ 0 = rw h refl in
-    sheet-faithful (reading .sheet) (reading-well-formed file reading e k) v
-    ∙ subst (λ (x : Read). sheetReply (reading .sheet) v ≡ readReply x v) e (rw k refl)
+    let sheet = sheetIn file (reading .index) in
+    sheet-faithful sheet (indexing-well-formed file reading e k) v
+    ∙ subst (λ (x : Read). sheetReply sheet v ≡ readReply x v) e (rw k refl)
 
 refused-as : (sheet : Sheet) (v : List ℤ) (r : Refusal)
     → blankReply (refusalAs r) ≡ readReply (record { answer = refusalAs r; sheet = sheet }) v
@@ -166,9 +169,10 @@ refused-as sheet v (Body at) = refl
 refused-as sheet v Valuations = refl
 refused-as sheet v (Route at) = refl
 
-pub refused-reply : (file : List ℕ) (v : List ℤ) (reading : Reading) → readAs reading ≡ readOf file → (r : Refusal)
+pub refused-reply : (file : List ℕ) (v : List ℤ) (reading : Indexing) → indexedAs file reading ≡ readOf file → (r : Refusal)
     → reading .checked ≡ checked.Refused r → blankReply (refusalAs r) ≡ replyOf file v
 unfolding replyOf
 refused-reply file v reading e r h =
-    refused-as (reading .sheet) v r
-    ∙ ap (λ (x : Read). readReply x v) (sym (ap (λ (c : Checked). record { answer = checkedAs c; sheet = reading .sheet }) h) ∙ e)
+    let sheet = sheetIn file (reading .index) in
+    refused-as sheet v r
+    ∙ ap (λ (x : Read). readReply x v) (sym (ap (λ (c : Checked). record { answer = checkedAs c; sheet = sheet }) h) ∙ e)

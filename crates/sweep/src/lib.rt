@@ -17,11 +17,11 @@ ghost use Rattle.sweep.specs.Reply.{replyAs, replyOf};
 pub fn sweep(file: &[u8], numbers: Numbers) -> Reply
     ensures { λ x. ⌜ replyAs x ≡ replyOf (now (file .entry)) (four (numbers .list)) ⌝ }
 {
-    let reading = reading::read(file);
+    let reading = reading::indexed(file);
     let checked = reading.checked;
-    let s = reading.sheet;
+    let ix = reading.index;
     match checked {
-        Checked::Fine => reply::reply_for(s, numbers),
+        Checked::Fine => reply::reply_for(file, ix, numbers),
         Checked::Refused(refusal) => reply::blank(Answer::Refused(refusal)),
     }
 }

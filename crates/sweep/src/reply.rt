@@ -1,16 +1,17 @@
-// What Sweep replies for a sheet and a number for each parameter.
+// What Sweep replies for the sheet of an index and a number for each parameter.
 use answers::sweep::Answer;
 use expr::PARAMETERS;
 use expr::Range;
 use expr::Ranges;
 use expr::Valuation;
-use sheet::Sheet;
+use index::Index;
 use weight::Weight;
 ghost use mathlib.Core.Path.{_≡_};
 ghost use Prim.Native.Nat.{_<_};
 ghost use mathlib.Core.Bool.{true};
 ghost use Rattle.answers.specs.Numbers.{sweepAs};
 ghost use Rattle.expr.specs.Records.{four, rangeList};
+ghost use Rattle.index.specs.SheetIn.{sheetIn};
 ghost use Rattle.sweep.specs.Reply.{replyAs, blankReply, inRange};
 ghost use Rattle.sweep.specs.TableReply.{placedOf, sweptTable, sheetTable};
 
@@ -113,14 +114,14 @@ fn in_ranges(b: Ranges, numbers: Numbers) -> Placed
     }
 }
 
-// The reply for a sheet: refusal 6, or the sweep.
-pub(crate) fn reply_for(s: Sheet, numbers: Numbers) -> Reply
-    ensures { λ x. ⌜ replyAs x ≡ sheetTable s (four (numbers .list)) ⌝ }
+// The reply for the sheet of an index: refusal 6, or the sweep.
+pub(crate) fn reply_for(file: &[u8], ix: Index, numbers: Numbers) -> Reply
+    ensures { λ x. ⌜ replyAs x ≡ sheetTable (sheetIn (now (file .entry)) ix) (four (numbers .list)) ⌝ }
 {
-    let ranges = s.ranges;
+    let ranges = ix.ranges;
     let placed = in_ranges(ranges, numbers);
     if placed.inside {
-        return swept(walk::walk(s, placed.valuation));
+        return swept(walk::walk(file, ix, placed.valuation));
     }
     blank(Answer::Outside(placed.index))
 }

@@ -1,6 +1,7 @@
 -- The cases of the code's steps on tables, with the branches' tests.
 use mathlib.Core.Path.{_≡_, refl, sym, _∙_, ap}
 use mathlib.Core.List.{List, _∷_}
+use mathlib.Core.Bool.{Bool, false}
 use Prim.Native.Nat.{ℕ, suc, _+_, _≤_, _<_, min}
 use native.Mathlib.Numerals.{add-one}
 use native.Mathlib.Omega.{arith}
@@ -11,9 +12,31 @@ use Rattle.guards.specs.declared.Guard.{Guard}
 use Rattle.automaton.specs.declared.Location.{Location}
 use Rattle.sheet.specs.declared.Sheet.{Sheet}
 use Rattle.automaton.specs.declared.Transition.{Transition}
-use Rattle.weight_matrix.specs.Tables.{Table}
-use Rattle.walk.specs.Walked.{guardTable, guardsTable, stayTable, moveTable, walkTable}
+use Rattle.weight.specs.Records.{weightOf}
+use Rattle.weight.specs.declared.Weight.{Weight}
+use Rattle.expr.specs.Bounds.{atV}
+use Rattle.expr.specs.Records.{boundAs}
+use Rattle.weight_matrix.specs.Tables.{Table, startTable, entryOf, guardedTable, guardChanges}
+use Rattle.weight_matrix.specs.Unchanged.{unchanged}
+use Rattle.walk.specs.Walked.{guardTable, guardsTable, invariantsTable, stayTable, moveTable, startedTable}
+use Rattle.walk.specs.Walked.{walkTable, sweepTable}
 use Rattle.sheet.specs.Lookup.{locationC, transitionC}
+
+-- ---- one guard
+module _ (m : Table) (clocks : ℕ) (v : List ℤ) (g : Guard) (e : Weight) (ee : e ≡ weightOf (atV v (boundAs (g .bound)))) where
+  -- it is put in
+  pub guard-made : (next : Table) → next ≡ guardedTable m clocks (g .left) (g .right) e → next ≡ guardTable m clocks v g
+  unfolding guardTable
+  guard-made next h = h ∙ ap (guardedTable m clocks (g .left) (g .right)) ee
+
+  -- it changes nothing
+  pub guard-kept : (i j : ℕ) (b : Bool) → i ≡ min (g .left) 4 → j ≡ min (g .right) 4
+      → b ≡ guardChanges (entryOf m 0 0) (entryOf m j i) (entryOf m i j) e → b ≡ false → m ≡ guardTable m clocks v g
+  unfolding guardTable
+  guard-kept i j b ei ej eb h =
+      let f : guardChanges (entryOf m 0 0) (entryOf m (min (g .right) 4) (min (g .left) 4))
+      (entryOf m (min (g .left) 4) (min (g .right) 4)) e ≡ false = rw (sym ei, sym ej) (sym eb ∙ h) in
+      sym (unchanged m clocks (g .left) (g .right) e f) ∙ ap (guardedTable m clocks (g .left) (g .right)) ee
 
 -- ---- the loop over guards: what is left of the list takes the matrix to where the whole list takes it
 pub size-is : {A : Type 0} (n k most : ℕ) (xs : List A) → n ≡ min k most → length xs ≡ most → (n ≤ most) × (n ≡ length (take k xs))
@@ -38,6 +61,11 @@ module _ (clocks : ℕ) (v : List ℤ) (xs : List Guard) (k : ℕ) where
 
 -- ---- the loop over the route: what is left of it takes the matrix to where the whole route takes it
 module _ (s : Sheet) (v : List ℤ) where
+  pub walk-begun : (here : Location) (m : Table) → here ≡ locationC s 0 → m ≡ invariantsTable startTable (s .clocks) v here
+      → walkTable s v 0 (take (s .moves) (s .route)) m ≡ sweepTable s v
+  unfolding sweepTable startedTable
+  walk-begun here m e f = rw (f, e) refl
+
   walk-cons : (ns : List ℕ) (n : ℕ) (rest : List ℕ) (l : ℕ) (m : Table) → ns ≡ n ∷ rest
       → walkTable s v l ns m ≡ walkTable s v (transitionC s n .to) rest
       (moveTable (stayTable m (s .clocks) v (locationC s l)) (s .clocks) v (transitionC s n) (locationC s (transitionC s n .to)))

@@ -3,25 +3,19 @@ use automaton::Location;
 use automaton::Transition;
 use expr::Valuation;
 use guards::Guard;
-use sheet::Sheet;
+use index::Index;
+use index::location_at;
+use index::transition_at;
 use weight::Weight;
 ghost use mathlib.Core.Path.{_≡_};
 ghost use Prim.Native.Nat.{min};
 ghost use lib.ListN.{take};
 ghost use Rattle.expr.specs.Records.{point};
-ghost use Rattle.walk.specs.Walked.{guardTable, guardsTable, stayTable, moveTable, startedTable, sweepTable};
+ghost use Rattle.index.specs.SheetIn.{sheetIn};
+ghost use Rattle.weight_matrix.specs.Tables.{startTable};
+ghost use Rattle.walk.specs.Walked.{guardsTable, invariantsTable, stayTable, moveTable, sweepTable};
 
-// The matrix after a guard (paper: limit) with v put in.
-fn guard(m: [[Weight; 5]; 5], clocks: usize, v: Valuation, g: Guard) -> [[Weight; 5]; 5]
-    ensures { λ r. ⌜ r ≡ guardTable m clocks (point v) g ⌝ }
-{
-    let i = g.left as usize;
-    let j = g.right as usize;
-    let bound = g.bound;
-    weight_matrix::guarded(m, clocks, i, j, bound.at(v))
-}
-
-// The matrix after the first count guards, in order.
+// The matrix after the first count guards (paper: limits) with v put in, in order. Three entries say whether a guard changes it.
 fn guards_of(
     m: [[Weight; 5]; 5],
     clocks: usize,
@@ -33,12 +27,18 @@ fn guards_of(
 {
     let n = numbers::at_most(count, 6);
     let mut now = m;
-    let mut i = 0;
-    while i < n {
-        let g = guards[i];
-        let next = guard(now, clocks, v, g);
-        now = next;
-        i += 1;
+    let mut k = 0;
+    while k < n {
+        let g = guards[k];
+        let bound = g.bound;
+        let e = bound.at(v);
+        let i = numbers::at_most(g.left as usize, 4);
+        let j = numbers::at_most(g.right as usize, 4);
+        if weight_matrix::changes(now[0][0], now[j][i], now[i][j], e) {
+            let next = weight_matrix::guarded(now, clocks, g.left as usize, g.right as usize, e);
+            now = next;
+        }
+        k += 1;
     }
     now
 }
@@ -74,36 +74,31 @@ fn moved(
     guards_of(reset, clocks, v, there.count, invariants)
 }
 
-// The matrix at the start: all entries zero, not strict, after the invariants of location 0.
-fn start(s: Sheet, v: Valuation) -> [[Weight; 5]; 5]
-    ensures { λ r. ⌜ r ≡ startedTable s (point v) ⌝ }
+// The matrix at the start: all entries zero, not strict, after the invariants of the location where the route starts.
+fn start(clocks: usize, v: Valuation, here: Location) -> [[Weight; 5]; 5]
+    ensures { λ r. ⌜ r ≡ invariantsTable startTable clocks (point v) here ⌝ }
 {
     let zeros = [[Weight::ZERO; 5]; 5];
-    let here = sheet::location_at(s, 0);
     let invariants = here.guards;
-    guards_of(zeros, s.clocks, v, here.count, invariants)
+    guards_of(zeros, clocks, v, here.count, invariants)
 }
 
-// The matrix after the whole route.
-pub fn walk(s: Sheet, v: Valuation) -> [[Weight; 5]; 5]
-    ensures { λ r. ⌜ r ≡ sweepTable s (point v) ⌝ }
+// The matrix after the whole route of a file's index.
+pub fn walk(file: &[u8], ix: Index, v: Valuation) -> [[Weight; 5]; 5]
+    ensures { λ r. ⌜ r ≡ sweepTable (sheetIn (now (file .entry)) ix) (point v) ⌝ }
 {
-    let n = numbers::at_most(s.moves, 32);
-    let mut m = start(s, v);
-    let mut l = 0;
+    let clocks = ix.clocks as usize;
+    let n = numbers::at_most(ix.moves as usize, 32);
+    let mut here = location_at(file, ix, 0);
+    let mut m = start(clocks, v, here);
     let mut k = 0;
     while k < n {
-        let t = sheet::transition_at(s, numbers::index(s.route[k]));
-        let next = moved(
-            stay(m, s.clocks, v, sheet::location_at(s, l)),
-            s.clocks,
-            v,
-            t,
-            sheet::location_at(s, t.to),
-        );
+        let t = transition_at(file, ix, numbers::index(ix.route[k]));
+        let there = location_at(file, ix, t.to);
+        let next = moved(stay(m, clocks, v, here), clocks, v, t, there);
         m = next;
-        l = t.to;
+        here = there;
         k += 1;
     }
-    stay(m, s.clocks, v, sheet::location_at(s, l))
+    stay(m, clocks, v, here)
 }

@@ -5,7 +5,8 @@ use Prim.Native.Nat.{ℕ, _≤_, _<_}
 use native.Mathlib.Omega.{arith}
 use borrow.Author.Tests.{lt-ltb, le-ltb}
 use Rattle.weight.specs.declared.Weight.{Weight}
-use Rattle.weight_matrix.specs.Tables.{Table, voidTable, entryOf, isVoid, sumC, tighterC, limitedEntry, limitedTable, guardedTable}
+use Rattle.weight_matrix.specs.Tables.{Table, voidTable, entryOf, isVoid, sumC, tighterC, limitedEntry, limitedTable}
+use Rattle.weight_matrix.specs.Tables.{guardedTable, guardChanges}
 use Rattle.weight.specs.Records.{zeroWeight}
 
 module _ (past : Bool) (was s add via : Weight) (t : Bool) (h : past ≡ false) (ev : via ≡ sumC s add) (et : t ≡ tighterC via was) where
@@ -52,3 +53,16 @@ module _ (m : Table) (clocks i j : ℕ) (e : Weight) where
         pub guard-stays : u ≡ false → m ≡ guardedTable m clocks i j e
         unfolding guardedTable
         guard-stays h = rw (le-ltb 4 i hi, le-ltb 4 j hj, sym ev ∙ hv, cut false ht, sym eu ∙ h) refl
+
+-- ---- whether a guard changes a matrix
+module _ (top back was e s : Weight) (t : Bool) (h : top .strict ≡ false) (es : s ≡ sumC e back) (et : t ≡ tighterC s zeroWeight) where
+  told : (b : Bool) → t ≡ b → tighterC (sumC e back) zeroWeight ≡ b
+  told b k = sym (ap (λ (x : Weight). tighterC x zeroWeight) es) ∙ sym et ∙ k
+
+  pub changes-cut : t ≡ true → true ≡ guardChanges top back was e
+  unfolding guardChanges
+  changes-cut k = rw (h, told true k) refl
+
+  pub changes-was : t ≡ false → tighterC e was ≡ guardChanges top back was e
+  unfolding guardChanges
+  changes-was k = rw (h, told false k) refl

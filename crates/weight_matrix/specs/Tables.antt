@@ -66,6 +66,10 @@ guardedTable m clocks i j e =
     (cond (isVoid m) m
     (cond (tighterC (sumC e (entryOf m j i)) zeroWeight) voidTable (cond (tighterC e (entryOf m i j)) (limitedTable m clocks i j e) m))))
 
+-- whether a guard changes a matrix with these entries at (0, 0), (j, i) and (i, j)
+unfoldable pub guardChanges : Weight → Weight → Weight → Weight → Bool
+guardChanges top back was e = cond (top .strict) false (cond (tighterC (sumC e back) zeroWeight) true (tighterC e was))
+
 unfoldable pub delayedRow : Bool → List Weight → List Weight
 delayedRow past row =
     cond past row (noneWeight ∷ getD row 1 zeroWeight ∷ getD row 2 zeroWeight ∷ getD row 3 zeroWeight ∷ getD row 4 zeroWeight ∷ [])

@@ -2,7 +2,10 @@
 use weight::Weight;
 ghost use mathlib.Core.Path.{_≡_};
 ghost use Prim.Native.Nat.{_<_};
-ghost use Rattle.weight_matrix.specs.Tables.{voidTable, isVoid, limitedEntry, limitedRow, limitedLine, limitedTable, guardedTable};
+ghost use mathlib.Core.Bool.{cond};
+ghost use lib.Dec.{ltb};
+ghost use Rattle.weight_matrix.specs.Tables.{voidTable, isVoid, sumC, limitedEntry, limitedRow, limitedTable};
+ghost use Rattle.weight_matrix.specs.Tables.{guardedTable, guardChanges};
 
 // The void matrix.
 fn void() -> [[Weight; 5]; 5]
@@ -52,24 +55,21 @@ fn limited_row(clocks: usize, old: [Weight; 5], s: Weight, add: [Weight; 5]) -> 
     ]
 }
 
-// Row k after the guard i - j with the weight e: (k, l) takes (k, i) + e + (j, l) where that is tighter. A row past the clocks stays.
+// Row k, `old`, after a guard with the weight e: `first` is its entry for the guard's left clock, `add` the row of the right one. A row
+// past the clocks stays.
 fn limited_line(
-    m: [[Weight; 5]; 5],
     clocks: usize,
     k: usize,
-    i: usize,
-    j: usize,
+    old: [Weight; 5],
+    first: Weight,
     e: Weight,
+    add: [Weight; 5],
 ) -> [Weight; 5]
-    requires { ⌜ (k < 5) × ((i < 5) × (j < 5)) ⌝ }
-    ensures { λ r. ⌜ r ≡ limitedLine m clocks k i j e ⌝ }
+    ensures { λ r. ⌜ r ≡ cond (ltb clocks k) old (limitedRow clocks old (sumC first e) add) ⌝ }
 {
-    let old = m[k];
     if clocks < k {
         return old;
     }
-    let first = old[i];
-    let add = m[j];
     limited_row(clocks, old, first.sum(e), add)
 }
 
@@ -78,13 +78,28 @@ fn limited(m: [[Weight; 5]; 5], clocks: usize, i: usize, j: usize, e: Weight) ->
     requires { ⌜ (i < 5) × (j < 5) ⌝ }
     ensures { λ r. ⌜ r ≡ limitedTable m clocks i j e ⌝ }
 {
+    let add = m[j];
     [
-        limited_line(m, clocks, 0, i, j, e),
-        limited_line(m, clocks, 1, i, j, e),
-        limited_line(m, clocks, 2, i, j, e),
-        limited_line(m, clocks, 3, i, j, e),
-        limited_line(m, clocks, 4, i, j, e),
+        limited_line(clocks, 0, m[0], m[0][i], e, add),
+        limited_line(clocks, 1, m[1], m[1][i], e, add),
+        limited_line(clocks, 2, m[2], m[2][i], e, add),
+        limited_line(clocks, 3, m[3], m[3][i], e, add),
+        limited_line(clocks, 4, m[4], m[4][i], e, add),
     ]
+}
+
+// Whether a guard with the weight e changes a matrix with these entries at (0, 0), (j, i) and (i, j).
+pub fn changes(top: Weight, back: Weight, was: Weight, e: Weight) -> bool
+    ensures { λ r. ⌜ r ≡ guardChanges top back was e ⌝ }
+{
+    if top.strict {
+        return false;
+    }
+    let around = e.sum(back);
+    if around.tighter(Weight::ZERO) {
+        return true;
+    }
+    e.tighter(was)
 }
 
 // One guard i - j with the weight e: void if e + (j, i) is tighter than zero; else m, if e isn't tighter than (i, j); else limited.

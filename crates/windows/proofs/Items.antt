@@ -1,13 +1,13 @@
 -- The items of a table, as a list that is filled from its front.
 use mathlib.Core.List.{List, [], _∷_, _++_}
 use mathlib.Core.Path.{_≡_, refl, sym, _∙_, ap, subst}
-use Prim.Native.Nat.{ℕ, zero, suc, _+_, _≤_, _<_, min}
-use native.Mathlib.Nat.{not-suc-le-zero, le-of-suc-le-suc, le-refl, add-zero, add-suc, le-of-lt}
+use Prim.Native.Nat.{ℕ, zero, suc, _+_, _≤_, _<_, _%_, min}
+use native.Mathlib.Nat.{not-suc-le-zero, le-of-suc-le-suc, le-refl, add-zero, add-suc, le-of-lt, mod-eq-of-lt}
 use native.Mathlib.Omega.{arith}
-use borrow.Author.Tests.{lt-ltb, le-ltb}
+use borrow.Author.Tests.{lt-ltb, le-ltb, ltb-true}
+use lib.Dec.{ltb}
 use lib.ListN.{length, getD, set, drop, length-set, drop-of-length-le}
-use mathlib.Core.Bool.{true}
-use Rattle.expr.specs.RecordLaws.{inside-any}
+use mathlib.Core.Bool.{Bool, true, false, cond}
 use Rattle.expr.specs.declared.number.Valuation.{Valuation}
 use Rattle.expr.specs.declared.range.Ranges.{Ranges}
 use Rattle.windows_reply.specs.declared.Worked.{Worked}
@@ -15,7 +15,7 @@ use Rattle.zones.specs.Zone.{blankZone}
 use Rattle.zones.specs.declared.zone.Zone.{Zone}
 use Rattle.windows.specs.declared.table.Piece.{Piece}
 use Rattle.windows.specs.Pieces.{blankPiece}
-use Rattle.windows.specs.Table.{pieceIn, itemOf, itemsOf, items-length}
+use Rattle.windows.specs.Table.{pieceIn, itemFor, itemOf, itemsOf, items-length}
 
 -- a piece with the first valuation that its zone holds
 pub piece-with : (b : Ranges) (z : Zone) (v : Valuation) → v ≡ pieceIn b z .first
@@ -23,17 +23,29 @@ pub piece-with : (b : Ranges) (z : Zone) (v : Valuation) → v ≡ pieceIn b z .
 piece-with b z v e = ap (λ (x : Valuation). record { used = true; first = x; count = z .count; ineqs = z .ineqs; bounds = z .bounds }) e
 
 -- the two cases of an item
-module _ (work : Worked) (n i : ℕ) where
-  pub item-in : (d : Zone) (p : Piece) → n ≡ min (work .pieces) 32 → length (work .zones) ≡ 32 → i < n → p
-      ≡ pieceIn (work .ranges) (getD (work .zones) i d) → p ≡ itemOf work i
-  unfolding itemOf
-  item-in d p e l h k =
-      rw (lt-ltb i (min (work .pieces) 32) (omega arith)) (k ∙ ap (pieceIn (work .ranges))
-      (inside-any (work .zones) i d blankZone (omega arith)))
+module _ (b : Ranges) (pieces n i : ℕ) (z : Zone) where
+  pub item-in : (p : Piece) → n ≡ min pieces 32 → i < n → p ≡ pieceIn b z → p ≡ itemFor b pieces i z
+  unfolding itemFor
+  item-in p e h k = rw (lt-ltb i (min pieces 32) (omega arith)) k
 
-  pub item-past : n ≡ min (work .pieces) 32 → n ≤ i → blankPiece ≡ itemOf work i
-  unfolding itemOf
-  item-past e h = rw (le-ltb i (min (work .pieces) 32) (omega arith)) refl
+  pub item-past : n ≡ min pieces 32 → n ≤ i → blankPiece ≡ itemFor b pieces i z
+  unfolding itemFor
+  item-past e h = rw (le-ltb i (min pieces 32) (omega arith)) refl
+
+-- places that have a piece are among the first 32, and the zone at a place further on is not used
+pub item-at : (work : Worked) (i : ℕ)
+    → itemFor (work .ranges) (work .pieces) i (getD (work .zones) (i % 32) blankZone) ≡ itemOf work i
+unfolding itemFor itemOf
+item-at work i = by (ltb i (min (work .pieces) 32)) refl
+  where
+    at : ℕ → Piece
+    at k = pieceIn (work .ranges) (getD (work .zones) k blankZone)
+
+    by : (c : Bool) → ltb i (min (work .pieces) 32) ≡ c → cond c (at (i % 32)) blankPiece ≡ cond c (at i) blankPiece
+    by true e =
+        let h = ltb-true i (min (work .pieces) 32) e in
+        ap at (mod-eq-of-lt (omega arith))
+    by false e = refl
 
 -- the list from i on begins with its element i
 drop-next : {A : Type 0} (l : List A) (i : ℕ) (d : A) → i < length l → drop i l ≡ getD l i d ∷ drop (suc i) l

@@ -40,6 +40,10 @@ pieceIn b z =
       bounds = z .bounds;
     }
 
+-- the item for place i of a table with so many pieces: the piece of this zone, or a blank one where i is past them
+unfoldable pub itemFor : Ranges → ℕ → ℕ → Zone → Piece
+itemFor b pieces i z = cond (ltb i (min pieces 32)) (pieceIn b z) blankPiece
+
 -- the item at place i of the table: the piece of the zone worked out for it, or a blank one
 unfoldable pub itemOf : Worked → ℕ → Piece
 itemOf work i = cond (ltb i (min (work .pieces) 32)) (pieceIn (work .ranges) (getD (work .zones) i blankZone)) blankPiece

@@ -7,7 +7,7 @@ use windows_reply::Worked;
 use zones::Zone;
 ghost use mathlib.Core.Path.{_≡_};
 ghost use lib.ListN.{length};
-ghost use Rattle.windows.specs.Table.{pieceIn, itemOf, itemsOf};
+ghost use Rattle.windows.specs.Table.{pieceIn, itemFor, itemsOf};
 
 // A place of the table (paper: piece): whether it is used; the first valuation that it holds (paper: the setting to start from); its
 // inequalities, the first `count` of the list, each an expression that is at least 0, zeros past them; and its matrix, five rows of
@@ -46,25 +46,24 @@ fn piece_of(b: Ranges, zone: Zone) -> Piece
     }
 }
 
-// The item for place i of the table: the piece of the zone worked out for it, or a blank one.
-fn item_at(work: Worked, i: usize) -> Piece
-    ensures { λ r. ⌜ r ≡ itemOf work i ⌝ }
+// The item for place i of the table, with so many pieces: the piece of this zone, or a blank one where i is past them.
+fn item_for(b: Ranges, pieces: usize, i: usize, zone: Zone) -> Piece
+    ensures { λ r. ⌜ r ≡ itemFor b pieces i zone ⌝ }
 {
-    let n = numbers::at_most(work.pieces, 32);
-    if i < n {
-        let zone = work.zones[i];
-        return piece_of(work.ranges, zone);
+    if i < numbers::at_most(pieces, 32) {
+        return piece_of(b, zone);
     }
     Piece::BLANK
 }
 
-// Stores the pieces into the table, blanks behind them.
+// Stores the pieces into the table, blanks behind them. Past 32 places any zone is read, and none is used.
 pub(crate) fn store(table: &mut [Piece], work: Worked)
     ensures { λ _. ⌜ now (table .exit) ≡ itemsOf work (length (now (table .entry))) ⌝ }
 {
+    let zones = work.zones;
     let mut i = 0;
     while i < table.len() {
-        table[i] = item_at(work, i);
+        table[i] = item_for(work.ranges, work.pieces, i, zones[i % 32]);
         i += 1;
     }
 }

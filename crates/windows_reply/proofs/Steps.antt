@@ -19,7 +19,9 @@ use Rattle.search.specs.SearchLaws.{count-few}
 use Rattle.search.specs.Valuations.{widths, count}
 use Rattle.expr.specs.Records.{affine, rangeList}
 use Rattle.expr.specs.declared.range.Ranges.{Ranges}
+use Rattle.index.specs.SheetIn.{sheetIn}
 use Rattle.reading.specs.declared.Reading.{Reading}
+use Rattle.reading.specs.declared.kept.Indexing.{Indexing}
 use Rattle.sheet.specs.declared.Sheet.{Sheet}
 use Rattle.reading.specs.File.{Fine, Read, readAs, readOf}
 use Rattle.reading.specs.Accepted.{reading-well-formed}
@@ -102,6 +104,10 @@ module _ (b : Ranges) (zs : Zones) where
 pub small-reply : (file : List ℕ) (n : ℕ) → n < 32 → blankShown answer.Small ≡ shownOf (replyOf file n)
 unfolding replyOf zonesIn
 small-reply file n h = rw (lt-ltb n 32 h) refl
+
+-- what `indexed` gave, as `read` gives it
+abbrev pub readingOf : List ℕ → Indexing → Reading
+readingOf file r = record { checked = r .checked; sheet = sheetIn file (r .index) }
 
 fine-number : (reading : Reading) → reading .checked ≡ checked.Fine → Fine (readAs reading)
 fine-number reading h = rw h refl

@@ -3,7 +3,7 @@ use answers::file::Checked;
 use answers::windows::Answer;
 use answers::windows::Counts;
 use expr::Ranges;
-use sheet::Sheet;
+use index::Index;
 use zones::Zone;
 use zones::Zones;
 ghost use mathlib.Core.Path.{_≡_};
@@ -11,6 +11,7 @@ ghost use Prim.Native.Nat.{_≤_};
 ghost use lib.ListN.{take};
 ghost use Rattle.search.specs.Valuations.{widths};
 ghost use Rattle.expr.specs.Records.{rangeList};
+ghost use Rattle.index.specs.SheetIn.{sheetIn};
 ghost use Rattle.sheet.specs.WellFormed.{WellFormed};
 ghost use Rattle.windows_reply.specs.Reply.{sheetReply, replyOf};
 ghost use Rattle.windows_reply.specs.Work.{shown, shownOf, blankShown, refusedBy, listedC};
@@ -85,13 +86,13 @@ fn listed(b: Ranges, zones: Zones) -> Worked
     }
 }
 
-// The reply for a sheet.
-fn cut_sheet(s: Sheet) -> Worked
-    requires { ⌜ WellFormed s ⌝ }
-    ensures { λ r. ⌜ shown r ≡ shownOf (sheetReply s) ⌝ }
+// The reply for the sheet of an index into a file.
+fn cut_file(file: &[u8], ix: Index) -> Worked
+    requires { ⌜ WellFormed (sheetIn (now file) ix) ⌝ }
+    ensures { λ r. ⌜ shown r ≡ shownOf (sheetReply (sheetIn (now (file .entry)) ix)) ⌝ }
 {
-    let b = s.ranges;
-    listed(b, windows_route::walk(s))
+    let b = ix.ranges;
+    listed(b, windows_route::walk(file, ix))
 }
 
 // The reply for a file and a table of so many places.
@@ -101,11 +102,11 @@ pub fn work_for(file: &[u8], places: usize) -> Worked
     if places < 32 {
         return blank(Answer::Small);
     }
-    let reading = reading::read(file);
+    let reading = reading::indexed(file);
     let checked = reading.checked;
-    let s = reading.sheet;
+    let ix = reading.index;
     match checked {
-        Checked::Fine => cut_sheet(s),
+        Checked::Fine => cut_file(file, ix),
         Checked::Refused(refusal) => blank(Answer::Refused(refusal)),
     }
 }

@@ -4,49 +4,25 @@ use mathlib.Core.List.{List, _∷_}
 use Prim.Native.Nat.{ℕ, suc, _+_, _≤_, _<_, min}
 use native.Mathlib.Numerals.{add-one}
 use native.Mathlib.Omega.{arith}
-use borrow.Author.Tests.{eq-eqb, ne-eqb}
-use lib.ListN.{length, getD, take, drop, length-take, drop-of-length-le}
+use lib.ListN.{length, getD, take, drop, replicate, length-take, drop-of-length-le}
 use lib.Seq.{drop-cons, getD-take}
-use Rattle.expr.specs.declared.range.Ranges.{Ranges}
-use Rattle.guards.specs.declared.Guard.{Guard}
 use Rattle.automaton.specs.declared.Location.{Location}
+use Rattle.expr.specs.declared.range.Ranges.{Ranges}
 use Rattle.sheet.specs.declared.Sheet.{Sheet}
+use Rattle.steps.specs.Steps.{Fit, closed, stepsAll}
+use Rattle.steps.specs.declared.step.Step.{Step}
+use Rattle.steps.specs.declared.step.Steps.{Steps}
+use Rattle.zones.specs.Zone.{blankZone}
+use Rattle.zones.specs.declared.zone.Zone.{Zone}
 use Rattle.automaton.specs.declared.Transition.{Transition}
 use Rattle.sheet.specs.Lookup.{locationC, transitionC}
-use Rattle.split.specs.Guarded.{guardedC}
-use Rattle.windows_route.specs.Walked.{atVisit, guardsAll, stayAll, moveAll, walkAll}
+use Rattle.windows_route.specs.Walked.{invariantsAll, stayAll, moveAll, walkAll, startAll, startedAll, zonesAll}
+use Rattle.windows_route.specs.Lists.{Lists, invariantSteps, staySteps, moveSteps, stay-is, invariants-are, move-is}
 use Rattle.zones.specs.declared.zone.Zones.{Zones}
 
--- ---- visits
-pub visit-now : (k : ℕ) (zs : Zones) → zs .refusal ≡ 0
-    → record { refusal = zs .refusal; visit = k; count = zs .count; list = zs .list } ≡ atVisit k zs
-unfolding atVisit
-visit-now k zs h = rw (eq-eqb (zs .refusal) 0 h) refl
-
-pub visit-before : (k : ℕ) (zs : Zones) → (zs .refusal ≡ 0 → ⊥) → zs ≡ atVisit k zs
-unfolding atVisit
-visit-before k zs h = rw (ne-eqb (zs .refusal) 0 h) refl
-
--- ---- guards
+-- ---- lists
 pub size-is : {A : Type 0} (n k most : ℕ) (xs : List A) → n ≡ min k most → length xs ≡ most → (n ≤ most) × (n ≡ length (take k xs))
 size-is n k most xs e l = (omega arith, rw (length-take k xs, l) e)
-
-module _ (b : Ranges) (w : ℕ) (xs : List Guard) (k : ℕ) where
-  guards-cons : (l : List Guard) (g : Guard) (rest : List Guard) (zs : Zones) → l ≡ g ∷ rest
-      → guardsAll b w l zs ≡ guardsAll b w rest (guardedC b w g zs)
-  unfolding guardsAll
-  guards-cons l g rest zs h = rw h refl
-
-  pub guards-turn : (i : ℕ) (zs next whole : Zones) (d : Guard) → i < length (take k xs) → guardsAll b w (drop i (take k xs)) zs ≡ whole
-      → next ≡ guardedC b w (getD xs i d) zs → guardsAll b w (drop (i + 1) (take k xs)) next ≡ whole
-  guards-turn i zs next whole d h e f =
-      let few : i < k = omega (arith, length-take k xs) in
-      rw (add-one i, f, ← getD-take k xs i d few)
-      (sym (guards-cons (drop i (take k xs)) (getD (take k xs) i d) (drop (suc i) (take k xs)) zs (drop-cons (take k xs) i d h)) ∙ e)
-
-  pub guards-done : (i : ℕ) (zs whole : Zones) → length (take k xs) ≤ i → guardsAll b w (drop i (take k xs)) zs ≡ whole → zs ≡ whole
-  unfolding guardsAll
-  guards-done i zs whole h e = rw (drop-of-length-le (take k xs) h) at e
 
 -- ---- the route
 module _ (s : Sheet) where
@@ -79,3 +55,35 @@ module _ (s : Sheet) where
   walk-done k l zs r whole here h e eh er =
       let f : stayAll (s .ranges) (s .clocks) (locationC s l) zs ≡ whole = rw (drop-of-length-le (take (s .moves) (s .route)) h) at e in
       er ∙ ap (λ (p : Location). stayAll (s .ranges) (s .clocks) p zs) eh ∙ f
+
+-- ---- the code's passes over zones
+module _ (b : Ranges) (w : ℕ) (zs next : Zones) (ss : Steps) (e : closed next ≡ stepsAll b w (take (ss .count) (ss .list))
+    (closed zs)) where
+  stepped : (l : List Step) (most : ℕ) → Lists most l ss → closed next ≡ stepsAll b w l (closed zs)
+  stepped l most h = e ∙ ap (λ (x : List Step). stepsAll b w x (closed zs)) (h .same)
+
+  pub moved-is : (here : Location) (visit : ℕ) (t : Transition) (there : Location) → Lists 20 (moveSteps here visit t there) ss
+      → closed next ≡ moveAll b w visit t there (stayAll b w here (closed zs))
+  moved-is here visit t there h = stepped (moveSteps here visit t there) 20 h ∙ move-is b w here visit t there (closed zs)
+
+  pub stayed-is : (here : Location) → Lists 7 (staySteps here) ss → closed next ≡ stayAll b w here (closed zs)
+  stayed-is here h = stepped (staySteps here) 7 h ∙ stay-is b w here (closed zs)
+
+  pub started-is : (here : Location) → Lists 6 (invariantSteps here) ss → closed next ≡ invariantsAll b w here (closed zs)
+  started-is here h = stepped (invariantSteps here) 6 h ∙ invariants-are b w here (closed zs)
+
+-- the first zone
+pub begin-fit : (l : List Zone) → Fit (record { refusal = 0; visit = 0; count = 1; list = l })
+begin-fit l = record { few = omega arith; none = λ h. absurd (omega arith) }
+
+pub begin-is : closed (record { refusal = 0; visit = 0; count = 1; list = replicate 32 blankZone }) ≡ startAll
+unfolding startAll
+begin-is = refl
+
+pub walk-begun : (s : Sheet) (zs : Zones) (here : Location) → here ≡ locationC s 0
+    → closed zs ≡ invariantsAll (s .ranges) (s .clocks) here startAll
+    → walkAll s 0 0 (take (s .moves) (s .route)) (closed zs) ≡ zonesAll s
+unfolding zonesAll startedAll
+walk-begun s zs here h e =
+    ap (walkAll s 0 0 (take (s .moves) (s .route)))
+    (e ∙ ap (λ (x : Location). invariantsAll (s .ranges) (s .clocks) x startAll) h)

@@ -1,8 +1,6 @@
 -- The whole route, on the code's records: stays and transitions, their guards in file order.
 use mathlib.Core.List.{List, [], _∷_}
-use mathlib.Core.Bool.{cond}
 use Prim.Native.Nat.{ℕ, suc}
-use lib.Dec.{eqb}
 use lib.ListN.{set, take, replicate}
 use Rattle.expr.specs.Records.{zeroBound, zeroExpr}
 use Rattle.expr.specs.declared.range.Ranges.{Ranges}
@@ -15,10 +13,7 @@ use Rattle.zones.specs.Zone.{blankZone}
 use Rattle.zones.specs.declared.zone.Zones.{Zones}
 use Rattle.split.specs.Guarded.{guardedC}
 use Rattle.delay.specs.Delayed.{delayedAll, resetsAll}
-
--- the visit, unless it was refused before
-unfoldable pub atVisit : ℕ → Zones → Zones
-atVisit k zs = cond (eqb (zs .refusal) 0) (record { refusal = zs .refusal; visit = k; count = zs .count; list = zs .list }) zs
+use Rattle.steps.specs.Steps.{atVisit}
 
 -- guards in file order
 unfoldable pub guardsAll : Ranges → ℕ → List Guard → Zones → Zones

@@ -1,124 +1,100 @@
 // The zones of a sheet along its route.
 use automaton::Location;
 use automaton::Transition;
-use expr::Bound;
-use expr::Expr;
 use expr::Ranges;
 use guards::Guard;
-use sheet::Sheet;
+use index::Index;
+use steps::Step;
+use steps::Steps;
 use zones::Zone;
 use zones::Zones;
 ghost use mathlib.Core.Path.{_≡_};
-ghost use Prim.Native.Nat.{_<_};
-ghost use lib.ListN.{take};
-ghost use Rattle.windows_route.specs.Walked.{atVisit, guardsAll, stayAll, moveAll, startedAll, zonesAll};
+ghost use Prim.Native.Nat.{_<_, _≤_};
+ghost use Rattle.index.specs.SheetIn.{sheetIn};
+ghost use Rattle.steps.specs.Steps.{Fit, closed};
+ghost use Rattle.windows_route.specs.Lists.{Lists, staySteps, moveSteps};
+ghost use Rattle.windows_route.specs.Walked.{invariantsAll, stayAll, startAll, zonesAll};
 
-// The zones at a visit, unless they were refused before.
-fn at_visit(zones: Zones, visit: usize) -> Zones
-    ensures { λ r. ⌜ r ≡ atVisit visit zones ⌝ }
+// The steps of a stay: a wait, then the location's invariants (paper: standing limits).
+fn stay_steps(here: Location) -> Steps
+    ensures { λ r. ⌜ Lists 7 (staySteps here) r ⌝ }
 {
-    if zones.refusal == 0 {
-        let mut next = zones;
-        next.visit = visit;
-        return next;
-    }
-    zones
-}
-
-// The zones after the first count guards, in order.
-fn guards_of(b: Ranges, clocks: usize, zones: Zones, count: usize, guards: [Guard; 6]) -> Zones
-    ensures { λ r. ⌜ r ≡ guardsAll b clocks (take count guards) zones ⌝ }
-{
-    let n = numbers::at_most(count, 6);
-    let mut now = zones;
-    let mut i = 0;
-    while i < n {
-        let g = guards[i];
-        let next = split::cut_by(b, clocks, g, now);
-        now = next;
-        i += 1;
-    }
-    now
-}
-
-// The zones after a stay: a wait, then the location's invariants (paper: standing limits).
-fn stay(b: Ranges, clocks: usize, here: Location, zones: Zones) -> Zones
-    ensures { λ r. ⌜ r ≡ stayAll b clocks here zones ⌝ }
-{
+    let waits = steps::with_step(Steps::NONE, Step::DELAY);
     let invariants = here.guards;
-    guards_of(
-        b,
-        clocks,
-        delay::delayed_all(zones, clocks),
-        here.count,
-        invariants,
-    )
+    steps::with_guards(waits, here.count, invariants)
 }
 
-// The zones after a transition (paper: move): its guards, which belong to the visit before it; its resets, with which the move is made;
-// and on arrival the invariants of the location that it goes to.
-fn moved(
-    b: Ranges,
-    clocks: usize,
-    visit: usize,
-    t: Transition,
-    there: Location,
-    zones: Zones,
-) -> Zones
+// The steps of a stay and of the transition (paper: move) that ends it: its guards, which belong to the visit before it; its resets, with
+// which the move is made; and on arrival the invariants of the location that it goes to.
+fn move_steps(here: Location, visit: usize, t: Transition, there: Location) -> Steps
     requires { ⌜ visit < 32 ⌝ }
-    ensures { λ r. ⌜ r ≡ moveAll b clocks visit t there zones ⌝ }
+    ensures { λ r. ⌜ Lists 20 (moveSteps here visit t there) r ⌝ }
 {
     let guards = t.guards;
-    let limited = guards_of(b, clocks, zones, t.count, guards);
-    let made = at_visit(delay::resets_all(limited, clocks, t.resets), visit + 1);
+    let limited = steps::with_guards(stay_steps(here), t.count, guards);
+    let made = steps::with_step(
+        limited,
+        Step {
+            kind: 2,
+            bits: t.resets,
+            visit: visit + 1,
+            guard: Guard::BLANK,
+        },
+    );
     let invariants = there.guards;
-    guards_of(b, clocks, made, there.count, invariants)
+    steps::with_guards(made, there.count, invariants)
 }
 
 // The zones at the start: one without inequalities, all entries zero, not strict, after the invariants of location 0.
-fn start(s: Sheet) -> Zones
-    ensures { λ r. ⌜ r ≡ startedAll s ⌝ }
+fn started(b: Ranges, clocks: usize, here: Location) -> Zones
+    ensures { λ r. ⌜ closed r ≡ invariantsAll b clocks here startAll ⌝ }
+    ensures fit { λ r. ⌜ Fit r ⌝ }
 {
-    let first = Zone {
-        count: 0,
-        ineqs: [Expr::ZERO; 24],
-        bounds: [Bound::ZERO; 25],
-    };
-    let mut list = [Zone::BLANK; 32];
-    list[0] = first;
     let zones = Zones {
         refusal: 0,
         visit: 0,
         count: 1,
-        list,
+        list: [Zone::BLANK; 32],
     };
-    let here = sheet::location_at(s, 0);
     let invariants = here.guards;
-    guards_of(s.ranges, s.clocks, zones, here.count, invariants)
+    passing::passed(
+        b,
+        clocks,
+        steps::with_guards(Steps::NONE, here.count, invariants),
+        zones,
+    )
+}
+
+// The zones with blanks behind them.
+fn blanked(zones: Zones) -> Zones
+    ensures { λ r. ⌜ r ≡ closed zones ⌝ }
+{
+    let mut next = zones;
+    let mut i = zones.count;
+    while i < 32 {
+        next.list[i] = Zone::BLANK;
+        i += 1;
+    }
+    next
 }
 
 // The zones after the whole route, or the first refusal that is met.
-pub fn walk(s: Sheet) -> Zones
-    ensures { λ r. ⌜ r ≡ zonesAll s ⌝ }
+pub fn walk(file: &[u8], ix: Index) -> Zones
+    ensures { λ r. ⌜ r ≡ zonesAll (sheetIn (now (file .entry)) ix) ⌝ }
 {
-    let b = s.ranges;
-    let n = numbers::at_most(s.moves, 32);
-    let mut zones = start(s);
-    let mut l = 0;
+    let b = ix.ranges;
+    let clocks = ix.clocks as usize;
+    let n = numbers::at_most(ix.moves as usize, 32);
+    let mut here = index::location_at(file, ix, 0);
+    let mut zones = started(b, clocks, here);
     let mut k = 0;
     while k < n {
-        let t = sheet::transition_at(s, numbers::index(s.route[k]));
-        let next = moved(
-            b,
-            s.clocks,
-            k,
-            t,
-            sheet::location_at(s, t.to),
-            stay(b, s.clocks, sheet::location_at(s, l), zones),
-        );
+        let t = index::transition_at(file, ix, numbers::index(ix.route[k]));
+        let there = index::location_at(file, ix, t.to);
+        let next = passing::passed(b, clocks, move_steps(here, k, t, there), zones);
         zones = next;
-        l = t.to;
+        here = there;
         k += 1;
     }
-    stay(b, s.clocks, sheet::location_at(s, l), zones)
+    blanked(passing::passed(b, clocks, stay_steps(here), zones))
 }

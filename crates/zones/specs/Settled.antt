@@ -3,19 +3,26 @@ use mathlib.Core.List.{List, [], _∷_, _++_, map}
 use mathlib.Core.Bool.{Bool, true, false, cond}
 use mathlib.Core.Option.{Option}
 use mathlib.Core.Option as option
+use Prim.Native.Nat.{ℕ, suc, min}
 use lib.Dec.{ltb}
 use lib.IntN.{ℤ}
 use lib.ListN.{take}
 use Rattle.expr.specs.Affine.{opposite, saturatedE}
 use Rattle.expr.specs.Records.{affine, exprOf, rangeList, zeroExpr}
+use Rattle.search.specs.System.{exprsIn}
 use Rattle.search.specs.Valuations.{first}
 use Rattle.expr.specs.declared.bound.Asked.{Asked}
 use Rattle.expr.specs.declared.bound.Asked.the-variants.{Yes, No, Ask}
 use Rattle.expr.specs.declared.bound.Test.{Test}
 use Rattle.expr.specs.declared.number.Expr.{Expr}
 use Rattle.expr.specs.declared.range.Ranges.{Ranges}
-use Rattle.zones.specs.declared.settle.Verdict.{Verdict}
+use Rattle.zones.specs.System.{putIn}
 use Rattle.zones.specs.declared.zone.Zone.{Zone}
+
+-- a verdict: no (0), yes (1), a split by the test (3), a 25th inequality (8)
+pub record Verdict : Type 0 where
+  pub kind : ℕ
+  pub test : Expr
 
 -- the opposite of e ≥ 0, as the code works it out
 unfoldable pub oppositeC : Expr → Expr
@@ -44,3 +51,32 @@ settledBy b z Ask e = onC b z e
 
 abbrev pub settledC : Ranges → Zone → Test → Verdict
 settledC b z t = settledBy b z (t .asked) (t .expr)
+
+-- ---- the same of a flat list of numbers: its first n inequalities, and a place behind them where the test is written
+-- no valuation meets them and e
+unfoldable pub neverF : Ranges → List ℤ → ℕ → Expr → Bool
+neverF b l n e = isNone (first (rangeList b) (exprsIn (putIn l n e) (suc (min n 24))))
+
+-- the verdict on e ≥ 0, and the list after it
+unfoldable pub onF : Ranges → List ℤ → ℕ → Expr → ℕ
+onF b l n e = cond (neverF b l n e) 0 (cond (neverF b (putIn l n e) n (oppositeC e)) 1 (cond (ltb n 24) 3 8))
+
+unfoldable pub onLeaves : Ranges → List ℤ → ℕ → Expr → List ℤ
+onLeaves b l n e = cond (neverF b l n e) (putIn l n e) (putIn (putIn l n e) n (oppositeC e))
+
+-- the verdict on a test, and the list after it
+abbrev pub settledByF : Ranges → List ℤ → ℕ → Asked → Expr → ℕ
+settledByF b l n Yes e = 1
+settledByF b l n No e = 0
+settledByF b l n Ask e = onF b l n e
+
+unfoldable pub settledF : Ranges → List ℤ → ℕ → Test → ℕ
+settledF b l n t = settledByF b l n (t .asked) (t .expr)
+
+abbrev pub leavesBy : Ranges → List ℤ → ℕ → Asked → Expr → List ℤ
+leavesBy b l n Yes e = l
+leavesBy b l n No e = l
+leavesBy b l n Ask e = onLeaves b l n e
+
+unfoldable pub settledLeaves : Ranges → List ℤ → ℕ → Test → List ℤ
+settledLeaves b l n t = leavesBy b l n (t .asked) (t .expr)

@@ -3,7 +3,8 @@ mod settle;
 mod system;
 mod zone;
 
-pub use settle::Verdict;
+pub use settle::Begun;
+pub use settle::begin;
 pub use settle::first_held;
 pub use settle::held;
 pub use settle::settled;

@@ -1,6 +1,5 @@
 // A test on a zone: settled if all or none of its valuations (paper: settings) satisfy it; otherwise it splits the zone.
 use crate::system;
-use crate::system::System;
 use crate::zone;
 use crate::zone::Zone;
 use expr::Asked;
@@ -10,91 +9,97 @@ use expr::Test;
 use expr::Valuation;
 ghost use mathlib.Core.Path.{_≡_};
 ghost use Prim.Native.Nat.{min};
-ghost use mathlib.Core.List.{[], _∷_, _++_, map};
+ghost use mathlib.Core.List.{map};
 ghost use lib.ListN.{take};
-ghost use Rattle.search.specs.System.{exprsIn};
 ghost use Rattle.expr.specs.Records.{affine, rangeList, valuationOf};
 ghost use Rattle.search.specs.Valuations.{first, numbersIn, count};
+ghost use Rattle.zones.specs.FlatLaws.{Listing};
 ghost use Rattle.zones.specs.Zone.{moreC};
-ghost use Rattle.zones.specs.Settled.{oppositeC, neverC, onC, settledC};
-
-// The verdict on a test: no (0), yes (1), a split by the test (3), a 25th inequality (8).
-pub struct Verdict {
-    pub kind: usize,
-    pub test: Expr,
-}
-
-// The zone's inequalities and one more, for the search.
-fn system(zone: Zone, e: Expr) -> System
-    ensures { λ r. ⌜ exprsIn (r .numbers) (r .count) ≡ map affine (take (zone .count) (zone .ineqs) ++ (e ∷ [])) ⌝ }
-{
-    let n = numbers::at_most(zone.count, 24);
-    let mut list = System::EMPTY;
-    let mut i = 0;
-    while i < n {
-        let x = zone.ineqs[i];
-        list = system::extended(list, i, x);
-        i += 1;
-    }
-    system::extended(list, n, e)
-}
+ghost use Rattle.zones.specs.System.{putIn};
+ghost use Rattle.zones.specs.Settled.{oppositeC, neverF, onF, onLeaves, settledF, settledLeaves};
 
 // How many valuations of the ranges a zone holds, those that meet all its inequalities; 2^64 - 1 if there are more.
 pub fn held(b: Ranges, zone: Zone) -> usize
     ensures { λ n. ⌜ n ≡ min (count (rangeList b) (map affine (take (zone .count) (zone .ineqs)))) 18446744073709551615 ⌝ }
 {
-    let s = system(zone, Expr::ZERO);
-    search::count(b, &s.numbers, s.count)
+    let list = system::flat_of(zone);
+    search::count(b, &list.numbers, list.count)
 }
 
 // The first valuation of the ranges that a zone holds, comparing parameter 1, then 2 and so on, smaller first; zeros if it holds none.
 pub fn first_held(b: Ranges, zone: Zone) -> Valuation
     ensures { λ v. ⌜ v ≡ valuationOf (numbersIn (first (rangeList b) (map affine (take (zone .count) (zone .ineqs))))) ⌝ }
 {
-    let list = system(zone, Expr::ZERO);
+    let list = system::flat_of(zone);
     let found = search::first(b, &list.numbers, list.count);
     found.valuation
 }
 
-// Whether no valuation of the zone satisfies e; the guess is tried before a search.
-fn never(b: Ranges, guess: Valuation, zone: Zone, e: Expr) -> bool
-    ensures { λ r. ⌜ r ≡ neverC b zone e ⌝ }
+// A zone before its tests: its inequalities as a flat list with a place behind them, the ranges that they leave, and a valuation that
+// it holds, if there is one.
+pub struct Begun {
+    pub count: usize,
+    pub numbers: [i32; 125],
+    pub ranges: Ranges,
+    pub guess: Valuation,
+}
+
+// The zone made ready for tests.
+pub fn begin(b: Ranges, zone: Zone) -> Begun
+    ensures { λ r. ⌜ Listing b (r .ranges) zone (r .count) (r .numbers) ⌝ }
 {
-    let s = system(zone, e);
-    !search::some_meets(b, guess, &s.numbers, s.count)
+    let list = system::flat_of(zone);
+    let ranges = search::narrowed(b, &list.numbers, list.count);
+    let found = search::first(ranges, &list.numbers, list.count);
+    let numbers = list.numbers;
+    let guess = found.valuation;
+    Begun {
+        count: list.count,
+        numbers,
+        ranges,
+        guess,
+    }
+}
+
+// Whether no valuation of the ranges meets the first n inequalities of the list and e, which is written behind them; the guess is tried
+// before a search.
+fn never(b: Ranges, guess: Valuation, flat: &mut [i32], n: usize, e: Expr) -> bool
+    ensures { λ r. ⌜ r ≡ neverF b (now (flat .entry)) n e ⌝ }
+    ensures leaves { λ _. ⌜ now (flat .exit) ≡ putIn (now (flat .entry)) n e ⌝ }
+{
+    system::put(flat, n, e);
+    !search::some_meets(b, guess, flat, numbers::at_most(n, 24) + 1)
 }
 
 // The verdict on e ≥ 0.
-fn on(b: Ranges, guess: Valuation, zone: Zone, e: Expr) -> Verdict
-    ensures { λ r. ⌜ r ≡ onC b zone e ⌝ }
+fn on(b: Ranges, guess: Valuation, flat: &mut [i32], n: usize, e: Expr) -> usize
+    ensures { λ r. ⌜ r ≡ onF b (now (flat .entry)) n e ⌝ }
+    ensures leaves { λ _. ⌜ now (flat .exit) ≡ onLeaves b (now (flat .entry)) n e ⌝ }
 {
-    if never(b, guess, zone, e) {
-        return Verdict { kind: 0, test: e };
+    if never(b, guess, flat, n, e) {
+        return 0;
     }
-    if never(b, guess, zone, e.opposite()) {
-        return Verdict { kind: 1, test: e };
+    if never(b, guess, flat, n, e.opposite()) {
+        return 1;
     }
-    if zone.count < 24 {
-        return Verdict { kind: 3, test: e };
+    if n < 24 {
+        return 3;
     }
-    Verdict { kind: 8, test: e }
+    8
 }
 
-// The verdict on a test. Whatever the guess is, the verdict is the same; a valuation that the zone holds saves a search.
-pub fn settled(b: Ranges, guess: Valuation, zone: Zone, test: Test) -> Verdict
-    ensures { λ r. ⌜ r ≡ settledC b zone test ⌝ }
+// The verdict on a test of the valuations of the ranges that meet the first n inequalities of the list: no (0), yes (1), a split by the
+// test (3), a 25th inequality (8). The list has a place behind them, where the test is written. Whatever the guess is, the verdict is the
+// same; a valuation that meets the inequalities saves a search.
+pub fn settled(b: Ranges, guess: Valuation, flat: &mut [i32], n: usize, test: Test) -> usize
+    ensures { λ r. ⌜ r ≡ settledF b (now (flat .entry)) n test ⌝ }
+    ensures leaves { λ _. ⌜ now (flat .exit) ≡ settledLeaves b (now (flat .entry)) n test ⌝ }
 {
     let asked = test.asked;
     match asked {
-        Asked::Yes => Verdict {
-            kind: 1,
-            test: Expr::ZERO,
-        },
-        Asked::No => Verdict {
-            kind: 0,
-            test: Expr::ZERO,
-        },
-        Asked::Ask => on(b, guess, zone, test.expr),
+        Asked::Yes => 1,
+        Asked::No => 0,
+        Asked::Ask => on(b, guess, flat, n, test.expr),
     }
 }
 

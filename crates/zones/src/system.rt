@@ -1,37 +1,55 @@
 // Inequalities as a flat list of numbers, as the search takes them: 1 + PARAMETERS each, the constant, then the coefficients.
+use crate::zone::Zone;
 use expr::Expr;
 use expr::PARAMETERS;
 ghost use mathlib.Core.Path.{_≡_};
-ghost use Prim.Native.Nat.{_<_};
-ghost use Rattle.zones.specs.System.{written};
+ghost use mathlib.Core.List.{map};
+ghost use Prim.Native.Nat.{min};
+ghost use lib.ListN.{length, take};
+ghost use Rattle.expr.specs.Records.{affine};
+ghost use Rattle.search.specs.System.{exprsIn};
+ghost use Rattle.zones.specs.System.{putIn};
 
-// The first `count` inequalities of the list, of which there are 25 at most.
-pub(crate) struct System {
+// The first `count` inequalities of the list, 24 at most; there is room for one more, a test.
+pub(crate) struct Flat {
     pub count: usize,
     pub numbers: [i32; 125],
 }
 
-impl System {
-    // No inequalities, all numbers 0.
-    pub const EMPTY: System = System {
-        count: 0,
-        numbers: [0; 125],
-    };
+// Writes e into the list as inequality k, where it has room for 25 and k is one of them.
+pub(crate) fn put(flat: &mut [i32], k: usize, e: Expr)
+    ensures { λ _. ⌜ now (flat .exit) ≡ putIn (now (flat .entry)) k e ⌝ }
+{
+    if k < 25 {
+        if 125 <= flat.len() {
+            let at = 5 * k;
+            let constant = e.constant;
+            flat[at] = constant;
+            let mut i = 0;
+            while i < PARAMETERS {
+                let x = e.coefs[i];
+                flat[at + 1 + i] = x;
+                i += 1;
+            }
+        }
+    }
 }
 
-// The list with e as inequality k, which is then the last.
-pub(crate) fn extended(list: System, k: usize, e: Expr) -> System
-    requires { ⌜ k < 25 ⌝ }
-    ensures { λ r. ⌜ r ≡ written list k e ⌝ }
+// The zone's inequalities, for the search.
+pub(crate) fn flat_of(zone: Zone) -> Flat
+    ensures { λ r. ⌜ exprsIn (r .numbers) (r .count) ≡ map affine (take (zone .count) (zone .ineqs)) ⌝ }
+    ensures counted { λ r. ⌜ r .count ≡ min (zone .count) 24 ⌝ }
 {
-    let mut next = list;
-    let at = 5 * k;
-    next.numbers[at] = e.constant;
+    let n = numbers::at_most(zone.count, 24);
+    let mut flat = [0i32; 125];
     let mut i = 0;
-    while i < PARAMETERS {
-        next.numbers[at + 1 + i] = e.coefs[i];
+    while i < n {
+        let x = zone.ineqs[i];
+        put(&mut flat, i, x);
         i += 1;
     }
-    next.count = k + 1;
-    next
+    Flat {
+        count: n,
+        numbers: flat,
+    }
 }

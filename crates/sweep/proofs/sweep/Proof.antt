@@ -1,12 +1,12 @@
--- The reply by what `read` gave.
-use borrow.Author.Needs.{needs}
+-- The reply by what `indexed` gave.
 use mathlib.Core.Path.{_∙_}
 use Rattle.sweep.proofs.Replies.{fine-reply, refused-reply}
+use borrow.Author.Needs.{needs}
 use Rattle.sweep.proofs.sweep.Statement.{statement}
 use Rattle.sweep.proofs.sweep.Tie as tie
 
-read-requires : tie.Need-read-requires
-read-requires c κs = search needs
+indexed-requires : tie.Need-indexed-requires
+indexed-requires c κs = search needs
 
 enum-told : tie.Need-enum-told
 enum-told c = search needs
@@ -25,7 +25,7 @@ returns c =
     let after-read = c .before .before .before .before in
     let s = after-read .before .before in
     c .reply-for .ensures
-    ∙ fine-reply (s .args .file .now) _ _ (after-read .read .ensures) (c .before .enum-told .given .1)
+    ∙ fine-reply (s .args .file .now) _ _ (after-read .indexed .ensures) (c .before .enum-told .given .1)
 
 returns-2 : tie.Need-returns-2
 returns-2 c =
@@ -33,13 +33,13 @@ returns-2 c =
     let after-read = matched .before .before .before in
     let s = after-read .before .before in
     c .blank .ensures
-    ∙ refused-reply (s .args .file .now) _ _ (after-read .read .ensures) _ (matched .checked .given .1)
+    ∙ refused-reply (s .args .file .now) _ _ (after-read .indexed .ensures) _ (matched .checked .given .1)
 
 pub sweep-spec : {M : Type 1} → statement M
 sweep-spec =
     tie.close
     (tie.spec
-    read-requires
+    indexed-requires
     enum-told
     reply-for-requires
     enum-known-checked

@@ -64,7 +64,7 @@ use Rattle.windows.proofs.windows.Symbol as windows-def
 use Rattle.windows.proofs.windows.Symbol.{name as #windows}
 use Rattle.windows.proofs.windows.Met as windows-thm
 use Rattle.tabled.specs.On.{tabledAs, windowsOn}
-use Rattle.tabled.proofs.Places as places
+use Rattle.windows.proofs.Places as places
 use Rattle.tabled.proofs.Reply as K
 use Rattle.tabled.proofs.Reply.Laws as K′
 use Rattle.tabled.proofs.on_first.Key.{name as #cut}

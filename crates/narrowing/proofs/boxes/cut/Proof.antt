@@ -2,25 +2,25 @@
 use mathlib.Core.Path.{_≡_}
 use Prim.Native.Nat.{_-_, _≤_}
 use native.Mathlib.Omega.{arith}
-use lib.ListN.{length, length-map}
-use mir.Syntax.{w64}
-use mir.Val.{toZ, ofZ}
+use lib.IntN.{pos}
+use lib.ListN.{length, getD, length-map}
+use mir.Syntax.{w32, w64}
+use mir.Val.{SFits, toZ, ofZ}
 use mir.ValLaws.{toZ-ofZ}
-use borrow.Author.Needs.{needs}
 use Rattle.integer.specs.Product.{size-fits}
-use Rattle.expr.specs.Records.{PARAMETERS}
+use Rattle.expr.specs.Records.{PARAMETERS, affine}
 use Rattle.narrowing.specs.Cut.{Cut}
-use Rattle.narrowing.specs.Flat.{exprAt}
 use Rattle.narrowing.proofs.Cuts.{is-below}
 use Rattle.narrowing.proofs.Terms.{cut-start, cut-turn, cut-none}
+use borrow.Author.Needs.{needs}
 use Rattle.narrowing.proofs.boxes.cut.Statement.{statement}
 use Rattle.narrowing.proofs.boxes.cut.Tie as tie
 
 abbrev Inv-loop : tie.InvT-loop
-Inv-loop flat k b s c₀ i₀ c i = (i ≤ PARAMETERS) × Cut (exprAt flat k) (b .list) (c .list)
+Inv-loop b e s c₀ i₀ c i = (i ≤ PARAMETERS) × Cut (affine e) (b .list) (c .list)
 
 abbrev μ-loop : tie.MeasureT-loop
-μ-loop flat k b s c₀ i₀ c i = PARAMETERS - i
+μ-loop b e s c₀ i₀ c i = PARAMETERS - i
 
 best-requires : tie.Need-best-requires Inv-loop μ-loop
 best-requires c κs = search needs
@@ -33,11 +33,11 @@ returns : tie.Need-returns Inv-loop μ-loop
 returns c =
     let t = c .before .before in
     let l : length (t .args .t1 .list) ≡ PARAMETERS = simp length-map at (t .good .0 .1 .1 .0 .1 .0 .1) in
-    cut-none (t .args .flat .now) (t .args .k) (t .args .t1 .list) (c .before .best .result) l (c .before .best .ensures .0)
+    cut-none (t .args .t2) (t .args .t1 .list) (c .before .best .result) l (c .before .best .ensures .0)
     (is-below _ _ (best-is (c .before)) (c .if1 .taken))
 
 loop-holds : tie.Need-loop-holds Inv-loop μ-loop
-loop-holds c = (omega arith, cut-start _ _ _)
+loop-holds c = (omega arith, cut-start (c .before .before .args .t2) (c .before .before .args .t1 .list))
 
 mul-r : tie.Need-mul-r Inv-loop μ-loop
 mul-r c = search needs
@@ -48,17 +48,14 @@ element-copy-out-r c = search needs
 mul-part : tie.Need-mul-part Inv-loop μ-loop
 mul-part c = search needs
 
-add-part : tie.Need-add-part Inv-loop μ-loop
-add-part c = search needs
-
-add-part-2 : tie.Need-add-part-2 Inv-loop μ-loop
-add-part-2 c = search needs
+element-copy-out-part : tie.Need-element-copy-out-part Inv-loop μ-loop
+element-copy-out-part c = search needs
 
 part-requires : tie.Need-part-requires Inv-loop μ-loop
-part-requires c κs = rw (best-is (c .before .before .before .before)) (c .before .before .before .before .best .ensures .1)
+part-requires c κs = rw (best-is (c .before .before .before .before .before)) (c .before .before .before .before .before .best .ensures .1)
 
-mul-t20 : tie.Need-mul-t20 Inv-loop μ-loop
-mul-t20 c = search needs
+mul-t22 : tie.Need-mul-t22 Inv-loop μ-loop
+mul-t22 c = search needs
 
 element-set-from-c : tie.Need-element-set-from-c Inv-loop μ-loop
 element-set-from-c c = search needs
@@ -71,14 +68,15 @@ loop-less c = search needs
 
 loop-again : tie.Need-loop-again Inv-loop μ-loop
 loop-again c =
-    let loop = c .before .before .before .loop in
-    let best = c .before .before .before .before .before in
+    let loop = c .before .before .before .before .loop in
+    let best = c .before .before .before .before .before .before in
     let t = best .before in
-    let l : length (t .args .t1 .list) ≡ PARAMETERS = simp length-map at (t .good .0 .1 .1 .0 .1 .0 .1) in (
+    let l : length (t .args .t1 .list) ≡ PARAMETERS = simp length-map at (t .good .0 .1 .1 .0 .1 .0 .1) in
+    let a = getD (t .args .t2 .coefs) (loop .i) (pos 0) in
+    let f : SFits w32 a = record { sfits = c .before .part-arg .given } in (
       omega arith,
-      cut-turn (t .args .flat .now) (t .args .k) (t .args .t1 .list) (loop .i) (best .best .result) (loop .c .list) (c .part .result)
-          (omega arith) l
-          (best .best .ensures .0) (rw (best-is best) at (c .part .ensures)) (loop .inv .1),
+      cut-turn (t .args .t2) (t .args .t1 .list) (loop .i) (best .best .result) (loop .c .list) (c .part .result) (omega arith) l
+          (best .best .ensures .0) (rw (best-is best, toZ-ofZ w32 a f) at (c .part .ensures)) (loop .inv .1),
     )
 
 returns-2 : tie.Need-returns-2 Inv-loop μ-loop
@@ -96,10 +94,9 @@ cut-spec =
     mul-r
     element-copy-out-r
     mul-part
-    add-part
-    add-part-2
+    element-copy-out-part
     part-requires
-    mul-t20
+    mul-t22
     element-set-from-c
     add-i
     loop-less

@@ -1,15 +1,15 @@
--- The range stays as it is where the inequality holds in all of it; otherwise its interval is left.
-use mathlib.Core.Path.{_≡_, refl, _∙_}
+-- The range stays as it is where it has one number at most, or the inequality holds in all of it; otherwise its interval is left.
+use mathlib.Core.Path.{_≡_, refl}
 use native.Mathlib.Omega.{arith}
 use lib.IntN.{_+ℤ_, _-ℤ_}
 use mir.Facts.{sfits-widen}
 use mir.Syntax.{w32, w64}
 use mir.Val.{SFits, toZ, ofZ}
 use mir.ValLaws.{toZ-ofZ}
-use borrow.Author.Needs.{needs}
-use Rattle.integer.specs.Bits.{op-fits, op-is, op-back}
+use Rattle.integer.specs.Bits.{held, passed, op-fits, op-is, op-back}
 use Rattle.integer.specs.Product.{size-fits}
 use Rattle.narrowing.proofs.Terms.{less-fits, more-fits, less-tame, slope-tame, part-all, part-cut}
+use borrow.Author.Needs.{needs}
 use Rattle.narrowing.proofs.boxes.part.Statement.{statement}
 use Rattle.narrowing.proofs.boxes.part.Tie as tie
 
@@ -43,37 +43,49 @@ add-if2 c =
 returns-2 : tie.Need-returns-2
 returns-2 c = part-all _ _ _
 
-number-requires : tie.Need-number-requires
-number-requires c κs = search needs
+wide-requires : tie.Need-wide-requires
+wide-requires c κs = search needs
+
+abbrev start : tie.After-wide → tie.Start
+start c = c .before .before .before .before .before .before .before .before
 
 -- what `interval` is asked: the rest and the slope, each held as its bits
-rest-is : (c : tie.After-number) →
+rest-is : (c : tie.After-wide) →
     let m = c .before .before .before .before .most .result in
-    let s = c .before .before .before .before .before .before .before .before .args .s in
+    let s = start c .args .s in
     toZ w64 (ofZ w64 (toZ w64 (ofZ w64 s) -ℤ toZ w64 (ofZ w64 m))) ≡ s -ℤ m
 rest-is c =
     let m = c .before .before .before .before .most in
-    let t = c .before .before .before .before .before .before .before .before in
+    let t = start c in
     let f : SFits w64 (m .result) = size-fits w64 _ (omega (arith, m .ensures .1)) in
     op-back _-ℤ_ w64 (t .args .s) (m .result) (t .args .s) (m .result) refl refl (t .fits .s) f (less-fits _ _ (t .pre) (m .ensures .1))
 
-slope-is : (c : tie.After-number) → toZ w64 (ofZ w64 (c .number .result)) ≡ c .number .result
-slope-is c = toZ-ofZ w64 _ (sfits-widen {w = w32} tt (c .number .ensures .1))
+slope-is : (c : tie.After-wide) → toZ w64 (ofZ w64 (c .wide .result)) ≡ start c .args .a
+slope-is c =
+    let f = start c .fits .a in
+    held w64 _ _ (passed w32 _ _ (c .wide .ensures) f) (sfits-widen {w = w32} tt f)
 
 interval-requires : tie.Need-interval-requires
 interval-requires c κs =
-    rw (rest-is c, slope-is c) (
-      less-tame _ _ (c .before .before .before .before .before .before .before .before .pre)
-          (c .before .before .before .before .most .ensures .1),
-      slope-tame _ (c .number .ensures .1),
-    )
+    rw (rest-is c, slope-is c)
+    (less-tame _ _ (start c .pre) (c .before .before .before .before .most .ensures .1), slope-tame _ (start c .fits .a))
 
 returns-3 : tie.Need-returns-3
 returns-3 c =
-    part-cut _ _ _ _ _ _ _ (c .interval .ensures) (rest-is (c .before)) (c .before .before .before .before .before .most .ensures .0)
-    (slope-is (c .before) ∙ c .before .number .ensures .0)
+    part-cut _ _ _ _ _ _ _ (c .interval .ensures) (rest-is (c .before))
+    (rw (toZ-ofZ w32 _ (start (c .before) .fits .a)) at (c .before .before .before .before .before .most .ensures .0))
+    (slope-is (c .before))
 
 pub part-spec : {M : Type 1} → statement M
 part-spec =
     tie.close
-    (tie.spec returns most-requires sub-rest most-requires-2 add-if2 returns-2 number-requires interval-requires returns-3)
+    (tie.spec
+    returns
+    most-requires
+    sub-rest
+    most-requires-2
+    add-if2
+    returns-2
+    wide-requires
+    interval-requires
+    returns-3)

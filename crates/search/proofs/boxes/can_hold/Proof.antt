@@ -1,5 +1,5 @@
 -- The loop's invariant: the inequalities from k on can hold exactly if all can.
-use mathlib.Core.Path.{_≡_}
+use mathlib.Core.Path.{_≡_, ap, _∙_}
 use Prim.Native.Nat.{_-_, _≤_}
 use native.Mathlib.Omega.{arith}
 use lib.IntN.{pos}
@@ -8,6 +8,8 @@ use mir.Val.{toZ, ofZ}
 use mir.ValLaws.{toZ-ofZ}
 use Rattle.integer.specs.Order.{ltZ-true, ltZ-false}
 use Rattle.integer.specs.Product.{size-fits}
+use Rattle.expr.specs.Affine.{Affine}
+use Rattle.narrowing.specs.Interval.{bestOf}
 use Rattle.search.specs.Boxes.{canHold}
 use Rattle.search.specs.System.{exprsFrom, exprsIn}
 use Rattle.search.proofs.Loops.{hold-start, hold-stop, hold-next, hold-done}
@@ -24,18 +26,23 @@ abbrev μ-loop : tie.MeasureT-loop
 loop-holds : tie.Need-loop-holds Inv-loop μ-loop
 loop-holds c = (omega arith, hold-start _ _ _)
 
--- the local holds what `best` gave
-best-is : (c : tie.After-best Inv-loop μ-loop) → toZ w64 (ofZ w64 (c .best .result)) ≡ c .best .result
-best-is c = toZ-ofZ w64 _ (size-fits w64 _ (omega (arith, c .best .ensures .1)))
+inequality-requires : tie.Need-inequality-requires Inv-loop μ-loop
+inequality-requires c κs = search needs
 
 best-requires : tie.Need-best-requires Inv-loop μ-loop
 best-requires c κs = search needs
 
+-- the local holds what `best` gave
+best-is : (c : tie.After-best Inv-loop μ-loop) → toZ w64 (ofZ w64 (c .best .result)) ≡ c .best .result
+best-is c = toZ-ofZ w64 _ (size-fits w64 _ (omega (arith, c .best .ensures .1)))
+
 returns : tie.Need-returns Inv-loop μ-loop
 returns c =
-    let loop = c .before .before .before .loop in
-    hold-stop _ _ (loop .k) _ _ _ (omega arith) (c .before .best .ensures .0) (ltZ-true (rw (best-is (c .before)) at (c .if1 .taken)))
-    (loop .inv .1)
+    let at = c .before .before in
+    let loop = at .before .before .loop in
+    let rs = at .before .before .before .args .b .list in
+    hold-stop _ _ (loop .k) rs _ _ (omega arith) (c .before .best .ensures .0 ∙ ap (λ (e : Affine). bestOf e rs) (at .inequality .ensures))
+    (ltZ-true (rw (best-is (c .before)) at (c .if1 .taken))) (loop .inv .1)
 
 add-k : tie.Need-add-k Inv-loop μ-loop
 add-k c = search needs
@@ -45,10 +52,13 @@ loop-less c = search needs
 
 loop-again : tie.Need-loop-again Inv-loop μ-loop
 loop-again c =
-    let loop = c .before .before .before .loop in (
+    let at = c .before .before in
+    let loop = at .before .before .loop in
+    let rs = at .before .before .before .args .b .list in (
       omega arith,
-      hold-next _ _ (loop .k) _ _ _ (omega arith) (c .before .best .ensures .0) (ltZ-false (rw (best-is (c .before)) at (c .if1 .left)))
-          (loop .inv .1),
+      hold-next _ _ (loop .k) rs _ _ (omega arith)
+          (c .before .best .ensures .0 ∙ ap (λ (e : Affine). bestOf e rs) (at .inequality .ensures))
+          (ltZ-false (rw (best-is (c .before)) at (c .if1 .left))) (loop .inv .1),
     )
 
 returns-2 : tie.Need-returns-2 Inv-loop μ-loop
@@ -61,6 +71,7 @@ can-hold-spec =
     Inv-loop
     μ-loop
     loop-holds
+    inequality-requires
     best-requires
     returns
     add-k

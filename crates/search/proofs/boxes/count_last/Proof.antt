@@ -24,8 +24,8 @@ returns : tie.Need-returns
 returns c =
     let s = c .before .before in
     let l : length (s .args .b .list) ≡ PARAMETERS = simp length-map at (s .good .0 .1 .1 .0 .1 .0 .1) in
-    last-counted _ (s .args .n) (s .args .w) (s .args .b .list) (c .before .part .result) (c .volume .result) (s .pre .1 .1)
-    (omega (arith, s .pre .1 .0)) (c .before .part .ensures) (c .volume .ensures)
+    last-counted _ (s .args .n) (s .args .w) (s .args .b .list) (c .before .part .result) (c .volume .result) (s .pre .1)
+    (omega (arith, s .pre .0)) (c .before .part .ensures) (c .volume .ensures)
 
 pub count-last-spec : {M : Type 1} → statement M
 count-last-spec =

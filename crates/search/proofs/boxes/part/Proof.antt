@@ -37,10 +37,11 @@ element-copy-out-r c = search needs
 loop-holds : tie.Need-loop-holds Inv-loop μ-loop
 loop-holds c = part-start _ _ _ _ _
 
+inequality-requires : tie.Need-inequality-requires Inv-loop μ-loop
+inequality-requires c κs = search needs
+
 held-requires : tie.Need-held-requires Inv-loop μ-loop
-held-requires c κs =
-    let s = c .before .before .before .before in
-    (omega (arith, s .pre .0), s .pre .1)
+held-requires c κs = c .before .before .before .before .before .pre
 
 add-k : tie.Need-add-k Inv-loop μ-loop
 add-k c = search needs
@@ -50,9 +51,10 @@ loop-less c = search needs
 
 loop-again : tie.Need-loop-again Inv-loop μ-loop
 loop-again c =
-    let loop = c .before .before .loop in
-    let s = c .before .before .before .before .before in
-    part-turn _ _ _ _ _ (loop .k) (loop .r) _ (loop .inv) (c .before .loop-test .taken) (s .pre .1) (c .held .ensures)
+    let at = c .before in
+    let loop = at .before .before .loop in
+    part-turn _ _ _ _ _ (loop .k) (loop .r) _ (at .inequality .result) (loop .inv) (at .before .loop-test .taken)
+    (at .before .before .before .before .before .pre) (at .inequality .ensures) (c .held .ensures)
 
 returns : tie.Need-returns Inv-loop μ-loop
 returns c =
@@ -75,6 +77,7 @@ part-spec =
     mul-r
     element-copy-out-r
     loop-holds
+    inequality-requires
     held-requires
     add-k
     loop-less

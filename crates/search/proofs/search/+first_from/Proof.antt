@@ -7,25 +7,28 @@ use lib.IntN.{pos, _+ℤ_}
 use lib.ListN.{length, getD, length-map}
 use borrow.Author.Needs.{needs}
 use Rattle.expr.specs.Records.{PARAMETERS, blankRange}
-use Rattle.search.specs.BoxLaws.{first-narrows, points-within}
+use Rattle.corners.specs.Boxes.{Points}
+use Rattle.search.specs.Boxes.{Narrows}
+use Rattle.search.specs.BoxLaws.{first-narrows, narrows-long, narrows-trans, points-within}
 use Rattle.search.specs.SearchLaws.{firstOver}
 use Rattle.search.specs.System.{exprsIn, solutionOf}
 use Rattle.search.specs.Valuations.{first, width}
 use Rattle.search.proofs.Loops.{first-done}
 use Rattle.search.proofs.Nodes.{not-yes, not-no, firstAt, first-emptied}
-use Rattle.search.proofs.Nodes.{first-cornered, first-pointed, first-begin, first-found, first-later}
-use Rattle.search.proofs.Nodes.{narrows-long, corner-long, points-next}
+use Rattle.search.proofs.Nodes.{first-cornered, first-pointed, first-never-met, first-begin, first-found, first-later}
+use Rattle.search.proofs.Nodes.{corner-long, points-next}
 use borrow.Fn.Kinds.{In}
 use borrow.Fn.PlainCycle.{Measures, is, falls, and}
 use Rattle.search.proofs.search.first_from.Reads as first-from
 use Rattle.search.proofs.search.first_from.Kinds as first-from-kinds
 use Rattle.search.proofs.search.+first_from.Lts-first_from as first-from-lts
-use Rattle.search.proofs.boxes.can_hold.Reads as can-hold-reads
-use Rattle.narrowing.proofs.corner.Reads as corner-reads
-use Rattle.narrowing.proofs.inside.Reads as inside-reads
+use Rattle.search.proofs.boxes.again.Reads as again-reads
+use Rattle.search.proofs.boxes.meets.Reads as meets-reads
+use Rattle.search.proofs.opposite.opposed.Reads as opposed-reads
+use Rattle.corners.proofs.corner.Reads as corner-reads
+use Rattle.corners.proofs.inside.Reads as inside-reads
 use Rattle.search.proofs.boxes.narrowed.Reads as narrowed-reads
-use Rattle.narrowing.proofs.points.Reads as points-reads
-use Rattle.narrowing.proofs.wide.Reads as wide-reads
+use Rattle.corners.proofs.wide.Reads as wide-reads
 use Rattle.search.proofs.ranges.point.Reads as point-reads
 use Rattle.search.proofs.ranges.width.Reads as width-reads
 use Rattle.search.proofs.search.+first_from.{statement}
@@ -49,12 +52,14 @@ claims t = (
   corner-reads.Learnt,
   inside-reads.Asked,
   inside-reads.Learnt,
-  points-reads.Asked,
-  points-reads.Learnt,
-  can-hold-reads.Asked,
-  can-hold-reads.Learnt,
+  meets-reads.Asked,
+  meets-reads.Learnt,
   wide-reads.Asked,
   wide-reads.Learnt,
+  opposed-reads.Asked,
+  opposed-reads.Learnt,
+  again-reads.Asked,
+  again-reads.Learnt,
   width-reads.Asked,
   width-reads.Learnt,
   point-reads.Asked,
@@ -64,17 +69,17 @@ claims t = (
 )
 
 abbrev Inv-loop : first-from-lts.InvT-loop
-Inv-loop flat n start c w range m i₀ i =
+Inv-loop flat n start w e range m i₀ i =
     (i ≤ m) × (m ≤ 65536) × (m ≡ width range)
-    × (firstOver (firstAt (exprsIn flat n) (c .list) w) (range .low +ℤ pos i) (m - i) ≡ first (c .list) (exprsIn flat n))
+    × (firstOver (firstAt (exprsIn flat n) (e .list) w) (range .low +ℤ pos i) (m - i) ≡ first (e .list) (exprsIn flat n))
 
 abbrev μ-loop : first-from-lts.MeasureT-loop
-μ-loop flat n start c w range m i₀ i = m - i
+μ-loop flat n start w e range m i₀ i = m - i
 
 -- the narrowed box has all its ranges
 long : (t : ℕ) (c : first-from-lts.After-narrowed (claims t) (at-t t) first-from.Post Inv-loop μ-loop)
     → length (c .narrowed .result .list) ≡ PARAMETERS
-long t c = narrows-long _ _ _ (c .narrowed .ensures) (simp length-map at (c .before .good .0 .1 .1 .0 .1 .0 .1))
+long t c = narrows-long _ _ _ PARAMETERS (c .narrowed .ensures) (simp length-map at (c .before .good .0 .1 .1 .0 .1 .0 .1))
 
 narrowed-requires : (t : ℕ) → first-from-lts.Need-narrowed-requires (claims t) (at-t t) first-from.Post Inv-loop μ-loop
 narrowed-requires t c κs = search needs
@@ -91,41 +96,67 @@ returns t c =
     first-emptied _ _ _ (corner .before .narrowed .ensures) _ (corner .corner .ensures)
     (c .before .inside .ensures .1 (not-yes _ (c .if1 .taken)))
 
-points-requires : (t : ℕ) → first-from-lts.Need-points-requires (claims t) (at-t t) first-from.Post Inv-loop μ-loop
-points-requires t c κs = search needs
-
-can-hold-requires : (t : ℕ) → first-from-lts.Need-can-hold-requires (claims t) (at-t t) first-from.Post Inv-loop μ-loop
-can-hold-requires t c κs = search needs
+meets-requires : (t : ℕ) → first-from-lts.Need-meets-requires (claims t) (at-t t) first-from.Post Inv-loop μ-loop
+meets-requires t c κs = search needs
 
 returns-2 : (t : ℕ) → first-from-lts.Need-returns-2 (claims t) (at-t t) first-from.Post Inv-loop μ-loop
 returns-2 t c =
-    let points = c .before .before in
-    let inside = points .before .before in
+    let inside = c .before .before .before in
     let narrowed = inside .before .before in
     let cs = narrowed .narrowed .result .list in
-    first-cornered _ _ cs (narrowed .narrowed .ensures) (inside .before .corner .result) _ (inside .before .corner .ensures)
-    (points .points .ensures)
+    first-cornered _ _ cs (narrowed .narrowed .ensures) (inside .before .corner .result) (inside .before .corner .ensures)
     (corner-long _ cs (inside .before .corner .ensures) (long t narrowed))
-    (inside .inside .ensures .0 (not-no _ (points .before .if1 .left)))
-    (sym (c .before .can-hold .ensures) ∙ c .if2 .taken)
+    (inside .inside .ensures .0 (not-no _ (c .before .before .if1 .left)))
+    (sym (c .before .meets .ensures) ∙ c .if2 .taken)
 
 wide-requires : (t : ℕ) → first-from-lts.Need-wide-requires (claims t) (at-t t) first-from.Post Inv-loop μ-loop
 wide-requires t c κs =
-    let narrowed = c .before .before .before .before .before .before in
+    let narrowed = c .before .before .before .before .before in
     let s = narrowed .before in (
-      s .pre .1 .1 .0,
+      s .pre .1 .0,
       points-within (s .args .start) (s .args .b .list) (narrowed .narrowed .result .list) (narrowed .narrowed .ensures .within)
-          (s .pre .1 .1 .1),
+          (s .pre .1 .1),
     )
 
 returns-3 : (t : ℕ) → first-from-lts.Need-returns-3 (claims t) (at-t t) first-from.Post Inv-loop μ-loop
 returns-3 t c =
-    let points = c .before .before .before .before in
-    let corner = points .before .before .before in
-    first-pointed _ _ _ (corner .before .narrowed .ensures) (c .before .wide .result) _ _ (corner .corner .ensures)
-    (points .points .ensures)
+    let meets = c .before .before .before in
+    let corner = meets .before .before .before in
+    first-pointed _ _ _ (corner .before .narrowed .ensures) (c .before .wide .result) _ (corner .corner .ensures)
     (omega (arith, long t (corner .before))) (c .before .wide .ensures .1 .1)
-    (sym (c .before .before .before .can-hold .ensures) ∙ c .before .before .if2 .left)
+    (sym (meets .meets .ensures) ∙ c .before .before .if2 .left)
+
+opposed-requires : (t : ℕ) → first-from-lts.Need-opposed-requires (claims t) (at-t t) first-from.Post Inv-loop μ-loop
+opposed-requires t c κs = search needs
+
+returns-4 : (t : ℕ) → first-from-lts.Need-returns-4 (claims t) (at-t t) first-from.Post Inv-loop μ-loop
+returns-4 t c = first-never-met _ _ (c .before .opposed .ensures (c .if4 .taken))
+
+again-requires : (t : ℕ) → first-from-lts.Need-again-requires (claims t) (at-t t) first-from.Post Inv-loop μ-loop
+again-requires t c κs = search needs
+
+-- what is left after both cuts
+both : (t : ℕ) (c : first-from-lts.After-again (claims t) (at-t t) first-from.Post Inv-loop μ-loop) →
+    let narrowed = c .before .before .before .before .before .before .before .before .before .before in
+    Narrows (exprsIn (narrowed .before .args .flat .now) (narrowed .before .args .n)) (narrowed .before .args .b .list)
+    (c .again .result .list)
+both t c =
+    let narrowed = c .before .before .before .before .before .before .before .before .before .before in
+    narrows-trans _ _ _ _ (narrowed .narrowed .ensures) (c .again .ensures)
+
+-- it has all its ranges, and those before the one that is put in have one number
+long-again : (t : ℕ) (c : first-from-lts.After-again (claims t) (at-t t) first-from.Post Inv-loop μ-loop)
+    → length (c .again .result .list) ≡ PARAMETERS
+long-again t c =
+    let narrowed = c .before .before .before .before .before .before .before .before .before .before in
+    narrows-long _ _ _ PARAMETERS (c .again .ensures) (long t narrowed)
+
+points-again : (t : ℕ) (c : first-from-lts.After-again (claims t) (at-t t) first-from.Post Inv-loop μ-loop) →
+    let wide = c .before .before .before .before in
+    Points (wide .wide .result) (c .again .result .list)
+points-again t c =
+    let wide = c .before .before .before .before in
+    points-within (wide .wide .result) _ _ (c .again .ensures .within) (wide .wide .ensures .1 .1)
 
 mul-range : (t : ℕ) → first-from-lts.Need-mul-range (claims t) (at-t t) first-from.Post Inv-loop μ-loop
 mul-range t c = search needs
@@ -138,21 +169,20 @@ width-requires t c κs = search needs
 
 loop-holds : (t : ℕ) → first-from-lts.Need-loop-holds (claims t) (at-t t) first-from.Post Inv-loop μ-loop
 loop-holds t c =
-    let wide = c .before .before .before in
-    let narrowed = wide .before .before .before .before .before .before .before in (
+    let again = c .before .before in
+    let wide = again .before .before .before .before in (
       omega arith,
       c .width .ensures .1,
       c .width .ensures .0,
-      first-begin _ (narrowed .narrowed .result .list) (wide .wide .result) _ _ (wide .wide .ensures .1 .1)
-          (omega (arith, long t narrowed)) refl
+      first-begin _ (again .again .result .list) (wide .wide .result) _ _ (points-again t again) (omega (arith, long-again t again)) refl
           (c .width .ensures .0),
     )
 
 point-requires : (t : ℕ) → first-from-lts.Need-point-requires (claims t) (at-t t) first-from.Post Inv-loop μ-loop
 point-requires t c κs = omega arith
 
-mul-t28 : (t : ℕ) → first-from-lts.Need-mul-t28 (claims t) (at-t t) first-from.Post Inv-loop μ-loop
-mul-t28 t c = search needs
+mul-t32 : (t : ℕ) → first-from-lts.Need-mul-t32 (claims t) (at-t t) first-from.Post Inv-loop μ-loop
+mul-t32 t c = search needs
 
 element-set-from-d : (t : ℕ) → first-from-lts.Need-element-set-from-d (claims t) (at-t t) first-from.Post Inv-loop μ-loop
 element-set-from-d t c = search needs
@@ -163,27 +193,25 @@ add-first-from t c = search needs
 first-from-requires : (t : ℕ) → first-from-lts.Need-first-from-requires (claims t) (at-t t) first-from.Post Inv-loop μ-loop
 first-from-requires t c κs =
     let loop = c .before .before in
-    let wide = loop .before .before .before .before in
-    let s = wide .before .before .before .before .before .before .before .before in (
+    let again = loop .before .before .before in
+    let wide = again .before .before .before .before in
+    let s = wide .before .before .before .before .before .before .before in (
       omega (arith, s .pre .0),
-      (
-        s .pre .1 .0,
-        (omega arith, points-next (wide .wide .result) _ (c .point .result) _ (c .point .ensures) (wide .wide .ensures .1 .1)),
-      ),
+      (omega arith, points-next (wide .wide .result) _ (c .point .result) _ (c .point .ensures) (points-again t again)),
     )
 
-returns-4 : (t : ℕ) → first-from-lts.Need-returns-4 (claims t) (at-t t) first-from.Post Inv-loop μ-loop
-returns-4 t c =
+returns-5 : (t : ℕ) → first-from-lts.Need-returns-5 (claims t) (at-t t) first-from.Post Inv-loop μ-loop
+returns-5 t c =
     let loop = c .before .before .before .before in
     let width = loop .before in
-    let wide = width .before .before .before in
-    let narrowed = wide .before .before .before .before .before .before .before in
-    let cs = narrowed .narrowed .result .list in
+    let again = width .before .before in
+    let wide = again .before .before .before .before in
+    let cs = again .again .result .list in
     let range = getD cs (wide .wide .result) blankRange in
     first-found _ cs (wide .wide .result) range (width .width .result) (loop .loop .i) (omega arith)
     (c .before .first-from .result) (c .before .before .point .result) (c .before .before .point .ensures) (c .before .first-from .ensures)
-    (loop .loop .inv .3) (c .if4 .taken)
-    ∙ ap solutionOf (sym (first-narrows _ _ _ (narrowed .narrowed .ensures)))
+    (loop .loop .inv .3) (c .if5 .taken)
+    ∙ ap solutionOf (sym (first-narrows _ _ _ (both t again)))
 
 add-i : (t : ℕ) → first-from-lts.Need-add-i (claims t) (at-t t) first-from.Post Inv-loop μ-loop
 add-i t c = search needs
@@ -195,29 +223,29 @@ loop-again : (t : ℕ) → first-from-lts.Need-loop-again (claims t) (at-t t) fi
 loop-again t c =
     let loop = c .before .before .before .before in
     let width = loop .before in
-    let wide = width .before .before .before in
-    let narrowed = wide .before .before .before .before .before .before .before in
-    let cs = narrowed .narrowed .result .list in
+    let again = width .before .before in
+    let wide = again .before .before .before .before in
+    let cs = again .again .result .list in
     let range = getD cs (wide .wide .result) blankRange in (
       omega arith,
       loop .loop .inv .1,
       loop .loop .inv .2,
       first-later _ cs (wide .wide .result) range (width .width .result) (loop .loop .i) (omega arith)
           (c .before .first-from .result) (c .before .before .point .result) (c .before .before .point .ensures)
-          (c .before .first-from .ensures) (loop .loop .inv .3) (c .if4 .left),
+          (c .before .first-from .ensures) (loop .loop .inv .3) (c .if5 .left),
     )
 
-returns-5 : (t : ℕ) → first-from-lts.Need-returns-5 (claims t) (at-t t) first-from.Post Inv-loop μ-loop
-returns-5 t c =
+returns-6 : (t : ℕ) → first-from-lts.Need-returns-6 (claims t) (at-t t) first-from.Post Inv-loop μ-loop
+returns-6 t c =
     let loop = c .before in
     let width = loop .before in
-    let wide = width .before .before .before in
-    let narrowed = wide .before .before .before .before .before .before .before in
-    let cs = narrowed .narrowed .result .list in
+    let again = width .before .before in
+    let wide = again .before .before .before .before in
+    let cs = again .again .result .list in
     let range = getD cs (wide .wide .result) blankRange in
     ap solutionOf
     (first-done (firstAt _ cs (wide .wide .result)) (range .low) (width .width .result) (loop .loop .i) _ (omega arith) (loop .loop .inv .3)
-    ∙ sym (first-narrows _ _ _ (narrowed .narrowed .ensures)))
+    ∙ sym (first-narrows _ _ _ (both t again)))
 
 pub +first-from-spec : {M : Type 1} → statement M
 +first-from-spec =
@@ -232,22 +260,24 @@ pub +first-from-spec : {M : Type 1} → statement M
     (corner-requires t)
     (inside-requires t)
     (returns t)
-    (points-requires t)
-    (can-hold-requires t)
+    (meets-requires t)
     (returns-2 t)
     (wide-requires t)
     (returns-3 t)
+    (opposed-requires t)
+    (returns-4 t)
+    (again-requires t)
     (mul-range t)
     (element-copy-out-range t)
     (width-requires t)
     (loop-holds t)
     (point-requires t)
-    (mul-t28 t)
+    (mul-t32 t)
     (element-set-from-d t)
     (add-first-from t)
     (first-from-requires t)
-    (returns-4 t)
+    (returns-5 t)
     (add-i t)
     (loop-less t)
     (loop-again t)
-    (returns-5 t))
+    (returns-6 t))

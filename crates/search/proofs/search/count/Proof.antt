@@ -20,7 +20,7 @@ returns c =
     (simp length-map at (s .good .0 .1 .1 .0 .1 .0 .1)) (c .before .opposed .ensures (c .if1 .taken))
 
 count-from-requires : tie.Need-count-from-requires
-count-from-requires c κs = (omega (arith, c .before .before .at-most .ensures), (omega arith, tt))
+count-from-requires c κs = (omega arith, tt)
 
 returns-2 : tie.Need-returns-2
 returns-2 c =

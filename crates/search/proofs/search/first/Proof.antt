@@ -1,7 +1,7 @@
--- A pair of inequalities that no valuation meets, or the search of the whole box.
+-- The search of the whole box.
 use native.Mathlib.Omega.{arith}
 use lib.ListN.{length-map}
-use Rattle.search.proofs.Answers.{first-answer, first-never}
+use Rattle.search.proofs.Answers.{first-answer}
 use borrow.Author.Needs.{needs}
 use Rattle.search.proofs.search.first.Statement.{statement}
 use Rattle.search.proofs.search.first.Tie as tie
@@ -9,27 +9,15 @@ use Rattle.search.proofs.search.first.Tie as tie
 at-most-requires : tie.Need-at-most-requires
 at-most-requires c κs = search needs
 
-opposed-requires : tie.Need-opposed-requires
-opposed-requires c κs = search needs
+first-from-requires : tie.Need-first-from-requires
+first-from-requires c κs = (omega arith, tt)
 
 returns : tie.Need-returns
 returns c =
-    let s = c .before .before .before in
-    first-never (s .args .b .list) (s .args .flat .now) (s .args .n) (c .before .before .at-most .result)
-    (c .before .before .at-most .ensures)
-    (simp length-map at (s .good .0 .1 .1 .0 .1 .0 .1)) (c .before .opposed .ensures (c .if1 .taken))
-
-first-from-requires : tie.Need-first-from-requires
-first-from-requires c κs = (omega (arith, c .before .before .at-most .ensures), (omega arith, tt))
-
-returns-2 : tie.Need-returns-2
-returns-2 c =
-    let s = c .before .before .before .before in
-    let m = c .before .before .before .at-most in
+    let s = c .before .before in
+    let m = c .before .at-most in
     first-answer (s .args .b .list) (s .args .flat .now) (s .args .n) (m .result) (m .ensures)
-    (simp length-map at (s .good .0 .1 .1 .0 .1 .0 .1))
-    _ (c .first-from .ensures)
+    (simp length-map at (s .good .0 .1 .1 .0 .1 .0 .1)) _ (c .first-from .ensures)
 
 pub first-spec : {M : Type 1} → statement M
-first-spec =
-    tie.close (tie.spec at-most-requires opposed-requires returns first-from-requires returns-2)
+first-spec = tie.close (tie.spec at-most-requires first-from-requires returns)

@@ -1,53 +1,53 @@
--- A guess that lies inside the ranges and meets the inequalities; or the search.
-use mathlib.Core.Path.{sym, _∙_}
+-- A guess that lies inside the ranges and meets the inequalities; nothing that meets them; or the search.
+use native.Mathlib.Omega.{arith}
 use lib.ListN.{length-map}
-use Rattle.expr.specs.Records.{rangeList}
-use Rattle.search.specs.System.{exprsIn}
-use Rattle.search.specs.Valuations.{first}
-use Rattle.search.proofs.Answers.{guess-meets, found-is}
+use Rattle.search.proofs.Answers.{guess-meets, some-none, some-found}
 use borrow.Author.Needs.{needs}
 use Rattle.search.proofs.search.some_meets.Statement.{statement}
 use Rattle.search.proofs.search.some_meets.Tie as tie
 
-inside-requires : tie.Need-inside-requires
-inside-requires c κs = search needs
-
-points-requires : tie.Need-points-requires
-points-requires c κs = search needs
-
 at-most-requires : tie.Need-at-most-requires
 at-most-requires c κs = search needs
 
-can-hold-requires : tie.Need-can-hold-requires
-can-hold-requires c κs = search needs
+guessed-requires : tie.Need-guessed-requires
+guessed-requires c κs = search needs
 
 returns : tie.Need-returns
 returns c =
-    let points = c .before .before .before in
-    let inside = points .before .before in
-    let s = inside .before in
-    guess-meets (s .args .b .list) (s .args .flat .now) (s .args .n) (c .before .before .at-most .result)
-    (c .before .before .at-most .ensures)
-    (simp length-map at (s .good .0 .1 .1 .0 .1 .0 .1)) (s .args .guess .numbers) _
-    (inside .inside .ensures .0 (points .before .if1 .taken)) (points .points .ensures)
-    (sym (c .before .can-hold .ensures) ∙ c .if2 .taken)
+    let s = c .before .before .before in
+    let m = c .before .before .at-most in
+    let g = c .before .guessed .ensures (c .if1 .taken) in
+    guess-meets (s .args .b .list) (s .args .flat .now) (s .args .n) (m .result) (m .ensures)
+    (simp length-map at (s .good .0 .1 .1 .0 .1 .0 .1)) (s .args .guess .numbers) (g .0) (g .1)
 
-first-requires : tie.Need-first-requires
-first-requires c κs = search needs
+hopeless-requires : tie.Need-hopeless-requires
+hopeless-requires c κs = search needs
 
 returns-2 : tie.Need-returns-2
 returns-2 c =
-    let s = c .before .before .before .args in
-    found-is (first (rangeList (s .b)) (exprsIn (s .flat .now) (s .n))) _ (c .first .ensures)
+    let s = c .before .before .before .before .before in
+    let m = c .before .before .before .before .at-most in
+    some-none (s .args .b .list) (s .args .flat .now) (s .args .n) (m .result) (m .ensures)
+    (simp length-map at (s .good .0 .1 .1 .0 .1 .0 .1)) (c .before .hopeless .ensures (c .if2 .taken))
+
+first-from-requires : tie.Need-first-from-requires
+first-from-requires c κs = (omega arith, tt)
+
+returns-3 : tie.Need-returns-3
+returns-3 c =
+    let s = c .before .before .before .before .before .before in
+    let m = c .before .before .before .before .before .at-most in
+    some-found (s .args .b .list) (s .args .flat .now) (s .args .n) (m .result) (m .ensures)
+    (simp length-map at (s .good .0 .1 .1 .0 .1 .0 .1)) _ (c .first-from .ensures)
 
 pub some-meets-spec : {M : Type 1} → statement M
 some-meets-spec =
     tie.close
     (tie.spec
-    inside-requires
-    points-requires
     at-most-requires
-    can-hold-requires
+    guessed-requires
     returns
-    first-requires
-    returns-2)
+    hopeless-requires
+    returns-2
+    first-from-requires
+    returns-3)

@@ -6,8 +6,8 @@ use Prim.Native.Nat.{_-_}
 use native.Mathlib.Omega.{arith}
 use mathlib.Core.Path.{_∙_}
 use lib.ListN.{replicate}
-use Rattle.split.proofs.Stack.{Turned, Turn, drained, load, cut-sticks, start-turned, ends-turned, refused-turned, room-turned}
-use Rattle.split.proofs.Stack.{splits-turned, splits-less, ends-less, all-turned, start-whole, top-live}
+use Rattle.split.specs.Stack.{Turned, Turn, drained, load, cut-sticks, start-turned, ends-turned, refused-turned, room-turned}
+use Rattle.split.specs.Stack.{splits-turned, splits-less, ends-less, all-turned, start-whole, top-live}
 
 abbrev Inv-loop : tie.InvT-loop
 Inv-loop b r stack₀ now₀ n₀ stack now n = Turned b r stack n now (drained b r stack₀ n₀ now₀)

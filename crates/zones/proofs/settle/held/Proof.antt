@@ -1,21 +1,25 @@
--- 0 ≥ 0 changes nothing.
-use lib.ListN.{take}
-use Rattle.zones.proofs.Steps.{held-is}
+-- The search's count.
+use mathlib.Core.Path.{ap, _∙_}
+use mathlib.Core.List.{List}
+use Prim.Native.Nat.{min}
+use Rattle.expr.specs.Affine.{Affine}
+use Rattle.expr.specs.Records.{rangeList}
+use Rattle.search.specs.Valuations.{count}
 use borrow.Author.Needs.{needs}
 use Rattle.zones.proofs.settle.held.Statement.{statement}
 use Rattle.zones.proofs.settle.held.Tie as tie
 
-system-requires : tie.Need-system-requires
-system-requires c κs = search needs
+flat-of-requires : tie.Need-flat-of-requires
+flat-of-requires c κs = search needs
 
 count-requires : tie.Need-count-requires
 count-requires c κs = search needs
 
 returns : tie.Need-returns
 returns c =
-    let after-system = c .before .before .before .before in
-    let a = after-system .before .args in
-    held-is (a .b) (take (a .zone .count) (a .zone .ineqs)) _ _ (after-system .system .ensures) (c .count .ensures)
+    let asked = c .before .before .before .before in
+    let a = asked .before .args in
+    c .count .ensures ∙ ap (λ (es : List Affine). min (count (rangeList (a .b)) es) 18446744073709551615) (asked .flat-of .ensures .0)
 
 pub held-spec : {M : Type 1} → statement M
-held-spec = tie.close (tie.spec system-requires count-requires returns)
+held-spec = tie.close (tie.spec flat-of-requires count-requires returns)

@@ -1,0 +1,168 @@
+-- The loop's invariant: the part on its way comes to what the first one comes to, and the list has its zone's inequalities.
+use mathlib.Core.Path.{_≡_}
+use native.Mathlib.Omega.{arith}
+use lib.ListN.{length, length-map}
+use Rattle.split.specs.Runs.{left, going-starts, going-ends}
+use Rattle.split.proofs.Turns.{Way, partOf, way-starts, few-at, run-turn, run-less}
+use borrow.Author.Needs.{needs}
+use Rattle.split.proofs.tests.run.Statement.{statement}
+use Rattle.split.proofs.tests.run.Tie as tie
+
+abbrev Inv-loop : tie.InvT-loop
+Inv-loop r zone ready ranges guess flat₀ old bound new₀ test₀ tests₀ phase₀ halt₀ flat new test tests phase halt =
+    Way r zone ranges (ready .count) (partOf zone new₀ test₀ tests₀ phase₀ halt₀) flat (partOf zone new test tests phase halt)
+
+abbrev μ-loop : tie.MeasureT-loop
+μ-loop r zone ready ranges guess flat₀ old bound new₀ test₀ tests₀ phase₀ halt₀ flat new test tests phase halt =
+    left (partOf zone new test tests phase halt)
+
+returns : tie.Need-returns Inv-loop μ-loop
+returns c =
+    let start = c .before .before in
+    let a = start .args in
+    going-ends (a .b) (a .r) (a .p) (a .p) (going-starts (a .b) (a .r) (a .p) (start .pre)) (c .if1 .taken)
+
+begin-requires : tie.Need-begin-requires Inv-loop μ-loop
+begin-requires c κs = search needs
+
+framed-of-requires : tie.Need-framed-of-requires Inv-loop μ-loop
+framed-of-requires c κs = search needs
+
+loop-holds : tie.Need-loop-holds Inv-loop μ-loop
+loop-holds c =
+    let begun = c .before .before .before .before .before .before .before .before in
+    let start = begun .before .before .before .before in
+    let a = start .args in
+    let long : length (a .r .old) ≡ 25 = simp length-map at (start .good .1 .0 .1 .1 .1 .1 .1 .1 .0 .1 .0 .1) in
+    way-starts (a .b) (a .r) _ _ (a .p) _ (start .pre) long (begun .begin .ensures)
+
+places-requires : tie.Need-places-requires Inv-loop μ-loop
+places-requires c κs = search needs
+
+mul-first : tie.Need-mul-first Inv-loop μ-loop
+mul-first c = let placed = c in omega (arith, few-at _ _ _ _ (placed .places .ensures) .first)
+
+element-copy-out-first : tie.Need-element-copy-out-first Inv-loop μ-loop
+element-copy-out-first c = let placed = c in omega (arith, few-at _ _ _ _ (placed .places .ensures) .first)
+
+mul-last : tie.Need-mul-last Inv-loop μ-loop
+mul-last c = let placed = c .before in omega (arith, few-at _ _ _ _ (placed .places .ensures) .last)
+
+element-copy-out-last : tie.Need-element-copy-out-last Inv-loop μ-loop
+element-copy-out-last c = let placed = c .before in omega (arith, few-at _ _ _ _ (placed .places .ensures) .last)
+
+mul-was : tie.Need-mul-was Inv-loop μ-loop
+mul-was c = let placed = c .before .before in omega (arith, few-at _ _ _ _ (placed .places .ensures) .was)
+
+element-copy-out-was : tie.Need-element-copy-out-was Inv-loop μ-loop
+element-copy-out-was c = let placed = c .before .before in omega (arith, few-at _ _ _ _ (placed .places .ensures) .was)
+
+via-requires : tie.Need-via-requires Inv-loop μ-loop
+via-requires c κs = search needs
+
+tighter-requires : tie.Need-tighter-requires Inv-loop μ-loop
+tighter-requires c κs = search needs
+
+slice-aggregate-settled : tie.Need-slice-aggregate-settled Inv-loop μ-loop
+slice-aggregate-settled c = search needs
+
+settled-requires : tie.Need-settled-requires Inv-loop μ-loop
+settled-requires c κs = search needs
+
+mul-kept : tie.Need-mul-kept Inv-loop μ-loop
+mul-kept c = let placed = c .before .before .before .before .before .before .before .before in omega (
+  arith,
+  few-at _ _ _ _
+      (placed .places .ensures) .into,
+)
+
+array-copy-out-kept : tie.Need-array-copy-out-kept Inv-loop μ-loop
+array-copy-out-kept c = let placed = c .before .before .before .before .before .before .before .before in omega (
+  arith,
+  few-at _
+      _ _ _ (placed .places .ensures) .into,
+)
+
+turned-requires : tie.Need-turned-requires Inv-loop μ-loop
+turned-requires c κs = search needs
+
+mul-new : tie.Need-mul-new Inv-loop μ-loop
+mul-new c = let placed = c .before .before .before .before .before .before .before .before .before .before .before in omega
+    (arith, few-at _ _ _ _ (placed .places .ensures) .into)
+
+array-set-from-new : tie.Need-array-set-from-new Inv-loop μ-loop
+array-set-from-new c = let placed = c .before .before .before .before .before .before .before .before .before .before .before in
+    omega (arith, few-at _ _ _ _ (placed .places .ensures) .into)
+
+loop-less : tie.Need-loop-less Inv-loop μ-loop
+loop-less c =
+    let moved = c .before .before in
+    let asked = moved .before .before .before in
+    let compared = asked .before .before in
+    let placed = compared .before .before .before .before .before in
+    let at-loop = placed .before .before in
+    let start = at-loop .before .before .before .before .before .before .before .before .before .before .before .before .before in
+    let framed = at-loop .before .before .before .before in
+    let loop = at-loop .loop in
+    let a = start .args in
+    run-less (a .r) (a .p .zone) _ _ (a .p) (loop .flat)
+    (partOf (a .p .zone) (loop .new) (loop .test) (loop .tests) (loop .phase) (loop .halt)) (loop .inv) (placed .before .loop-test .taken)
+    (placed .places .result) (placed .places .ensures) (framed .framed-of .result .entries) (framed .framed-of .ensures)
+    (compared .before .via .result) (compared .before .via .ensures) (compared .tighter .result) (compared .tighter .ensures)
+    (asked .settled .result) (asked .settled .ensures .0) (moved .turned .result) (moved .turned .ensures)
+
+loop-again : tie.Need-loop-again Inv-loop μ-loop
+loop-again c =
+    let moved = c .before .before in
+    let asked = moved .before .before .before in
+    let compared = asked .before .before in
+    let placed = compared .before .before .before .before .before in
+    let at-loop = placed .before .before in
+    let start = at-loop .before .before .before .before .before .before .before .before .before .before .before .before .before in
+    let framed = at-loop .before .before .before .before in
+    let loop = at-loop .loop in
+    let a = start .args in
+    run-turn (a .r) (a .p .zone) _ _ (a .p) (loop .flat)
+    (partOf (a .p .zone) (loop .new) (loop .test) (loop .tests) (loop .phase) (loop .halt)) (loop .inv) (placed .before .loop-test .taken)
+    (placed .places .result) (placed .places .ensures) (framed .framed-of .result .entries) (framed .framed-of .ensures)
+    (compared .before .via .result) (compared .before .via .ensures) (compared .tighter .result) (compared .tighter .ensures)
+    (asked .settled .result) (asked .settled .ensures .0) (moved .turned .result) (moved .turned .ensures) _ (asked .settled .ensures .1)
+
+returns-2 : tie.Need-returns-2 Inv-loop μ-loop
+returns-2 c =
+    let at-loop = c .before .before in
+    let begun = at-loop .before .before .before .before .before .before .before .before .before in
+    let a = begun .before .before .before .before .args in
+    let loop = at-loop .loop in
+    going-ends (a .b) (a .r) (a .p) (partOf (a .p .zone) (loop .new) (loop .test) (loop .tests) (loop .phase) (loop .halt))
+    (loop .inv .going (a .b) (begun .begin .ensures .narrows)) (c .before .loop-test .left)
+
+pub run-spec : {M : Type 1} → statement M
+run-spec =
+    tie.close
+    (tie.spec
+    Inv-loop
+    μ-loop
+    returns
+    begin-requires
+    framed-of-requires
+    loop-holds
+    places-requires
+    mul-first
+    element-copy-out-first
+    mul-last
+    element-copy-out-last
+    mul-was
+    element-copy-out-was
+    via-requires
+    tighter-requires
+    slice-aggregate-settled
+    settled-requires
+    mul-kept
+    array-copy-out-kept
+    turned-requires
+    mul-new
+    array-set-from-new
+    loop-less
+    loop-again
+    returns-2)

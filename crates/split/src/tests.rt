@@ -1,0 +1,64 @@
+// A part of a zone worked on until it stops: the tests of a guard one after another.
+use constrain::Rule;
+use expr::Ranges;
+use parts::Part;
+use zones::Zone;
+ghost use Rattle.split.specs.Trees.{Live, Ran};
+
+// The part where it stops.
+pub fn run(b: Ranges, r: Rule, p: Part) -> Part
+    requires { ⌜ Live p ⌝ }
+    ensures { λ q. ⌜ Ran b r p q ⌝ }
+{
+    if 0 < p.halt {
+        return p;
+    }
+    let zone = p.zone;
+    let ready = zones::begin(b, zone);
+    let ranges = ready.ranges;
+    let guess = ready.guess;
+    let mut flat = ready.numbers;
+    let matrix = r.old;
+    let old = constrain::framed_of(matrix);
+    let bound = r.bound;
+    let mut new = zone.bounds;
+    let mut test = p.test;
+    let mut tests = p.tests;
+    let mut phase = p.phase;
+    let mut halt = p.halt;
+    while halt < 1 {
+        let at = constrain::places(r.left, r.right, phase);
+        let f = at.first;
+        let first = old.entries[f];
+        let l = at.last;
+        let last = old.entries[l];
+        let w = at.was;
+        let was = old.entries[w];
+        let via = constrain::via(r.clocks, phase, bound, first, last);
+        let t = via.tighter(was);
+        let kind = zones::settled(ranges, guess, &mut flat, ready.count, t);
+        let x = at.into;
+        let kept = new[x];
+        let next = parts::turned(phase, tests, test, kept, t, via, kind);
+        let entry = next.entry;
+        new[x] = entry;
+        let question = next.test;
+        test = question;
+        tests = next.tests;
+        phase = next.phase;
+        halt = next.halt;
+    }
+    let ineqs = zone.ineqs;
+    let left = Zone {
+        count: zone.count,
+        ineqs,
+        bounds: new,
+    };
+    Part {
+        phase,
+        halt,
+        tests,
+        test,
+        zone: left,
+    }
+}

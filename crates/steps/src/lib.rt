@@ -1,0 +1,9 @@
+// Steps along a route: waits, guards (paper: limits) and resets, in lists; and what a step makes of one zone (paper: piece)
+// before its tests.
+mod step;
+
+pub use step::Step;
+pub use step::Steps;
+pub use step::part_of;
+pub use step::with_guards;
+pub use step::with_step;

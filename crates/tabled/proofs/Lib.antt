@@ -1,2 +1,0 @@
--- What the walk of `cut_places` cites.
-mod Places
