@@ -165,6 +165,33 @@ Polyhedron projection(const Sheet &sheet) {
     return states;
 }
 
+// The same as one would write it first: not necessarily closed polyhedra throughout, the library's own time elapse, a reset
+// as an affine image, and all moves to the end.
+NNC_Polyhedron plain_projection(const Sheet &sheet) {
+    NNC_Polyhedron flow(sheet.parameters + sheet.clocks, UNIVERSE);
+    for (int k = 0; k < sheet.parameters; k++) flow.add_constraint(Variable(k) == 0);
+    for (int i = 1; i <= sheet.clocks; i++) flow.add_constraint(sheet.clock(i) == 1);
+    NNC_Polyhedron states(sheet.parameters + sheet.clocks, UNIVERSE);
+    states.add_constraints(sheet.start);
+    const Place *here = &sheet.locations[0];
+    states.add_constraints(here->constraints);
+    for (int number : sheet.route) {
+        const Transition &transition = sheet.transitions[number];
+        states.time_elapse_assign(flow);
+        states.add_constraints(here->constraints);
+        states.add_constraints(transition.place.constraints);
+        for (int i = 1; i <= sheet.clocks; i++) {
+            if (transition.resets >> (i - 1) & 1) states.affine_image(sheet.clock(i), Linear_Expression(0));
+        }
+        here = &sheet.locations[transition.to];
+        states.add_constraints(here->constraints);
+    }
+    states.time_elapse_assign(flow);
+    states.add_constraints(here->constraints);
+    states.remove_higher_space_dimensions(sheet.parameters);
+    return states;
+}
+
 // 1 if a valuation lies in the projection, else 0.
 template <class Polyhedron>
 int holds(const Polyhedron &projection, const int64_t *valuation) {
@@ -186,6 +213,9 @@ extern "C" int ppl_route(const uint8_t *file) {
     Sheet sheet(file);
     return sheet.strict ? !projection<NNC_Polyhedron>(sheet).is_empty() : !projection<C_Polyhedron>(sheet).is_empty();
 }
+
+// The same by the plain projection.
+extern "C" int ppl_plain(const uint8_t *file) { return !plain_projection(Sheet(file)).is_empty(); }
 
 // Writes for each of some valuations, four numbers each, whether the projection of a sheet holds it: 1 or 0.
 extern "C" void ppl_holds(const uint8_t *file, const int64_t *valuations, size_t count, uint8_t *answers) {

@@ -20,9 +20,10 @@ const LEAST: f64 = 2.0;
 type Route = unsafe extern "C" fn(*const u8) -> c_int;
 type Holds = unsafe extern "C" fn(*const u8, *const i64, usize, *mut u8);
 
-// The two functions of the peer.
+// The functions of the peer.
 struct Peer {
     route: Route,
+    plain: Route,
     holds: Holds,
 }
 
@@ -33,6 +34,7 @@ impl Peer {
         unsafe {
             Peer {
                 route: std::mem::transmute::<*mut c_void, Route>(function(path, "ppl_route")),
+                plain: std::mem::transmute::<*mut c_void, Route>(function(path, "ppl_plain")),
                 holds: std::mem::transmute::<*mut c_void, Holds>(function(path, "ppl_holds")),
             }
         }
@@ -42,6 +44,12 @@ impl Peer {
     fn route(&self, file: &[u8]) -> i64 {
         // The function reads the file, which is a readable sheet.
         unsafe { (self.route)(black_box(file).as_ptr()) as i64 }
+    }
+
+    // The same, as a plain program of the library works it out.
+    fn plain(&self, file: &[u8]) -> i64 {
+        // As above.
+        unsafe { (self.plain)(black_box(file).as_ptr()) as i64 }
     }
 
     // Whether the projection holds each of the valuations.
@@ -170,6 +178,30 @@ fn print_clocks(families: &[Family], all: &[Times]) {
     }
 }
 
+// How much longer a plain program of the library takes, and what that makes of the ratios. Ends the run where its answer differs.
+fn print_plain(peer: &Peer, families: &[Family], all: &[Times], passes: usize) {
+    let (mut longer, mut ratios) = (Vec::new(), Vec::new());
+    for (f, t) in families.iter().zip(all) {
+        for (k, drawn) in f.sheets.iter().enumerate() {
+            if peer.plain(&drawn.file) != peer.route(&drawn.file) {
+                println!("the plain program of PPL answers otherwise on {:?}", drawn.file);
+                std::process::exit(1);
+            }
+            let plain = (0..passes).map(|_| time(1, || peer.plain(&drawn.file))).fold(f64::INFINITY, f64::min);
+            longer.push(plain / t.ppl[k]);
+            ratios.push(plain / t.windows[k]);
+        }
+    }
+    println!(
+        "\nA plain program of PPL (closed or not, time elapse, affine images) takes {:.2} times as long in the median, {:.2} at least; \
+         that is {:.2} times Windows' time in the median, {:.2} at least.",
+        median(&longer),
+        least(&longer),
+        median(&ratios),
+        least(&ratios)
+    );
+}
+
 // Whether a number reaches a goal, in words.
 fn verdict(number: f64, goal: f64) -> &'static str {
     if number >= goal { "holds" } else { "DOES NOT HOLD" }
@@ -210,5 +242,6 @@ pub fn run(path: Option<&str>, quick: bool) {
     refused.iter().zip(&outside).for_each(|(f, t)| table.push(row(f, t)));
     table.print();
     judge(&listed, &times);
+    print_plain(&peer, &listed, &times, passes.min(5));
     println!("PPL's projection and Sweep agree at {valuations} valuations of these sheets.");
 }

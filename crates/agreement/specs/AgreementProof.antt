@@ -17,7 +17,7 @@ use Rattle.soundness.specs.TheoremsProof.{matrices-agree, zones-tightest, held-
 use Rattle.sweep.specs.Proofs.{reply-entry, sweep-right}
 use Rattle.sweep.specs.Theorems.{sheetOf}
 use Rattle.timed.specs.Runs.{Tightest}
-use Rattle.windows.specs.declared.table.Piece.{Piece}
+use Rattle.pieces.specs.declared.Piece.{Piece}
 use Rattle.agreement.specs.Behind.{Behind, lists-behind, six-outside, noZone, member, place-of, pieces-are, piece-is, zone-holds}
 use Rattle.agreement.specs.Behind.{piece-holds}
 use Rattle.agreement.specs.Words.{pieces, pieceAt, PieceHolds, entryWith}

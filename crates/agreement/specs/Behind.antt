@@ -26,9 +26,9 @@ use Rattle.sweep.specs.ReplyLaws.{outside-none}
 use Rattle.sweep.specs.Theorems.{sheetOf}
 use Rattle.windows_reply.specs.Reply as windows
 use Rattle.windows_reply.specs.Reply.{WindowsReply, refusedReply, listingReply}
-use Rattle.windows.specs.Pieces.{pieceOf, blankPiece, tableOf}
-use Rattle.windows.specs.Table.{in-list, past-list}
-use Rattle.windows.specs.declared.table.Piece.{Piece}
+use Rattle.pieces.specs.Pieces.{pieceOf, blankPiece, tableOf}
+use Rattle.pieces.specs.Table.{in-list, past-list}
+use Rattle.pieces.specs.declared.Piece.{Piece}
 use Rattle.agreement.specs.Words.{windowsOf, Lists, listedReply, pieces, table, pieceAt, InRange, PieceHolds}
 
 pub record Behind (file : List ℕ) (n : ℕ) (zs : List cutting.Zone) : Type 0 where

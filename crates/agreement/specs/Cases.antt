@@ -9,10 +9,10 @@ use Prim.Native.Nat.{ℕ}
 use lib.IntN.{ℤ, pos, _+ℤ_, _*ℤ_}
 use lib.ListN.{length, take}
 use lib.Signed.{_≤ℤ_}
-use Rattle.narrowing.specs.Interval.{interval}
+use Rattle.intervals.specs.Interval.{interval}
 use Rattle.expr.specs.Ranges.{In}
 use Rattle.expr.specs.Records.{affine, rangeList, point, valuationOf}
-use Rattle.search.specs.Valuations.{count}
+use Rattle.valuations.specs.Valuations.{count}
 use Rattle.expr.specs.declared.bound.Bound.{Bound}
 use Rattle.expr.specs.declared.number.Expr.{Expr}
 use Rattle.expr.specs.declared.number.Valuation.{Valuation}
@@ -27,7 +27,7 @@ use Rattle.answers.specs.Numbers.{numbered}
 use Rattle.answers.specs.declared.windows.Counts.{Counts}
 use Rattle.windows_reply.specs.Reply.{answeredOf}
 use Rattle.constrain.specs.Rules.{entryC}
-use Rattle.windows.specs.declared.table.Piece.{Piece}
+use Rattle.pieces.specs.declared.Piece.{Piece}
 
 -- ---- a row
 -- a piece: how many valuations (paper: settings) it holds, the first of them, and its inequalities, each an expression that is at least 0

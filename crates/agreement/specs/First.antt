@@ -6,7 +6,7 @@ use Prim.Native.Nat.{ℕ, _≤_, _<_}
 use lib.IntN.{ℤ, pos}
 use lib.ListN.{getD}
 use Rattle.expr.specs.Records.{point}
-use Rattle.search.specs.First.{Earlier}
+use Rattle.valuations.specs.First.{Earlier}
 use Rattle.sweep.specs.Theorems.{sheetOf}
 use Rattle.agreement.specs.Words.{Lists, pieces, pieceAt, InRange, PieceHolds}
 

@@ -22,13 +22,13 @@ use Rattle.expr.specs.RecordLaws.{places-same}
 use Rattle.expr.specs.declared.range.Range.{Range}
 use Rattle.reading.specs.Accepted.{read-well-formed}
 use Rattle.reading.specs.File.{Fine, readOf}
-use Rattle.search.specs.First.{Earlier}
+use Rattle.valuations.specs.First.{Earlier}
 use Rattle.sheet.specs.WellFormed.{WellFormed}
 use Rattle.sheet.specs.declared.Sheet.{Sheet}
 use Rattle.timed.specs.Right.{lowest, lowest-inside}
 use Rattle.sweep.specs.Proofs.{sweep-right}
 use Rattle.sweep.specs.Theorems.{sheetOf}
-use Rattle.windows.specs.declared.table.Piece.{Piece}
+use Rattle.pieces.specs.declared.Piece.{Piece}
 use Rattle.agreement.specs.Behind.{Behind, lists-behind, six-outside, noZone, member, pieces-are, piece-is, zone-holds, piece-holds}
 use Rattle.agreement.specs.KeptProof.{answered-inside}
 use Rattle.agreement.specs.Words.{pieces, pieceAt, InRange, PieceHolds}

@@ -8,7 +8,7 @@ use lib.IntN.{ℤ}
 use Rattle.answers.specs.declared.windows.Counts.{Counts}
 use Rattle.cutting.specs.Kept.{Counted}
 use Rattle.expr.specs.Records.{rangeList}
-use Rattle.search.specs.Valuations.{widths, valuations}
+use Rattle.valuations.specs.Valuations.{widths, valuations}
 use Rattle.sweep.specs.Theorems.{sheetOf}
 use Rattle.timed.specs.Runs.{Run}
 use Rattle.agreement.specs.Words.{windowsOf, Lists, InRange}

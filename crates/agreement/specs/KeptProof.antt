@@ -5,8 +5,8 @@ use Prim.Native.Nat.{ℕ}
 use native.Mathlib.Omega.{arith}
 use lib.IntN.{ℤ}
 use Rattle.expr.specs.Records.{rangeList}
-use Rattle.search.specs.Once.{valuations-once}
-use Rattle.search.specs.SearchLaws.{valuations-inside, valuations-all}
+use Rattle.valuations.specs.Once.{valuations-once}
+use Rattle.valuations.specs.SearchLaws.{valuations-inside, valuations-all}
 use Rattle.reading.specs.File.{Fine, readOf}
 use Rattle.reading.specs.Accepted.{read-well-formed}
 use Rattle.soundness.specs.CountsProof.{kept-counts-runs, cut-counts-the-rest, kept-and-cut}

@@ -26,7 +26,7 @@ use Rattle.sweep.specs.Theorems.{sheetOf}
 use Rattle.timed.specs.Automaton.{routeOf}
 use Rattle.timed.specs.Right.{route-short}
 use Rattle.timed.specs.Steps.{stepsOf}
-use Rattle.windows.specs.declared.table.Piece.{Piece}
+use Rattle.pieces.specs.declared.Piece.{Piece}
 use Rattle.agreement.specs.Behind.{Behind, lists-behind, noZone, member, pieces-are, piece-is}
 use Rattle.agreement.specs.Small.{PiecesSmall}
 use Rattle.agreement.specs.Words.{pieces, pieceAt}

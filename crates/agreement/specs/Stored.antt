@@ -11,7 +11,7 @@ use Rattle.cutting.specs.Cutting as cutting
 use Rattle.dbm.specs.Matrix.{Outside}
 use Rattle.expr.specs.Records.{zeroBound, zeroExpr}
 use Rattle.sweep.specs.Theorems.{sheetOf}
-use Rattle.windows.specs.Pieces.{pieceOf, blankPiece}
+use Rattle.pieces.specs.Pieces.{pieceOf, blankPiece}
 use Rattle.agreement.specs.Words.{Lists, pieces, table, pieceAt}
 
 pub record Filled (file : List ℕ) (n : ℕ) : Type 0 where

@@ -23,9 +23,9 @@ use Rattle.sheet.specs.declared.Sheet.{Sheet}
 use Rattle.sweep.specs.Theorems.{sheetOf}
 use Rattle.windows_reply.specs.Reply as windows
 use Rattle.windows_reply.specs.Reply.{WindowsReply, refusedReply, listingReply}
-use Rattle.windows.specs.Pieces.{pieceOf, blankPiece, tableOf}
-use Rattle.windows.specs.Table.{past-list, table-length}
-use Rattle.windows.specs.declared.table.Piece.{Piece}
+use Rattle.pieces.specs.Pieces.{pieceOf, blankPiece, tableOf}
+use Rattle.pieces.specs.Table.{past-list, table-length}
+use Rattle.pieces.specs.declared.Piece.{Piece}
 use Rattle.agreement.specs.Behind.{Behind, lists-behind, noZone, member, pieces-are, few-pieces, table-is, piece-is, past-pieces}
 use Rattle.agreement.specs.Words.{windowsOf, Lists, pieces, table, pieceAt}
 use Rattle.agreement.specs.Stored.{TableFilled, RefusedBlank}

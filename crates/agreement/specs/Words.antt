@@ -12,12 +12,12 @@ use Rattle.cutting.specs.Kept.{keptOf, cutOf}
 use Rattle.weight.specs.Upper.{Upper}
 use Rattle.expr.specs.Bounds.{atV}
 use Rattle.expr.specs.Records.{affine, boundAs, rangeList}
-use Rattle.search.specs.Valuations.{satisfies}
+use Rattle.valuations.specs.Valuations.{satisfies}
 use Rattle.sheet.specs.declared.Sheet.{Sheet}
 use Rattle.sweep.specs.Theorems.{numberAt}
 use Rattle.windows_reply.specs.Reply.{WindowsReply, replyOf}
-use Rattle.windows.specs.Pieces.{tableOf, blankPiece}
-use Rattle.windows.specs.declared.table.Piece.{Piece}
+use Rattle.pieces.specs.Pieces.{tableOf, blankPiece}
+use Rattle.pieces.specs.declared.Piece.{Piece}
 
 -- what Windows replies to a file, with a table of n places
 abbrev pub windowsOf : List ℕ → ℕ → WindowsReply

@@ -13,12 +13,12 @@ use Rattle.cutting.specs.Cutting.{startB, tested, putEntry, rowFrom, rowsFrom, 
 use Rattle.cutting.specs.Cutting.{worked, guardZones, onBounds, stepZones, cutSteps, zonesAlong, zonesOf}
 use Rattle.dbm.specs.Matrix.{start, delayed, resetM, resetsM, limitedM, guarded}
 use Rattle.expr.specs.Affine.{dot, value, plusL, minusL, plus, minus, lessOne, opposite}
-use Rattle.narrowing.specs.Interval.{interval}
+use Rattle.intervals.specs.Interval.{interval}
 use Rattle.expr.specs.Ranges.{In}
-use Rattle.narrowing.specs.IntervalLaws.{interval-exact}
+use Rattle.intervals.specs.IntervalLaws.{interval-exact}
 use Rattle.weight.specs.Upper.{Upper, none, upper, sumW, tighterW}
 use Rattle.expr.specs.Bounds.{atV, sumB, tighterB}
-use Rattle.search.specs.Valuations.{widths, span, width, before, valuations, satisfies, firstIn, countIn, first, count}
+use Rattle.valuations.specs.Valuations.{widths, span, width, before, valuations, satisfies, firstIn, countIn, first, count}
 use Rattle.expr.specs.Records.{point}
 use Rattle.expr.specs.declared.number.Valuation.{Valuation}
 use Rattle.expr.specs.declared.range.Range.{Range}
@@ -51,7 +51,7 @@ use Rattle.timed.specs.Automaton.{invariants, guardsOf, routeOf}
 use Rattle.timed.specs.Runs.{Run, Tightest}
 use Rattle.timed.specs.Steps.{arrivalSteps, staySteps, moveSteps, stepsFrom, stepsOf}
 use Rattle.windows_reply.specs.Reply.{Answered, answeredOf, listingReply}
-use Rattle.windows.specs.Pieces.{tableOf}
+use Rattle.pieces.specs.Pieces.{tableOf}
 use Rattle.windows_reply.specs.Reply as windows
 use Rattle.agreement.specs.Behind.{lists-behind, six-outside}
 use Rattle.agreement.specs.KeptProof.{answered-inside}

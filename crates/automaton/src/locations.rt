@@ -6,7 +6,7 @@ use super::Location;
 use cursor::Cursor;
 use cursor::byte_field;
 use cursor::finished;
-use guards::guards_at;
+use guard_lists::guards_at;
 
 // Body 2: where reading stands after it, how many clocks and locations, and the locations.
 pub struct LocationsAt {

@@ -15,7 +15,7 @@ use cursor::below_field;
 use cursor::byte_field;
 use cursor::finished;
 use cursor::judged;
-use guards::guards_at;
+use guard_lists::guards_at;
 
 // A transition, and where reading stands after it.
 pub struct TransitionAt {

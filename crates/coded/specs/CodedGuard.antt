@@ -17,7 +17,7 @@ use Rattle.cutting.specs.CeilingProof.{zones-more, zones-length, counting-witho
 use Rattle.cutting.specs.NumberedProof.{some-number}
 use Rattle.expr.specs.Affine.{Affine, opposite}
 use Rattle.expr.specs.Records.{affine, exprOf, boundAs, rangeList, zeroExpr}
-use Rattle.search.specs.Valuations.{first}
+use Rattle.valuations.specs.Valuations.{first}
 use Rattle.expr.specs.declared.number.Expr.{Expr}
 use Rattle.expr.specs.declared.range.Ranges.{Ranges}
 use Rattle.guards.specs.declared.Guard.{Guard}

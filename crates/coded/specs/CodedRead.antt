@@ -11,7 +11,7 @@ use Rattle.cutting.specs.Held.{holds, at}
 use Rattle.expr.specs.Bounds.{atV}
 use Rattle.expr.specs.Ranges.{Inside}
 use Rattle.expr.specs.Records.{affine, exprOf, boundAs, rangeList, zeroExpr}
-use Rattle.search.specs.Valuations.{satisfies, first, count}
+use Rattle.valuations.specs.Valuations.{satisfies, first, count}
 use Rattle.expr.specs.declared.bound.Bound.{Bound}
 use Rattle.expr.specs.declared.number.Expr.{Expr}
 use Rattle.expr.specs.declared.range.Ranges.{Ranges}

@@ -11,14 +11,15 @@ use lib.IntN.{ℤ, pos, negsuc, negℤ, _+ℤ_, _-ℤ_, _*ℤ_, zero-*ℤ, +ℤ-
 use lib.ListN.{length, getD}
 use Rattle.cutting.specs.Cutting.{never}
 use Rattle.expr.specs.Bounds.{atV, sumB, ask, slackE, tighterB, saturatedB}
-use Rattle.expr.specs.Affine.{Affine, dot, value, plusL, minusL, plus, minus, lessOne, opposite, LARGEST, saturatedE}
+use Rattle.saturating.specs.Largest.{LARGEST}
+use Rattle.expr.specs.Affine.{Affine, dot, value, plusL, minusL, plus, minus, lessOne, opposite, saturatedE}
 use Rattle.weight.specs.Upper.{Upper, none, upper, saturate}
 use Rattle.weight.specs.Laws.{saturate-small}
 use Rattle.expr.specs.Ranges.{Inside}
-use Rattle.search.specs.SearchLaws.{valuations-inside, first-same, count-same}
+use Rattle.valuations.specs.SearchLaws.{valuations-inside, first-same, count-same}
 use Rattle.expr.specs.Records.{PARAMETERS, placesFrom, four, affine, exprOf, boundAs, boundOf, test, rangeList}
 use Rattle.expr.specs.RecordLaws.{places-behind}
-use Rattle.search.specs.Valuations.{valuations, satisfies, first, count}
+use Rattle.valuations.specs.Valuations.{valuations, satisfies, first, count}
 use Rattle.expr.specs.declared.bound.Bound.{Bound}
 use Rattle.expr.specs.declared.range.Range.{Range}
 use Rattle.expr.specs.declared.range.Ranges.{Ranges}

@@ -10,7 +10,7 @@ use lib.ListN.{length, getD, set, replicate, length-set, length-append, List·ge
 use lib.Seq.{getD-set-same, getD-set-other, getD-at, ext-getD}
 use Rattle.expr.specs.declared.bound.Bound.{Bound}
 use Rattle.expr.specs.Records.{noBound, noneBound, zeroBound}
-use Rattle.constrain.specs.Rules.{sumC, placeC, placesAt, framedC, insideC, viaAt}
+use Rattle.constrain.specs.Rules.{sumC, placeC, placesAt, framedC, insideC, viaAt, outsideC}
 use Rattle.constrain.specs.declared.rule.Reads.{Reads}
 
 pub inside-in : (x : ℕ) (b : Bound) → x < 25 → b ≡ insideC x b
@@ -130,3 +130,28 @@ framing-all old all i f h =
         let end : x ≡ 25 = omega arith in
         let here : length old ≡ x = omega (arith, f .old-long) in
         ap (λ (i : ℕ). getD all i noBound) end ∙ f .behind ∙ sym (getD-at old zeroBound [] noBound x here)
+
+module _ (w : ℕ) where
+  pub outside-not : (k : ℕ) → k < 2 → false ≡ outsideC w k
+  unfolding outsideC
+  outside-not zero h = refl
+  outside-not (suc zero) h = refl
+  outside-not (suc (suc k)) h = absurd (omega arith)
+
+  row-past : (x : ℕ) → w < x / 5 → true ≡ outsideC w (suc (suc x))
+  unfolding outsideC
+  row-past x g = rw (lt-ltb w (x / 5) g) refl
+
+  row-in : (x : ℕ) → x / 5 ≤ w → ltb w (x % 5) ≡ outsideC w (suc (suc x))
+  unfolding outsideC
+  row-in x g = rw (le-ltb w (x / 5) g) refl
+
+  module _ (k : ℕ) (h : 2 ≤ k) where
+    back-out : outsideC w (suc (suc (k - 2))) ≡ outsideC w k
+    back-out = ap (outsideC w) (omega arith)
+
+    pub outside-row : w < (k - 2) / 5 → true ≡ outsideC w k
+    outside-row g = row-past (k - 2) g ∙ back-out
+
+    pub outside-column : (k - 2) / 5 ≤ w → ltb w ((k - 2) % 5) ≡ outsideC w k
+    outside-column g = row-in (k - 2) g ∙ back-out

@@ -1,6 +1,6 @@
 -- What a guard asks of a matrix, test by test, on the code's records.
 use mathlib.Core.List.{List, [], _∷_, _++_}
-use mathlib.Core.Bool.{cond}
+use mathlib.Core.Bool.{Bool, true, false, cond}
 use Prim.Native.Nat.{ℕ, zero, suc, _+_, _*_, _/_, _%_, min}
 use lib.Dec.{ltb}
 use lib.ListN.{getD}
@@ -70,3 +70,9 @@ viaAt clocks zero bound first last = sumC bound first
 viaAt clocks (suc zero) bound first last = bound
 viaAt clocks (suc (suc x)) bound first last =
     cond (ltb clocks (x / 5)) noneBound (cond (ltb clocks (x % 5)) noneBound (sumC (sumC first bound) last))
+
+-- the phase of an entry past the clocks
+unfoldable pub outsideC : ℕ → ℕ → Bool
+outsideC clocks zero = false
+outsideC clocks (suc zero) = false
+outsideC clocks (suc (suc x)) = cond (ltb clocks (x / 5)) true (ltb clocks (x % 5))

@@ -6,5 +6,6 @@ pub use rule::Reads;
 pub use rule::Rule;
 pub use rule::framed_of;
 pub use rule::inside;
+pub use rule::outside;
 pub use rule::places;
 pub use rule::via;

@@ -4,7 +4,7 @@
 use expr::Bound;
 ghost use mathlib.Core.Path.{_≡_};
 ghost use Prim.Native.Nat.{_+_, _*_, min};
-ghost use Rattle.constrain.specs.Rules.{placesAt, framedC, insideC, viaAt};
+ghost use Rattle.constrain.specs.Rules.{placesAt, framedC, insideC, viaAt, outsideC};
 
 // A guard left - right with a bound, for a sheet's clocks, and the matrix that it finds.
 pub struct Rule {
@@ -107,4 +107,18 @@ pub fn via(clocks: usize, phase: usize, bound: Bound, first: Bound, last: Bound)
         return Bound::NONE;
     }
     first.sum(bound).sum(last)
+}
+
+// Whether a phase is that of an entry past the clocks, which asks nothing.
+pub fn outside(clocks: usize, phase: usize) -> bool
+    ensures { λ r. ⌜ r ≡ outsideC clocks phase ⌝ }
+{
+    if phase < 2 {
+        return false;
+    }
+    let entry = phase - 2;
+    if clocks < entry / 5 {
+        return true;
+    }
+    clocks < entry % 5
 }

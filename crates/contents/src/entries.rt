@@ -4,8 +4,8 @@ ghost use Rattle.contents.specs.Contents.{sized, entryField, mostParamet
 use super::Contents;
 use cursor::Cursor;
 use cursor::byte_field;
-use cursor::word_field;
 use numbers::less;
+use words::word_field;
 
 // Whether the file has 22 to 4,096 bytes.
 pub fn sized(file: &[u8]) -> bool

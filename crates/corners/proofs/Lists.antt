@@ -1,19 +1,21 @@
 -- Lists that a loop fills place by place, and other laws of places.
 use mathlib.Core.Path.{_≡_, refl, sym, _∙_}
-use mathlib.Core.Bool.{Bool, true, false}
+use mathlib.Core.Bool.{Bool, true, false, cond}
 use mathlib.Core.List.{List, [], _∷_, map}
-use Prim.Native.Nat.{ℕ, zero, suc, _+_, _≤_, _<_}
+use Prim.Native.Nat.{ℕ, zero, suc, _+_, _-_, _≤_, _<_}
+use native.Mathlib.Numerals.{add-one}
 use native.Mathlib.Omega.{arith}
 use lib.Dec.{ltb}
-use lib.IntN.{ℤ, pos, _+ℤ_}
+use lib.IntN.{ℤ, pos}
 use lib.ListN.{length, getD, set, length-set, length-map}
 use lib.Seq.{getD-set-same, getD-set-other, ext-getD}
-use lib.Signed.{leZ, ltZ, _≤ℤ_, _<ℤ_, clashℤ}
+use lib.Signed.{leZ, ltZ, clashℤ}
 use borrow.Author.Tests.{ltb-true, ltb-false}
-use Rattle.integer.specs.Order.{ltZ-true, ltZ-false, ≤ℤ-antisym}
+use Rattle.integer.specs.Order.{ltZ-true, ltZ-false}
 use Rattle.expr.specs.Ranges.{In, Inside}
-use Rattle.expr.specs.Records.{blankRange}
+use Rattle.expr.specs.Records.{PARAMETERS, blankRange}
 use Rattle.expr.specs.declared.range.Range.{Range}
+use Rattle.corners.specs.Boxes.{wideFrom}
 
 -- a test at locals that hold its numbers
 pub tested : (a b x y : ℤ) (t : Bool) → a ≡ x → b ≡ y → leZ a b ≡ t → leZ x y ≡ t
@@ -31,7 +33,8 @@ module _ {A B : Type 0} (f : A → B) (d : A) (e : B) (l : List A) where
   pub built-start : (m : List B) → length m ≡ length l → Built f d e l 0 m
   built-start m h = record { long = h; same = λ j g. absurd (omega arith) }
 
-  pub built-turn : (i : ℕ) (m : List B) (x : B) → Built f d e l i m → i < length l → x ≡ f (getD l i d) → Built f d e l (i + 1) (set m i x)
+  pub built-turn : (i : ℕ) (m : List B) (x : B) → Built f d e l i m → i < length l → x ≡ f (getD l i d) → Built f d e l (i + 1) (set
+      m i x)
   built-turn i m x b h q = record { long = simp length-set (b .long); same = λ j g. by j (ltb j i) refl g }
     where
       by : (j : ℕ) (t : Bool) → ltb j i ≡ t → j < i + 1 → getD (set m i x) j e ≡ f (getD l j d)
@@ -85,5 +88,24 @@ in-more v rs i h k j g = by (ltb j i) refl
         let q : j ≡ i = omega (arith, ltb-false) in
         rw q k
 
-pub not-wide : (r : Range) (a b : ℤ) → a ≡ r .low → b ≡ r .high → ltZ a b ≡ false → r .high ≤ℤ r .low
-not-wide r a b e f h = ltZ-false (rw (e, f) at h)
+-- ---- the first range of several numbers: those from place i on, at locals that hold the ends of the range there
+module _ (rs : List Range) (i w : ℕ) (a b : ℤ) (h : i < PARAMETERS) (ea : a ≡ getD rs i blankRange .low) (eb : b ≡ getD rs i
+    blankRange .high)
+  where
+    turn : wideFrom rs i (PARAMETERS - i) ≡ cond (ltZ a b) i (wideFrom rs (i + 1) (PARAMETERS - (i + 1)))
+    unfolding wideFrom
+    turn =
+        let one : PARAMETERS - i ≡ suc (PARAMETERS - (i + 1)) = omega arith in
+        rw (one, ea, eb, add-one i) refl
+
+    pub wide-here : ltZ a b ≡ true → wideFrom rs i (PARAMETERS - i) ≡ w → i ≡ w
+    wide-here q k = sym (turn ∙ rw q refl) ∙ k
+
+    pub wide-next : ltZ a b ≡ false → wideFrom rs i (PARAMETERS - i) ≡ w → wideFrom rs (i + 1) (PARAMETERS - (i + 1)) ≡ w
+    wide-next q k = sym (turn ∙ rw q refl) ∙ k
+
+pub wide-none : (rs : List Range) (i w : ℕ) → PARAMETERS ≤ i → wideFrom rs i (PARAMETERS - i) ≡ w → i ≡ w
+unfolding wideFrom
+wide-none rs i w h k =
+    let none : PARAMETERS - i ≡ 0 = omega arith in
+    sym (rw none refl) ∙ k

@@ -1,59 +1,81 @@
--- The laws of `Boxes` that the code's loops use.
-use mathlib.Core.Path.{_≡_, refl, subst}
-use mathlib.Core.Bool.{Bool, true, false}
+-- The laws of `Boxes`: what stands before the first range of several numbers has one at most.
+use mathlib.Core.Path.{_≡_, refl}
+use mathlib.Core.Bool.{Bool, true, false, cond}
 use mathlib.Core.List.{List, [], _∷_}
-use Prim.Native.Nat.{ℕ, zero, suc, _+_, _≤_, _<_}
+use Prim.Native.Nat.{ℕ, zero, suc, _+_, _-_, _≤_, _<_}
 use native.Mathlib.Omega.{arith}
-use lib.IntN.{pos}
-use borrow.Author.Tests.{ltb-true, ltb-false}
 use lib.Dec.{ltb}
+use lib.IntN.{pos}
 use lib.ListN.{length, getD}
-use lib.Signed.{_≤ℤ_, ≤ℤ-refl}
+use lib.Signed.{ltZ, _≤ℤ_, ≤ℤ-refl}
+use borrow.Author.Tests.{ltb-true, ltb-false}
+use Rattle.integer.specs.Order.{ltZ-false}
 use Rattle.expr.specs.Records.{blankRange}
 use Rattle.expr.specs.declared.range.Range.{Range}
-use Rattle.corners.specs.Boxes.{Points, Alone}
+use Rattle.corners.specs.Boxes.{Points, Two, wideFrom}
 
--- one more range has one number at most
-pub points-more : (k : ℕ) (rs : List Range) → Points k rs → getD rs k blankRange .high ≤ℤ getD rs k blankRange .low → Points (suc k) rs
-points-more zero [] p h = tt
-points-more zero (r ∷ rs) p h = (h, tt)
-points-more (suc k) [] p h = tt
-points-more (suc k) (r ∷ rs) p h = (p .0, points-more k rs (p .1) h)
-
--- so have fewer of them
-pub points-fewer : (m k : ℕ) (rs : List Range) → m ≤ k → Points k rs → Points m rs
-points-fewer zero k rs h p = tt
-points-fewer (suc m) zero rs h p = absurd (omega arith)
-points-fewer (suc m) (suc k) [] h p = tt
-points-fewer (suc m) (suc k) (r ∷ rs) h p = (p .0, points-fewer m k rs (omega arith) (p .1))
-
--- ---- no range but one has several numbers
-points-at : (k : ℕ) (rs : List Range) (j : ℕ) → Points k rs → j < k → getD rs j blankRange .high ≤ℤ getD rs j blankRange .low
+-- ---- ranges of one number at most, place by place
+pub points-at : (k : ℕ) (rs : List Range) (j : ℕ) → Points k rs → j < k → getD rs j blankRange .high ≤ℤ getD rs j blankRange .low
 points-at zero rs j p h = absurd (omega arith)
 points-at (suc k) [] j p h = ≤ℤ-refl (pos 0)
 points-at (suc k) (r ∷ rs) zero p h = p .0
 points-at (suc k) (r ∷ rs) (suc j) p h = points-at k rs j (p .1) (omega arith)
 
--- none of the first i but the one at w
-pub record AloneTo (w : ℕ) (rs : List Range) (i : ℕ) : Type 0 where
-  pub points : (j : ℕ) → j < i → (j ≡ w → ⊥) → getD rs j blankRange .high ≤ℤ getD rs j blankRange .low
+pub points-all : (k : ℕ) (rs : List Range) → ((j : ℕ) → j < k → getD rs j blankRange .high ≤ℤ getD rs j blankRange .low) → Points k rs
+points-all zero rs h = tt
+points-all (suc k) [] h = tt
+points-all (suc k) (r ∷ rs) h = (h 0 (omega arith), points-all k rs (λ j g. h (suc j) (omega arith)))
 
-pub alone-start : (w : ℕ) (rs : List Range) → Points w rs → AloneTo w rs (w + 1)
-alone-start w rs p = record { points = λ j h e. points-at w rs j p (before j h e) }
+-- ---- the first range of several numbers
+pub wide-low : (rs : List Range) (n i : ℕ) → i ≤ wideFrom rs i n
+unfolding wideFrom
+wide-low rs zero i = omega arith
+wide-low rs (suc n) i = by (ltZ (getD rs i blankRange .low) (getD rs i blankRange .high)) (wide-low rs n (suc i))
   where
-    before : (j : ℕ) → j < w + 1 → (j ≡ w → ⊥) → j < w
-    before j h e = omega arith
+    by : (b : Bool) → suc i ≤ wideFrom rs (suc i) n → i ≤ cond b i (wideFrom rs (suc i) n)
+    by true h = omega arith
+    by false h = omega arith
 
-pub alone-more : (w : ℕ) (rs : List Range) (i : ℕ) → AloneTo w rs i → getD rs i blankRange .high ≤ℤ getD rs i blankRange .low
-    → AloneTo w rs (i + 1)
-alone-more w rs i a h = record { points = λ j g e. by j (ltb j i) refl g e }
+pub wide-high : (rs : List Range) (n i : ℕ) → wideFrom rs i n ≤ i + n
+unfolding wideFrom
+wide-high rs zero i = omega arith
+wide-high rs (suc n) i = by (ltZ (getD rs i blankRange .low) (getD rs i blankRange .high)) (wide-high rs n (suc i))
   where
-    by : (j : ℕ) (b : Bool) → ltb j i ≡ b → j < i + 1 → (j ≡ w → ⊥) → getD rs j blankRange .high ≤ℤ getD rs j blankRange .low
-    by j true q g e = a .points j (ltb-true j i q) e
-    by j false q g e =
-        let m = ltb-false j i q in
-        let same : i ≡ j = omega arith in
-        subst (λ (k : ℕ). getD rs k blankRange .high ≤ℤ getD rs k blankRange .low) same h
+    by : (b : Bool) → wideFrom rs (suc i) n ≤ suc i + n → cond b i (wideFrom rs (suc i) n) ≤ i + suc n
+    by true h = omega arith
+    by false h = omega arith
 
-pub alone-all : (w : ℕ) (rs : List Range) (i : ℕ) → AloneTo w rs i → length rs ≤ i → Alone w rs
-alone-all w rs i a h j g e = a .points j (omega arith) e
+-- the ranges between have one number at most
+pub wide-between : (rs : List Range) (n i j : ℕ) → i ≤ j → j < wideFrom rs i n
+    → getD rs j blankRange .high ≤ℤ getD rs j blankRange .low
+unfolding wideFrom
+wide-between rs zero i j g h = absurd (omega arith)
+wide-between rs (suc n) i j g h =
+    by (ltZ (getD rs i blankRange .low) (getD rs i blankRange .high)) refl (ltb i j) refl h (wide-between rs n (suc i) j)
+  where
+    by : (b : Bool) → ltZ (getD rs i blankRange .low) (getD rs i blankRange .high) ≡ b → (d : Bool) → ltb i j ≡ d
+        → j < cond b i (wideFrom rs (suc i) n)
+        → (suc i ≤ j → j < wideFrom rs (suc i) n → getD rs j blankRange .high ≤ℤ getD rs j blankRange .low)
+        → getD rs j blankRange .high ≤ℤ getD rs j blankRange .low
+    by true e d q k ih = absurd (omega arith)
+    by false e true q k ih = ih (omega (arith, ltb-true)) k
+    by false e false q k ih =
+        let same : j ≡ i = omega (arith, ltb-false) in
+        rw same (ltZ-false e)
+
+-- those before it, if those before the start have
+pub wide-points : (rs : List Range) (n i : ℕ) → Points i rs → Points (wideFrom rs i n) rs
+wide-points rs n i p = points-all (wideFrom rs i n) rs (λ j h. by j (ltb j i) refl h)
+  where
+    by : (j : ℕ) (b : Bool) → ltb j i ≡ b → j < wideFrom rs i n → getD rs j blankRange .high ≤ℤ getD rs j blankRange .low
+    by j true e h = points-at i rs j p (omega (arith, ltb-true))
+    by j false e h = wide-between rs n i j (omega (arith, ltb-false)) h
+
+-- the first and the second such range, if there is no third
+pub wide-two : (rs : List Range) (w t m n : ℕ) → Points w rs → t ≡ wideFrom rs (w + 1) m → length rs ≤ wideFrom rs (t + 1) n → Two w t rs
+wide-two rs w t m n p e l j h a b = by (ltb j w) refl (ltb j t) refl
+  where
+    by : (x : Bool) → ltb j w ≡ x → (y : Bool) → ltb j t ≡ y → getD rs j blankRange .high ≤ℤ getD rs j blankRange .low
+    by true q y r = points-at w rs j p (omega (arith, ltb-true))
+    by false q true r = wide-between rs m (w + 1) j (omega (arith, ltb-false)) (omega (arith, ltb-true))
+    by false q false r = wide-between rs n (t + 1) j (omega (arith, ltb-false)) (omega arith)

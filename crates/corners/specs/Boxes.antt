@@ -1,11 +1,12 @@
 -- Boxes of ranges: corners, and ranges of one number.
+use mathlib.Core.Bool.{cond}
 use mathlib.Core.List.{List, [], _∷_}
 use Prim.{Unit}
 use Prim.Native.Nat.{ℕ, zero, suc, _<_}
 use mathlib.Core.Path.{_≡_}
-use lib.IntN.{ℤ}
+use lib.IntN.{ℤ, pos, _+ℤ_}
 use lib.ListN.{length, getD}
-use lib.Signed.{_≤ℤ_}
+use lib.Signed.{ltZ, _≤ℤ_}
 use Rattle.expr.specs.Records.{blankRange}
 use Rattle.expr.specs.declared.range.Range.{Range}
 
@@ -21,6 +22,10 @@ turn r = record { low = r .high; high = r .low }
 abbrev pub pointOf : ℤ → Range
 pointOf x = record { low = x; high = x }
 
+-- the range of the one number at n of a range, counted from 0
+abbrev pub pointAt : Range → ℕ → Range
+pointAt r n = pointOf (r .low +ℤ pos n)
+
 -- the first k ranges have one number at most
 abbrev pub Points : ℕ → List Range → Type 0
 Points zero rs = Unit
@@ -30,3 +35,12 @@ Points (suc k) (r ∷ rs) = (r .high ≤ℤ r .low) × Points k rs
 -- no range but the one at w has several numbers
 abbrev pub Alone : ℕ → List Range → Type 0
 Alone w rs = (j : ℕ) → j < length rs → (j ≡ w → ⊥) → getD rs j blankRange .high ≤ℤ getD rs j blankRange .low
+
+-- no range but those at w and t has several numbers
+abbrev pub Two : ℕ → ℕ → List Range → Type 0
+Two w t rs = (j : ℕ) → j < length rs → (j ≡ w → ⊥) → (j ≡ t → ⊥) → getD rs j blankRange .high ≤ℤ getD rs j blankRange .low
+
+-- the first of n places from i on whose range has several numbers, or the place behind them
+unfoldable pub wideFrom : List Range → ℕ → ℕ → ℕ
+wideFrom rs i zero = i
+wideFrom rs i (suc n) = cond (ltZ (getD rs i blankRange .low) (getD rs i blankRange .high)) i (wideFrom rs (suc i) n)

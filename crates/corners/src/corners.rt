@@ -6,9 +6,9 @@ use expr::Valuation;
 ghost use mathlib.Core.Path.{_≡_};
 ghost use mathlib.Core.Bool.{true, false};
 ghost use mathlib.Core.List.{map};
-ghost use Prim.Native.Nat.{_≤_, _<_};
+ghost use Prim.Native.Nat.{_-_};
 ghost use Rattle.expr.specs.Ranges.{Inside};
-ghost use Rattle.corners.specs.Boxes.{lowOf, turn, Points, Alone};
+ghost use Rattle.corners.specs.Boxes.{lowOf, turn, wideFrom};
 
 // The lowest corner.
 pub fn corner(b: Ranges) -> Valuation
@@ -62,10 +62,9 @@ pub fn inside(b: Ranges, v: Valuation) -> bool
     true
 }
 
-// The first place from `start` on whose range has several numbers, or PARAMETERS.
+// The first place from `start` on whose range has several numbers, or PARAMETERS, or `start` where that is more.
 pub fn wide(b: Ranges, start: usize) -> usize
-    requires { ⌜ (start ≤ 4) × Points start (b .list) ⌝ }
-    ensures { λ w. ⌜ (start ≤ w) × ((w ≤ 4) × Points w (b .list)) ⌝ }
+    ensures { λ w. ⌜ w ≡ wideFrom (b .list) start (4 - start) ⌝ }
 {
     let mut i = start;
     while i < PARAMETERS {
@@ -76,20 +75,4 @@ pub fn wide(b: Ranges, start: usize) -> usize
         i += 1;
     }
     i
-}
-
-// Whether no range behind the one at w has several numbers.
-pub fn alone(b: Ranges, w: usize) -> bool
-    requires { ⌜ (w < 4) × Points w (b .list) ⌝ }
-    ensures { λ r. ⌜ (r ≡ true → Alone w (b .list)) ⌝ }
-{
-    let mut i = w + 1;
-    while i < PARAMETERS {
-        let behind = b.list[i];
-        if behind.low < behind.high {
-            return false;
-        }
-        i += 1;
-    }
-    true
 }

@@ -2,23 +2,16 @@
 // reading stands and returns where it stands then; a stopped cursor passes through. Every function is total, and its contract is an
 // equation with a definition of specs/Cursor.
 ghost use mathlib.Core.Path.{_≡_};
-ghost use Prim.Native.Nat.{_+_, _*_};
 ghost use lib.ListN.{getD};
 ghost use Rattle.cursor.specs.Cursor.{
   within,
   stop,
-  shifted,
   judged,
   byteTaken,
-  wordTaken,
-  signedTaken,
   byteField,
   belowField,
-  wordField,
-  signedField,
   finished,
 };
-use numbers::less;
 
 // Where reading stands. If `ok`, `at` is the next byte, and the field read last is in `byte` or in
 // `word`; otherwise `at` is the place of the first wrong field, and nothing more is read.
@@ -30,7 +23,7 @@ pub struct Cursor {
 }
 
 // The byte at a place, and 0 past the end.
-fn byte_at(s: &[u8], at: usize) -> u8
+pub fn byte_at(s: &[u8], at: usize) -> u8
     ensures { λ r. ⌜ r ≡ getD (now (s .entry)) at 0 ⌝ }
 {
     if at < s.len() { s[at] } else { 0 }
@@ -44,7 +37,7 @@ pub fn within(low: usize, value: usize, high: usize) -> bool
 }
 
 // Reading has stopped at a place.
-fn stop(at: usize) -> Cursor
+pub fn stop(at: usize) -> Cursor
     ensures { λ r. ⌜ r ≡ stop at ⌝ }
 {
     Cursor {
@@ -87,62 +80,6 @@ fn take_byte(s: &[u8], end: usize, cursor: Cursor) -> Cursor
     }
 }
 
-// Two bytes as one number, the first being the low one.
-pub fn word_of(low: u8, high: u8) -> u16
-    ensures { λ r. ⌜ r ≡ low + 256 * high ⌝ }
-{
-    (low as u16) + 256 * (high as u16)
-}
-
-// The next two bytes of a body that ends at `end`, as a number without sign.
-fn take_word(s: &[u8], end: usize, cursor: Cursor) -> Cursor
-    ensures { λ r. ⌜ r ≡ wordTaken (now (s .entry)) end cursor ⌝ }
-{
-    let at = cursor.at;
-    if cursor.ok {
-        if 2 <= less(end, at) {
-            Cursor {
-                ok: true,
-                at: at + 2,
-                byte: 0,
-                word: word_of(byte_at(s, at), byte_at(s, at + 1)),
-            }
-        } else {
-            stop(end)
-        }
-    } else {
-        cursor
-    }
-}
-
-// The number plus 32,768 whose two's complement is `word`.
-pub fn shifted(word: u16) -> u16
-    ensures { λ r. ⌜ r ≡ shifted word ⌝ }
-{
-    if word < 32768 {
-        word + 32768
-    } else {
-        word - 32768
-    }
-}
-
-// The next two bytes as a number with sign, to which 32,768 is added.
-fn take_signed(s: &[u8], end: usize, cursor: Cursor) -> Cursor
-    ensures { λ r. ⌜ r ≡ signedTaken (now (s .entry)) end cursor ⌝ }
-{
-    let taken = take_word(s, end, cursor);
-    if taken.ok {
-        Cursor {
-            ok: true,
-            at: taken.at,
-            byte: 0,
-            word: shifted(taken.word),
-        }
-    } else {
-        taken
-    }
-}
-
 // A byte that must lie between two numbers, both included.
 pub fn byte_field(s: &[u8], end: usize, low: usize, high: usize, cursor: Cursor) -> Cursor
     ensures { λ r. ⌜ r ≡ byteField (now (s .entry)) end low high cursor ⌝ }
@@ -158,24 +95,6 @@ pub fn below_field(s: &[u8], end: usize, count: u8, cursor: Cursor) -> Cursor
 {
     let taken = take_byte(s, end, cursor);
     judged(cursor, taken, taken.byte < count)
-}
-
-// A two-byte number without sign that must lie between two numbers, both included.
-pub fn word_field(s: &[u8], end: usize, low: usize, high: usize, cursor: Cursor) -> Cursor
-    ensures { λ r. ⌜ r ≡ wordField (now (s .entry)) end low high cursor ⌝ }
-{
-    let taken = take_word(s, end, cursor);
-    let right = within(low, taken.word as usize, high);
-    judged(cursor, taken, right)
-}
-
-// A two-byte number with sign; with 32,768 added it must lie between two numbers, both included.
-pub fn signed_field(s: &[u8], end: usize, low: usize, high: usize, cursor: Cursor) -> Cursor
-    ensures { λ r. ⌜ r ≡ signedField (now (s .entry)) end low high cursor ⌝ }
-{
-    let taken = take_signed(s, end, cursor);
-    let right = within(low, taken.word as usize, high);
-    judged(cursor, taken, right)
 }
 
 // A body's end: reading stops at the first byte left over.

@@ -11,7 +11,7 @@ use Rattle.integer.specs.Parts.{p}
 use Rattle.expr.specs.Affine.{Affine, dot, value, plusL, minusL, plus, minus, lessOne, opposite}
 use Rattle.expr.specs.Bounds.{sumB, tighterB, Question, yes′, no′, ask}
 use Rattle.weight.specs.Upper.{Upper}
-use Rattle.search.specs.Valuations.{span, width, before, valuations, satisfies, firstIn, first}
+use Rattle.valuations.specs.Valuations.{span, width, before, valuations, satisfies, firstIn, first}
 use Rattle.expr.specs.declared.range.Range.{Range}
 use Rattle.timed.specs.Lists.{AllOf}
 use Rattle.timed.specs.Right.{all-append}

@@ -14,7 +14,7 @@ use Rattle.expr.specs.Affine.{Affine, opposite}
 use Rattle.weight.specs.Upper.{Upper, none}
 use Rattle.expr.specs.Bounds.{zeroB, sumB, tighterB, Question, yes′, no′, ask}
 use Rattle.expr.specs.Records.{boundAs, rangeList}
-use Rattle.search.specs.Valuations.{first}
+use Rattle.valuations.specs.Valuations.{first}
 use Rattle.expr.specs.declared.range.Range.{Range}
 use Rattle.guards.specs.declared.Guard.{Guard}
 use Rattle.sheet.specs.declared.Sheet.{Sheet}

@@ -10,7 +10,7 @@ use Rattle.dbm.specs.Matrix.{Matrix, Outcome, void, kept, delayed, resetsM}
 use Rattle.expr.specs.Ranges.{Inside}
 use Rattle.weight.specs.Upper.{Upper, none}
 use Rattle.expr.specs.Records.{rangeList}
-use Rattle.search.specs.Valuations.{satisfies}
+use Rattle.valuations.specs.Valuations.{satisfies}
 use Rattle.expr.specs.declared.range.Range.{Range}
 use Rattle.sheet.specs.declared.Sheet.{Sheet}
 use Rattle.timed.specs.Automaton.{routeOf}

@@ -5,8 +5,8 @@ use mathlib.Core.List.{List, List·Memᴰ}
 use Prim.Native.Nat.{ℕ}
 use lib.IntN.{ℤ}
 use Rattle.expr.specs.Records.{rangeList}
-use Rattle.search.specs.First.{IsFirst}
-use Rattle.search.specs.Valuations.{first, numbersIn}
+use Rattle.valuations.specs.First.{IsFirst}
+use Rattle.valuations.specs.Valuations.{first, numbersIn}
 use Rattle.expr.specs.declared.range.Range.{Range}
 use Rattle.sheet.specs.declared.Sheet.{Sheet}
 use Rattle.cutting.specs.Cutting.{Zone, listed, zonesAlong, zonesOf}

@@ -11,10 +11,10 @@ use Rattle.expr.specs.Affine.{Affine, opposite}
 use Rattle.expr.specs.Ranges.{Inside}
 use Rattle.expr.specs.Records.{rangeList}
 use Rattle.integer.specs.Apart.{apart}
-use Rattle.search.specs.First.{IsFirst}
-use Rattle.search.specs.FirstProof.{search-right}
-use Rattle.search.specs.SearchLaws.{first-none}
-use Rattle.search.specs.Valuations.{satisfies, first, numbersIn}
+use Rattle.valuations.specs.First.{IsFirst}
+use Rattle.valuations.specs.FirstProof.{search-right}
+use Rattle.valuations.specs.SearchLaws.{first-none}
+use Rattle.valuations.specs.Valuations.{satisfies, first, numbersIn}
 use Rattle.expr.specs.declared.range.Range.{Range}
 use Rattle.timed.specs.Automaton.{routeOf}
 use Rattle.timed.specs.Steps.{stepsOf}

@@ -8,7 +8,7 @@ use Rattle.expr.specs.Ranges.{Inside}
 use Rattle.weight.specs.Upper.{Upper}
 use Rattle.expr.specs.Bounds.{atV}
 use Rattle.expr.specs.Records.{rangeList}
-use Rattle.search.specs.Valuations.{satisfies}
+use Rattle.valuations.specs.Valuations.{satisfies}
 use Rattle.sheet.specs.declared.Sheet.{Sheet}
 use Rattle.cutting.specs.Cutting.{Bounds, Zone}
 

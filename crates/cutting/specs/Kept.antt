@@ -2,7 +2,7 @@
 use mathlib.Core.List.{List, [], _∷_}
 use Prim.Native.Nat.{ℕ, suc, _+_, _-_}
 use lib.IntN.{ℤ}
-use Rattle.search.specs.Valuations.{widths, count}
+use Rattle.valuations.specs.Valuations.{widths, count}
 use Rattle.expr.specs.declared.range.Range.{Range}
 use Rattle.cutting.specs.Cutting.{Zone}
 

@@ -18,9 +18,9 @@ use Rattle.expr.specs.Bounds.{atV}
 use Rattle.expr.specs.Ranges.{Inside}
 use Rattle.integer.specs.Bools.{and-left, and-right}
 use Rattle.expr.specs.Laws.{opposite-holds}
-use Rattle.search.specs.SearchLaws.{first-none}
+use Rattle.valuations.specs.SearchLaws.{first-none}
 use Rattle.expr.specs.Records.{boundAs}
-use Rattle.search.specs.Valuations.{satisfies, first}
+use Rattle.valuations.specs.Valuations.{satisfies, first}
 use Rattle.expr.specs.declared.range.Range.{Range}
 use Rattle.guards.specs.declared.Guard.{Guard}
 use Rattle.timed.specs.Steps.{delay, guard, resets}

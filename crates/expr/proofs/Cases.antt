@@ -6,14 +6,15 @@ use mir.Syntax.{w32}
 use mir.Val.{SFits}
 use Rattle.weight.specs.Fits.{less-one-fits, plus-one-fits}
 use Rattle.weight.specs.Upper.{saturate, none}
-use Rattle.expr.specs.Affine.{LARGEST, saturatedE, plus, minus, lessOne}
+use Rattle.saturating.specs.Largest.{LARGEST}
+use Rattle.saturating.specs.Sums.{room, clamped-in}
+use Rattle.expr.specs.Affine.{saturatedE, plus, minus, lessOne}
 use Rattle.expr.specs.Bounds.{sumB, tighterB, saturatedB}
 use Rattle.expr.specs.TestBySum.{plusOneWhere, test-by-sum}
 use Rattle.expr.specs.Records.{affine, exprOf, zeroExpr, boundAs, boundOf, test}
 use Rattle.expr.specs.declared.bound.Bound.{Bound as CodeBound}
 use Rattle.expr.specs.declared.bound.Asked.the-variants.{Yes, No, Ask}
 use Rattle.expr.specs.declared.number.Expr.{Expr}
-use Rattle.expr.proofs.Sizes.{room, clamped-in}
 
 module _ (a b : CodeBound) where
   -- ---- a sum

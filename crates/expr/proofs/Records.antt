@@ -1,11 +1,9 @@
 -- The code's records put together from their numbers.
 use mathlib.Core.Path.{_≡_, refl, ap, _∙_}
-use mathlib.Core.Bool.{Bool, false}
 use mathlib.Core.List.{List, [], _∷_}
 use Prim.Native.Nat.{ℕ, _+_, _≤_, _<_}
 use lib.IntN.{ℤ, pos}
 use lib.ListN.{set, replicate}
-use Rattle.weight.specs.declared.Weight.{Weight}
 use Rattle.expr.specs.Records.{PARAMETERS}
 use Rattle.expr.specs.RecordLaws.{filledTo, filled-none, filled-next, filled-all}
 use Rattle.expr.specs.declared.number.Expr.{Expr}
@@ -28,8 +26,3 @@ expr-turn c f i r x e h = rw (e, filled-next f i x h) refl
 pub expr-all : (c : ℤ) (f : ℕ → ℤ) (i : ℕ) (r : Expr) → r ≡ filledE c f i → i ≤ PARAMETERS → (i < PARAMETERS → ⊥)
     → r ≡ record { constant = c; coefs = f 0 ∷ f 1 ∷ f 2 ∷ f 3 ∷ [] }
 expr-all c f i r e l h = e ∙ ap (λ (k : List ℤ). record { constant = c; coefs = k }) (filled-all f i l h)
-
--- the code's record of a weight from its number
-pub weight-path : {s t : Bool} {x y : ℤ} → s ≡ t → x ≡ y
-    → _≡_ {A = Weight} (record { none = false; strict = s; value = x }) (record { none = false; strict = t; value = y })
-weight-path d e = λ i. record { none = false; strict = d i; value = e i }

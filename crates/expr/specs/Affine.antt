@@ -2,6 +2,7 @@
 use mathlib.Core.List.{List, [], _∷_, map}
 use lib.IntN.{ℤ, pos, negsuc, negℤ, _+ℤ_, _-ℤ_, _*ℤ_}
 use Rattle.weight.specs.Upper.{saturate}
+use Rattle.saturating.specs.Largest.{LARGEST}
 
 -- an expression: a constant, and a coefficient for each parameter (paper: allowance)
 pub record Affine : Type 0 where
@@ -46,10 +47,6 @@ lessOne e = record { constant = e .constant -ℤ pos 1; coefs = e .coefs }
 unfoldable pub opposite : Affine → Affine
 opposite e = record { constant = negsuc 0 -ℤ e .constant; coefs = map negℤ (e .coefs) }
 
--- the code's sums, tests and opposites of expressions never wrap: a number past ±(2^30 - 1) counts as that end. No number that the cutting
--- of a readable sheet forms is that large (paper 02, request (n): crate sizes)
-abbrev pub LARGEST : ℤ
-LARGEST = pos 1073741823
-
+-- every number clamped to ±LARGEST, as the code takes them
 unfoldable pub saturatedE : Affine → Affine
 saturatedE e = record { constant = saturate LARGEST (e .constant); coefs = map (saturate LARGEST) (e .coefs) }

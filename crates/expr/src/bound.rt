@@ -1,11 +1,8 @@
 // Bounds on a difference of two clocks (paper: watches): their sum, and the test of which is tighter.
 use crate::number::Expr;
-use crate::number::Valuation;
-use weight::Weight;
 ghost use mathlib.Core.Path.{_≡_};
-ghost use Rattle.expr.specs.Bounds.{sumB, tighterB, atV, saturatedB};
-ghost use Rattle.expr.specs.Records.{point, boundAs, boundOf, test};
-ghost use Rattle.weight.specs.Records.{weightOf};
+ghost use Rattle.expr.specs.Bounds.{sumB, tighterB, saturatedB};
+ghost use Rattle.expr.specs.Records.{boundAs, boundOf, test};
 
 // A bound: none, or an expression with a strict mark. None has a zero expression and is not strict.
 pub struct Bound {
@@ -87,20 +84,6 @@ impl Bound {
         Test {
             asked: Asked::Ask,
             expr: second.less(first).less_one().plus_one_where(only_first),
-        }
-    }
-
-    // The bound with v put in: its expression's value and its mark; none stays none.
-    pub fn at(self, v: Valuation) -> Weight
-        ensures { λ r. ⌜ r ≡ weightOf (atV (point v) (boundAs self)) ⌝ }
-    {
-        if self.none {
-            return Weight::NONE;
-        }
-        Weight {
-            none: false,
-            strict: self.strict,
-            value: self.expr.at(v),
         }
     }
 }

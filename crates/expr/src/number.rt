@@ -1,13 +1,13 @@
-// Numbers without a wrap, and expressions: a number past ±(2^30 - 1) counts as that end in a sum, and a product is taken at a width that
-// holds it.
+// Expressions: their numbers never wrap (crate saturating).
 ghost use mathlib.Core.Path.{_≡_};
 ghost use mathlib.Core.Bool.{cond};
-ghost use lib.IntN.{pos, _+ℤ_, _-ℤ_, _*ℤ_};
+ghost use lib.IntN.{pos, _+ℤ_, _-ℤ_};
 ghost use mir.Syntax.{w32};
 ghost use mir.Val.{SFits};
-ghost use Rattle.weight.specs.Upper.{saturate};
-ghost use Rattle.expr.specs.Affine.{value, plus, minus, opposite, LARGEST, saturatedE};
-ghost use Rattle.expr.specs.Records.{affine, exprOf, point};
+ghost use Rattle.expr.specs.Affine.{plus, minus, opposite, saturatedE};
+ghost use Rattle.expr.specs.Records.{affine, exprOf};
+use saturating::difference;
+use saturating::sum;
 
 // How many parameters (paper: allowances) expressions, valuations and ranges have; those that a sheet lacks are 0.
 pub const PARAMETERS: usize = 4;
@@ -29,58 +29,11 @@ impl Valuation {
     };
 }
 
-// x, or the nearer end of -(2^30 - 1) to 2^30 - 1.
-fn clamped(x: i32) -> i32
-    ensures { λ r. ⌜ r ≡ saturate LARGEST x ⌝ }
-{
-    if x <= 1073741823 {
-        if -1073741823 <= x {
-            return x;
-        }
-        return -1073741823;
-    }
-    1073741823
-}
-
-// x + y, each clamped.
-fn sum(x: i32, y: i32) -> i32
-    ensures { λ r. ⌜ r ≡ saturate LARGEST x +ℤ saturate LARGEST y ⌝ }
-{
-    clamped(x) + clamped(y)
-}
-
-// x - y, each clamped.
-fn difference(x: i32, y: i32) -> i32
-    ensures { λ r. ⌜ r ≡ saturate LARGEST x -ℤ saturate LARGEST y ⌝ }
-{
-    clamped(x) - clamped(y)
-}
-
-// x · y.
-fn product(x: i32, y: i16) -> i64
-    ensures { λ r. ⌜ r ≡ x *ℤ y ⌝ }
-{
-    numbers::wide(x) * numbers::wide16(y)
-}
-
 impl Expr {
     pub const ZERO: Expr = Expr {
         constant: 0,
         coefs: [0; PARAMETERS],
     };
-
-    // The value at v: constant + sum of coefficient × parameter.
-    pub fn at(self, v: Valuation) -> i64
-        ensures { λ r. ⌜ r ≡ value (affine self) (point v) ⌝ }
-    {
-        let mut sum = numbers::wide(self.constant);
-        let mut i = 0;
-        while i < PARAMETERS {
-            sum += product(self.coefs[i], v.numbers[i]);
-            i += 1;
-        }
-        sum
-    }
 
     // self + other; a number past ±(2^30 - 1) counts as that end.
     pub(crate) fn plus(self, other: Expr) -> Expr

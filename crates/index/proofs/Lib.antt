@@ -1,3 +1,2 @@
--- Laws that the proofs of several functions cite: Steps for what is read again, PlaceSteps for the places.
+-- Laws that the proofs of several functions cite.
 pub mod Steps
-pub mod PlaceSteps

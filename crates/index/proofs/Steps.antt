@@ -1,30 +1,19 @@
 -- What is read where an index says is what the index's sheet has there.
-use Prim.Native.Nat.{ℕ, _<_, _≤_, min}
-use mathlib.Core.Path.{_≡_, refl, sym, _∙_}
+use Prim.Native.Nat.{ℕ, _<_, _≤_}
+use mathlib.Core.Path.{_≡_, refl, sym}
 use mathlib.Core.List.{List}
-use mathlib.Core.Bool.{Bool, true, false}
-use native.Mathlib.Omega.{arith}
-use lib.Dec.{ltb}
-use lib.ListN.{getD, length, List·getD-eq-default}
-use borrow.Author.Tests.{ltb-true, ltb-false, lt-ltb, le-ltb}
-use Rattle.cursor.specs.declared.Cursor.{Cursor}
-use Rattle.cursor.specs.Cursor.{advanced, belowField, iterate}
-use Rattle.cursor_laws.specs.Counted.{beyond}
+use lib.ListN.{getD}
+use borrow.Author.Tests.{lt-ltb, le-ltb}
+use Rattle.cursor.specs.Cursor.{advanced}
 use Rattle.contents.specs.Contents.{mostParameters}
 use Rattle.guards.specs.declared.GuardsAt.{GuardsAt}
 use Rattle.guards.specs.Guards.{guardsAt}
-use Rattle.automaton.specs.declared.Location.{Location}
-use Rattle.automaton.specs.declared.Transition.{Transition}
 use Rattle.automaton.specs.declared.transitions.TransitionAt.{TransitionAt}
-use Rattle.automaton.specs.Automaton.{blankLocation, blankTransition, noTransition, transitionAt}
-use Rattle.route.specs.declared.Ends.{Ends}
-use Rattle.route.specs.declared.Link.{Link}
-use Rattle.route.specs.Route.{endsAt, linkStep, linksOf}
+use Rattle.automaton.specs.Automaton.{blankLocation, blankTransition, transitionAt}
 use Rattle.sheet.specs.Lookup.{at, locationC, transitionC}
 use Rattle.index.specs.declared.Index.{Index}
-use Rattle.index.specs.Listed.{listed, listed-long}
 use Rattle.index.specs.SheetIn.{locationOf, locationIn, transitionIn, sheetIn}
-use Rattle.index.specs.SheetLaws.{location-is, transition-is, transition-at-number}
+use Rattle.index.specs.SheetLaws.{location-is, transition-is}
 
 module _ (s : List ℕ) (ix : Index) where
   abbrev guardsFrom : ℕ → GuardsAt
@@ -65,52 +54,3 @@ module _ (s : List ℕ) (ix : Index) where
   transition-past n k e h =
       let t = le-ltb k (ix .transitions) h in
       rw (transition-is s ix n) (rw (sym e) (rw t refl))
-
-  -- the ends of transition n, where the count has it: its first two bytes
-  pub ends-here :
-      (n : ℕ) (from to : Cursor) → n < 32 → n < ix .transitions →
-      from ≡ belowField s (ix .third) (ix .locations) (advanced (getD (ix .transition) n 0) 0) →
-      to ≡ belowField s (ix .third) (ix .locations) from →
-      record { from = from .byte; to = to .byte } ≡ endsAt (sheetIn s ix .transition) n
-  unfolding endsAt transitionIn transitionAt
-  ends-here n from to h g e f =
-      let t = lt-ltb n (ix .transitions) g in
-      rw (transition-at-number s ix n h) (rw (t, f, e) refl)
-
-  -- past the count
-  pub ends-past : (n : ℕ) → n < 32 → ix .transitions ≤ n → record { from = 0; to = 0 } ≡ endsAt (sheetIn s ix .transition) n
-  unfolding endsAt transitionIn blankTransition
-  ends-past n h g =
-      let t = le-ltb n (ix .transitions) g in
-      rw (transition-at-number s ix n h) (rw t refl)
-
-  -- and past the list
-  pub ends-none : (n : ℕ) → 32 ≤ n → record { from = 0; to = 0 } ≡ endsAt (sheetIn s ix .transition) n
-  unfolding endsAt sheetIn
-  ends-none n h =
-      let long = listed-long (transitionIn s ix) 32 in
-      let past : length (listed (transitionIn s ix) 32) ≤ n = omega arith in
-      rw (List·getD-eq-default (listed (transitionIn s ix) 32) noTransition past) refl
-
--- a route that has been followed up to its count
-links-cases :
-    (transition : List Transition) (route : List ℕ) (moves i : ℕ) (a : Link) (b : Bool) → ltb moves 32 ≡ b → i ≡ min moves 32 →
-    iterate (linkStep transition route moves) a i ≡ iterate (linkStep transition route moves) a 32
-unfolding linkStep
-links-cases transition route moves i a true e h =
-    let few = ltb-true moves 32 e in
-    let same : i ≡ moves = omega arith in
-    rw same
-    (sym (beyond (linkStep transition route moves) a moves 32 (omega arith) (λ k x past. let t = le-ltb k moves past in rw t refl)))
-links-cases transition route moves i a false e h =
-    let many = ltb-false moves 32 e in
-    let same : i ≡ 32 = omega arith in
-    rw same refl
-
-pub links-done :
-    (transition : List Transition) (route : List ℕ) (moves i n : ℕ) (link : Link) → n ≡ min moves 32 → i ≤ n → (i < n → ⊥) →
-    link ≡ iterate (linkStep transition route moves) (record { ok = true; index = 0; location = 0 }) i →
-    link ≡ linksOf transition route moves
-unfolding linksOf
-links-done transition route moves i n link e l g h =
-    h ∙ links-cases transition route moves i (record { ok = true; index = 0; location = 0 }) (ltb moves 32) refl (omega arith)

@@ -3,9 +3,6 @@
 //
 // Every public function is total, and its contract is an equation with the definitions of crates sheet and route, of the sheet that
 // specs/SheetIn gives to an index.
-pub mod links;
-pub mod places;
-
 ghost use mathlib.Core.Path.{_≡_};
 ghost use Rattle.cursor.specs.Cursor.{advanced};
 ghost use Rattle.sheet.specs.Lookup.{at, locationC, transitionC};
@@ -15,7 +12,7 @@ use automaton::Transition;
 use contents::entries::most_parameters;
 use cursor::Cursor;
 use expr::Ranges;
-use guards::guards_at;
+use guard_lists::guards_at;
 
 // The index of a file: its version, how many parameters, clocks, locations, transitions and moves, the ends of bodies 2 and 3, the
 // ranges, the places of locations and transitions in the file, and the route.
@@ -60,7 +57,7 @@ fn place(n: usize, i: usize) -> usize
 }
 
 // Reading stands at a place.
-pub(crate) fn standing(at: u16) -> Cursor
+pub fn standing(at: u16) -> Cursor
     ensures { λ r. ⌜ r ≡ advanced at 0 ⌝ }
 {
     Cursor {

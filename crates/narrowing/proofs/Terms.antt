@@ -9,13 +9,11 @@ use lib.IntN.{ℤ, pos, _+ℤ_, _-ℤ_, _*ℤ_}
 use lib.ListN.{length, getD, set, drop, replicate}
 use lib.Seq.{drop-cons}
 use lib.Signed.{leZ, _≤ℤ_, _<ℤ_}
-use mir.Syntax.{w16, w32, w64}
+use mir.Syntax.{w32, w64}
 use mir.Val.{SFits, toZ, ofZ}
 use mir.ValLaws.{toZ-ofZ}
-use Rattle.integer.specs.Bits.{op-fits, op-back}
-use Rattle.integer.specs.Order.{leZ-true}
 use Rattle.integer.specs.Parts.{n}
-use Rattle.integer.specs.Product.{fits-size, size-fits, sum-size, difference-size, product-size, size-low, size-high}
+use Rattle.integer.specs.Product.{fits-size, size-fits, sum-size, difference-size, size-low, size-high}
 use Rattle.integer.specs.Split.{split, split-all}
 use Rattle.expr.specs.Affine.{dot, value}
 use Rattle.expr.specs.Ranges.{In, Inside}
@@ -23,8 +21,10 @@ use Rattle.expr.specs.Records.{PARAMETERS, placesFrom, four, affine, blankRange
 use Rattle.expr.specs.declared.number.Expr.{Expr}
 use Rattle.expr.specs.declared.range.Range.{Range}
 use Rattle.narrowing.specs.Cut.{Within, Cut, Part}
-use Rattle.narrowing.specs.Interval.{EMPTY, interval, best, bestSum, bestOf, Sized, SizedTo, Tame}
-use Rattle.narrowing.specs.IntervalLaws.{In-EMPTY, interval-exact, best-most, bestSum-most}
+use Rattle.intervals.specs.Interval.{EMPTY, interval, Tame}
+use Rattle.narrowing.specs.Best.{best, bestSum, bestOf, best-most, bestSum-most}
+use Rattle.inequalities.specs.Sizes.{Sized, SizedTo}
+use Rattle.intervals.specs.IntervalLaws.{In-EMPTY, interval-exact}
 
 -- ---- one product
 -- x holds a times the end of r at which that is the most
@@ -90,44 +90,6 @@ sum-all e rs i x s h g =
     let t : SumTo e rs PARAMETERS x = rw q at s in
     (sym (no-more x) ∙ t .is, t .size)
 
--- ---- the value at a valuation, in the same way
--- what the products from place i on add
-abbrev left : List ℤ → List ℤ → ℕ → ℤ
-left l v i = dot (placesFrom (pos 0) l i (PARAMETERS - i)) (drop i v)
-
-pub record ValueTo (e : Expr) (v : List ℤ) (i : ℕ) (x : ℤ) : Type 0 where
-  pub is : x +ℤ left (e .coefs) v i ≡ value (affine e) v
-  pub size : SizedTo i x
-
-pub value-start : (e : Expr) (v : List ℤ) → SFits w32 (e .constant) → ValueTo e v 0 (e .constant)
-unfolding value
-value-start e v f = record { is = refl; size = omega (arith, fits-size f) }
-
-left-turn : (l v : List ℤ) (i j : ℕ) → i < length v → PARAMETERS - i ≡ suc j
-    → left l v i ≡ (getD l i (pos 0) *ℤ getD v i (pos 0)) +ℤ dot (placesFrom (pos 0) l (i + 1) j) (drop (i + 1) v)
-unfolding dot
-left-turn l v i j h e = rw (e, drop-cons v i (pos 0) h, add-one) refl
-
-pub value-turn : (e : Expr) (v : List ℤ) (i : ℕ) (x y : ℤ) → ValueTo e v i x → i < PARAMETERS → length v ≡ PARAMETERS
-    → y ≡ getD (e .coefs) i (pos 0) *ℤ getD v i (pos 0) → Sized y → ValueTo e v (i + 1) (x +ℤ y)
-value-turn e v i x y s h m q z =
-    let f : PARAMETERS - i ≡ suc (PARAMETERS - (i + 1)) = omega arith in
-    let g : i < length v = omega arith in record {
-      is = sym (sum-moved x y (left (e .coefs) v (i + 1)))
-          ∙ ap (λ (u : ℤ). x +ℤ (u +ℤ left (e .coefs) v (i + 1))) q
-          ∙ ap (λ (u : ℤ). x +ℤ u) (sym (left-turn (e .coefs) v i (PARAMETERS - (i + 1)) g f))
-          ∙ s .is;
-      size = omega (arith, sum-size x y (s .size) z);
-    }
-
-pub value-all : (e : Expr) (v : List ℤ) (i : ℕ) (x : ℤ) → ValueTo e v i x → i ≤ PARAMETERS → (i < PARAMETERS → ⊥)
-    → (x ≡ value (affine e) v) × SizedTo 4 x
-unfolding dot
-value-all e v i x s h g =
-    let q : i ≡ PARAMETERS = omega arith in
-    let t : ValueTo e v PARAMETERS x = rw q at s in
-    (sym (no-more x) ∙ t .is, t .size)
-
 -- ---- the cut of one range
 -- what an inequality of at most m leaves without the product of at most x, and with another one
 pub less-fits : (m x : ℤ) → SizedTo 4 m → Sized x → SFits w64 (m -ℤ x)
@@ -143,33 +105,6 @@ less-tame m x h k =
       size-high {x = m -ℤ x} {A = 4611686018427387903}
           (omega (arith, s)),
     )
-
-pub most-tame : (m : ℤ) → SizedTo 4 m → Tame m
-most-tame m h =
-    (size-low {x = m} {A = 4611686018427387903} (omega (arith, h)), size-high {x = m} {A = 4611686018427387903} (omega (arith, h)))
-
--- ---- the value with the product at one end of a range, each held as its bits
-module _ (m x : ℤ) (h : SizedTo 4 m) (k : Sized x) where
-  m-fits : SFits w64 m
-  m-fits = size-fits w64 m (omega arith)
-
-  x-fits : SFits w64 x
-  x-fits = size-fits w64 x (omega arith)
-
-  end-fits : SFits w64 (m +ℤ x)
-  end-fits = size-fits w64 (m +ℤ x) (omega (arith, sum-size m x h k))
-
-  pub end-asks : SFits w64 (toZ w64 (ofZ w64 m) +ℤ toZ w64 (ofZ w64 x))
-  end-asks = op-fits _+ℤ_ w64 m x m x refl refl m-fits x-fits end-fits
-
-  pub end-holds : (c a y : ℤ) → m ≡ c → x ≡ a *ℤ y → leZ (pos 0) (toZ w64 (ofZ w64 (toZ w64 (ofZ w64 m) +ℤ toZ w64 (ofZ w64 x)))) ≡ true
-      → pos 0 ≤ℤ (c +ℤ (a *ℤ y))
-  end-holds c a y e f t =
-      let b = op-back _+ℤ_ w64 m x m x refl refl m-fits x-fits end-fits in
-      leZ-true (rw (b, e, f) at t)
-
-pub slope-tame : (a : ℤ) → SFits w32 a → Tame a
-slope-tame a = rw (split a) (simp split-all (omega arith))
 
 pub part-all : (a m : ℤ) (r : Range) → Part a m r r
 part-all a m r = record { within = λ x h. h; keeps = λ x h k. h }

@@ -6,7 +6,7 @@ use lib.Signed.{_≤ℤ_}
 use Rattle.expr.specs.Affine.{Affine, value}
 use Rattle.expr.specs.Ranges.{In, Inside}
 use Rattle.expr.specs.declared.range.Range.{Range}
-use Rattle.narrowing.specs.Interval.{best}
+use Rattle.narrowing.specs.Best.{best}
 
 -- each range of the first list lies in that of the second
 abbrev pub Within : List Range → List Range → Type 0

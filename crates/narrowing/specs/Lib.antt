@@ -1,7 +1,3 @@
--- What is read first: Flat (inequalities in a list of numbers), Interval (an inequality's interval), Cut (what a cut promises) and
--- Opposite (pairs that no valuation meets, with its law). IntervalLaws are laws of Interval.
+-- What is read first: Best (the most of an inequality in some ranges) and Cut (what a cut promises).
+pub mod Best
 pub mod Cut
-pub mod Flat
-pub mod Interval
-pub mod IntervalLaws
-pub mod Opposite

@@ -1,17 +1,13 @@
 // The most that an inequality can be in a box of ranges, and the box that it leaves.
-use crate::ranges;
 use expr::Expr;
 use expr::PARAMETERS;
 use expr::Range;
 use expr::Ranges;
-use expr::Valuation;
 ghost use mathlib.Core.Path.{_≡_};
-ghost use lib.IntN.{pos, _*ℤ_};
-ghost use lib.ListN.{getD};
-ghost use Prim.Native.Nat.{_<_};
-ghost use Rattle.expr.specs.Affine.{value};
 ghost use Rattle.expr.specs.Records.{affine};
-ghost use Rattle.narrowing.specs.Interval.{interval, best, bestOf, Sized, SizedTo};
+ghost use Rattle.intervals.specs.Interval.{interval};
+ghost use Rattle.narrowing.specs.Best.{best, bestOf};
+ghost use Rattle.inequalities.specs.Sizes.{Sized, SizedTo};
 ghost use Rattle.narrowing.specs.Cut.{Cut, Part};
 
 // The most that coefficient a times a number of r can be.
@@ -20,9 +16,9 @@ fn most(a: i32, r: Range) -> i64
     ensures small { λ x. ⌜ Sized x ⌝ }
 {
     if 0 <= a {
-        return term(a, r.high);
+        return inequalities::term(a, r.high);
     }
-    term(a, r.low)
+    inequalities::term(a, r.low)
 }
 
 // The most that e can be in the box.
@@ -57,7 +53,7 @@ fn part(a: i32, s: i64, r: Range) -> Range
     if 0 <= rest + most(a, turned) {
         return r;
     }
-    ranges::interval(r, rest, numbers::wide(a))
+    intervals::interval(r, rest, numbers::wide(a))
 }
 
 // The box without the parts of its ranges in which e ≥ 0 fails, the other parameters being at their best.
@@ -78,41 +74,4 @@ pub fn cut(b: Ranges, e: Expr) -> Ranges
         i += 1;
     }
     c
-}
-
-// Coefficient a times x.
-fn term(a: i32, x: i16) -> i64
-    ensures { λ y. ⌜ y ≡ a *ℤ x ⌝ }
-    ensures small { λ y. ⌜ Sized y ⌝ }
-{
-    numbers::wide(a) * numbers::wide16(x)
-}
-
-// The value of e at a valuation.
-pub fn value_at(v: Valuation, e: Expr) -> i64
-    ensures { λ x. ⌜ x ≡ value (affine e) (v .numbers) ⌝ }
-    ensures small { λ x. ⌜ SizedTo 4 x ⌝ }
-{
-    let mut total = numbers::wide(e.constant);
-    let mut j = 0;
-    while j < PARAMETERS {
-        total += term(e.coefs[j], v.numbers[j]);
-        j += 1;
-    }
-    total
-}
-
-// The part of r where e ≥ 0 holds with parameter w in it, the valuation having the other parameters and 0 for w.
-pub fn held(v: Valuation, e: Expr, w: usize, r: Range) -> Range
-    requires { ⌜ w < 4 ⌝ }
-    ensures { λ x. ⌜ x ≡ interval r (value (affine e) (v .numbers)) (getD (e .coefs) w (pos 0)) ⌝ }
-{
-    let c = value_at(v, e);
-    let a = e.coefs[w];
-    if 0 <= c + term(a, r.low) {
-        if 0 <= c + term(a, r.high) {
-            return r;
-        }
-    }
-    ranges::interval(r, c, numbers::wide(a))
 }

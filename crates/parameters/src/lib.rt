@@ -16,10 +16,10 @@ use cursor::Cursor;
 use cursor::byte_field;
 use cursor::finished;
 use cursor::judged;
-use cursor::signed_field;
 use expr::PARAMETERS;
 use expr::Range;
 use expr::Ranges;
+use words::signed_field;
 
 // Body 1: where reading stands after it, how many parameters, and their ranges.
 pub struct ParametersAt {

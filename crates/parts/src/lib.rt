@@ -4,6 +4,7 @@ mod part;
 pub use part::Next;
 pub use part::Part;
 pub use part::Turn;
+pub use part::after;
 pub use part::no_part;
 pub use part::turned;
 pub use part::yes_part;

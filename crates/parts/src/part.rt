@@ -135,7 +135,7 @@ fn tests_in(test: Test) -> usize
 }
 
 // The phase after a verdict on the test of a phase, and whether the part goes on: it stops at a test that is not settled.
-fn after(phase: usize, kind: usize) -> Next
+pub fn after(phase: usize, kind: usize) -> Next
     ensures { λ r. ⌜ r ≡ afterC phase kind ⌝ }
 {
     if 1 < kind {

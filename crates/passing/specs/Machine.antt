@@ -7,8 +7,9 @@ use native.Mathlib.Numerals.{add-one}
 use native.Mathlib.Omega.{arith}
 use borrow.Author.Tests.{lt-ltb, le-ltb, ltb-true, ltb-false, eqb-true, eqb-false}
 use lib.Dec.{ltb, eqb}
-use lib.ListN.{length, getD, take, drop, set, replicate, length-set, length-take, drop-of-length-le, List·getD-append}
-use lib.Seq.{drop-cons, getD-take, getD-drop, getD-append-add, getD-set-same}
+use lib.ListN.{length, getD, take, drop, set, replicate, length-set, length-take, length-drop, length-append, drop-of-length-le}
+use lib.ListN.{List·getD-append}
+use lib.Seq.{drop-cons, getD-take, getD-drop, getD-append-add, getD-set-same, getD-set-other, ext-getD, take-suc}
 use Rattle.constrain.specs.declared.rule.Rule.{Rule}
 use Rattle.expr.specs.Records.{noBound}
 use Rattle.expr.specs.declared.range.Ranges.{Ranges}
@@ -24,7 +25,7 @@ use Rattle.split.specs.declared.list.Counted.{Counted}
 use Rattle.passing.specs.Laws.{plain, passOne, passAll, done, append-assoc, list-plain, none-plain, step-is}
 use Rattle.passing.specs.Laws.{pass-sticks, done-sticks, steps-stick}
 use Rattle.steps.specs.Places.{drop-set, take-more}
-use Rattle.passing.specs.State.{begunC, pushedC, listedC, droppedC, loadedC, steppedC, numberC, refusedZ}
+use Rattle.passing.specs.State.{begunC, pushedC, listedC, droppedC, loadedC, passedC, steppedC, numberC, refusedZ}
 use Rattle.steps.specs.Steps.{noZone, Fit, closed, atVisit, stepsAll, keptC, changedC, asksC, partC}
 use Rattle.passing.specs.declared.pass.Pass.{Pass}
 use Rattle.steps.specs.declared.step.Step.{Step}
@@ -41,6 +42,12 @@ unfoldable pub rest : Ranges → ℕ → List Step → ℕ → ℕ → ℕ → L
 rest b w [] v n i full o = plain v (take n full)
 rest b w (st ∷ ss) v n i full o = stepsAll b w ss (done st (passAll b w st (drop i (take n full)) o .zones))
 
+rest-ahead : (b : Ranges) (w : ℕ) (ss : List Step) (v n i : ℕ) (k l : List Zone) (o : Counted) → 0 < length ss
+    → drop i (take n k) ≡ drop i (take n l) → rest b w ss v n i k o ≡ rest b w ss v n i l o
+unfolding rest
+rest-ahead b w [] v n i k l o h e = absurd (omega arith)
+rest-ahead b w (st ∷ ss) v n i k l o h e = ap (λ (x : List Zone). stepsAll b w ss (done st (passAll b w st x o .zones))) e
+
 -- where a pass over the steps ss stands, and what it comes to
 pub record Machine (b : Ranges) (w : ℕ) (ss : List Step) (whole : Zones) (list spare : List Zone) (stack : List Part) (r : Rule) (s : Pass)
     : Type 0 where
@@ -50,6 +57,7 @@ pub record Machine (b : Ranges) (w : ℕ) (ss : List Step) (whole : Zones) (list
   pub taken : s .i ≤ s .n
   pub room : s .kept ≤ 32
   pub fresh : length ss ≤ s .j → s .kept ≡ 0
+  pub new : length ss ≤ s .j → s .i ≡ 0
   pub long : length list ≡ 32
   pub spare-long : length spare ≡ 32
   pub full : List Zone
@@ -81,10 +89,10 @@ empty : (b : Ranges) (r : Rule) (stack : List Part) (out : Counted) → length s
 unfolding drained
 empty b r stack out h = record { few = omega arith; long = h; waiting = tt; same = refl }
 
-pub machine-starts : (b : Ranges) (w : ℕ) (ss : List Step) (zs : Zones) (stack : List Part) (r : Rule) → length ss ≤ 20 → Fit zs
-    → zs .refusal ≤ 0 → length (zs .list) ≡ 32 → length stack ≡ 25
-    → Machine b w ss (stepsAll b w ss (closed zs)) (zs .list) (zs .list) stack r (begunC (zs .visit) (zs .count))
-machine-starts b w ss zs stack r few fit none long stack-long =
+pub machine-starts : (b : Ranges) (w : ℕ) (ss : List Step) (zs : Zones) (spare : List Zone) (stack : List Part) (r : Rule)
+    → length ss ≤ 20 → Fit zs → zs .refusal ≤ 0 → length (zs .list) ≡ 32 → length spare ≡ 32 → length stack ≡ 25
+    → Machine b w ss (stepsAll b w ss (closed zs)) (zs .list) spare stack r (begunC (zs .visit) (zs .count))
+machine-starts b w ss zs spare stack r few fit none long spare-long stack-long =
     let no : zs .refusal ≡ 0 = omega arith in
     let size = taken-long (zs .count) 32 (zs .list) long (fit .few) in
     record {
@@ -94,8 +102,9 @@ machine-starts b w ss zs stack r few fit none long stack-long =
       taken = omega arith;
       room = omega arith;
       fresh = λ _. refl;
+      new = λ _. refl;
       long = long;
-      spare-long = long;
+      spare-long = spare-long;
       full = zs .list;
       full-long = long;
       merged = refl;
@@ -142,6 +151,38 @@ merged-more n spare list full z hs hl h e =
     ∙ append-assoc (take n spare) (getD list n noZone ∷ []) (drop (suc n) list)
     ∙ ap (λ (k : List Zone). take n spare ++ k) (sym (drop-cons list n noZone (omega (arith, hl))))
     ∙ e
+
+-- what is not taken up yet does not change where the places before it do
+ahead-same : (i n : ℕ) (k l : List Zone) → length k ≡ 32 → length l ≡ 32 → ((x : ℕ) → i ≤ x → getD k x noZone ≡ getD l x noZone)
+    → drop i (take n k) ≡ drop i (take n l)
+ahead-same i n k l hk hl h =
+    ext-getD noZone (drop i (take n k)) (drop i (take n l)) (sizes k hk ∙ sym (sizes l hl))
+    (λ x g. at k hk x g ∙ h (i + x) (omega arith) ∙ sym (at l hl x (subst (λ (m : ℕ). x < m) (sizes k hk ∙ sym (sizes l hl)) g)))
+  where
+    sizes : (k : List Zone) → length k ≡ 32 → length (drop i (take n k)) ≡ min n 32 - i
+    sizes k e = length-drop i (take n k) ∙ ap (λ (m : ℕ). m - i) (length-take n k ∙ ap (min n) e)
+
+    at : (k : List Zone) (e : length k ≡ 32) (x : ℕ) → x < length (drop i (take n k))
+        → getD (drop i (take n k)) x noZone ≡ getD k (i + x) noZone
+    at k e x g = getD-drop i (take n k) x noZone ∙ getD-take n k (i + x) noZone (omega (arith, sizes k e))
+
+-- the places before i of a list are given up
+module _ (n i : ℕ) (spare list full : List Zone) (hs : length spare ≡ 32) (hl : length list ≡ 32) (hf : length full ≡ 32) (h : n < 32)
+    (late : n < i) (e : take n spare ++ drop n list ≡ full) where
+  abbrev given : List Zone
+  given = take (suc n) spare ++ drop (suc n) list
+
+  given-long : length given ≡ 32
+  given-long =
+      let a = length-append (take (suc n) spare) (drop (suc n) list) in
+      let t = taken-long (suc n) 32 spare hs (omega arith) in
+      let d = length-drop (suc n) list in
+      omega arith
+
+  given-ahead : (m : ℕ) → drop i (take m given) ≡ drop i (take m full)
+  given-ahead m = ahead-same i m given full given-long hf (λ x g.
+      sym (listed-at (suc n) x spare list given hs (omega arith) refl (omega arith)) ∙ listed-at n x spare list full hs (omega
+      arith) e (omega arith))
 
 pass-none : (b : Ranges) (w : ℕ) (st : Step) (out : Counted) → passAll b w st [] out ≡ out
 unfolding passAll
@@ -231,6 +272,7 @@ module _ (b : Ranges) (w : ℕ) (ss : List Step) (whole : Zones) (list spare : L
             taken = omega arith;
             room = omega arith;
             fresh = λ _. refl;
+            new = λ _. refl;
             long = m .long;
             spare-long = m .spare-long;
             full = list;
@@ -288,6 +330,7 @@ module _ (b : Ranges) (w : ℕ) (ss : List Step) (whole : Zones) (list spare : L
             taken = omega arith;
             room = m .room;
             fresh = m .fresh;
+            new = λ e. absurd (omega arith);
             long = m .long;
             spare-long = m .spare-long;
             full = m .full;
@@ -308,6 +351,88 @@ module _ (b : Ranges) (w : ℕ) (ss : List Step) (whole : Zones) (list spare : L
               (passOne b w st z (m .out)) .zones)))
               (add-one (s .i))
               ∙ ap (λ (o : Counted). stepsAll b w (drop (suc (s .j)) ss) (done st (o .zones))) first-worth
+
+    -- a zone is taken up, and listed where it stands: the step leaves it as it is
+    module _ (idle : s .depth ≤ 0) (more : s .i < s .n) (there : s .i ≡ s .kept) (z : Zone) (hz : z ≡ getD list (s .i) noZone) (t : ℕ)
+        (leaves : (out : Counted) → passOne b w st z out ≡ listC z t out) where
+      abbrev passed : Counted
+      passed = listC z t (m .out)
+
+      room-here : s .kept < 32
+      room-here = omega (arith, m .few)
+
+      in-full : z ≡ getD (m .full) (s .i) noZone
+      in-full = hz ∙ pending-list (omega arith)
+
+      passed-left : drop (s .i) (take (s .n) (m .full)) ≡ z ∷ drop (suc (s .i)) (take (s .n) (m .full))
+      passed-left =
+          let size = taken-long (s .n) 32 (m .full) (m .full-long) (m .few) in
+          let inside : s .i < length (take (s .n) (m .full)) = omega arith in
+          drop-cons (take (s .n) (m .full)) (s .i) noZone inside
+          ∙ ap (λ (x : Zone). x ∷ drop (suc (s .i)) (take (s .n) (m .full)))
+          (getD-take (s .n) (m .full) (s .i) noZone more ∙ sym in-full)
+
+      passed-worth : passAll b w st (drop (suc (s .i)) (take (s .n) (m .full))) passed
+          ≡ passAll b w st (drop (s .i) (take (s .n) (m .full))) (m .worth)
+      passed-worth =
+          ap (passAll b w st (drop (suc (s .i)) (take (s .n) (m .full)))) (sym (leaves (m .out)))
+          ∙ sym (pass-cons b w st z (drop (suc (s .i)) (take (s .n) (m .full))) (m .out))
+          ∙ ap (λ (l : List Zone). passAll b w st l (m .out)) (sym passed-left)
+          ∙ ap (passAll b w st (drop (s .i) (take (s .n) (m .full)))) (all-out idle)
+
+      passed-same : stepsAll b w (drop (suc (s .j)) ss)
+          (done st (passAll b w st (drop (s .i + 1) (take (s .n) (m .full))) passed .zones)) ≡ whole
+      passed-same =
+          ap (λ (x : ℕ). stepsAll b w (drop (suc (s .j)) ss) (done st (passAll b w st (drop x (take (s .n) (m .full))) passed .zones)))
+          (add-one (s .i))
+          ∙ ap (λ (o : Counted). stepsAll b w (drop (suc (s .j)) ss) (done st (o .zones))) passed-worth
+          ∙ now-same
+
+      some-left : 0 < length (drop (s .j) ss)
+      some-left = omega (arith, length-drop (s .j) ss)
+
+      none-waits : (d : ℕ) → d ≤ 0 → Turned b r stack d passed passed
+      none-waits zero h = empty b r stack passed (m .turned .long)
+      none-waits (suc d) h = absurd (omega arith)
+
+      pub turn-passed : Machine b w ss whole list spare stack r (passedC s)
+      turn-passed =
+          record {
+            most = m .most;
+            at = m .at;
+            few = m .few;
+            taken = omega arith;
+            room = omega arith;
+            fresh = λ e. absurd (omega arith);
+            new = λ e. absurd (omega arith);
+            long = m .long;
+            spare-long = m .spare-long;
+            full = given (s .kept) (s .i + 1) spare list (m .full) (m .spare-long) (m .long) (m .full-long) room-here late (m .merged);
+            full-long =
+                given-long (s .kept) (s .i + 1) spare list (m .full) (m .spare-long) (m .long) (m .full-long) room-here late (m .merged);
+            merged = rw (add-one (s .kept)) refl;
+            out = passed;
+            shown =
+                list-plain (s .visit) (take (s .kept) list) z t (m .out) (m .shown)
+                (omega (arith, taken-long (s .kept) 32 list (m .long) (m .room)))
+                ∙ ap (plain (s .visit)) listed-more;
+            worth = passed;
+            turned = none-waits (s .depth) idle;
+            same =
+                rest-ahead b w (drop (s .j) ss) (s .visit) (s .n) (s .i + 1) _ (m .full) passed some-left
+                (given-ahead (s .kept) (s .i + 1) spare list (m .full) (m .spare-long) (m .long) (m .full-long) room-here late (m .merged)
+                (s .n))
+                ∙ rest-now (s .i + 1) passed passed-same;
+          }
+        where
+          late : s .kept < s .i + 1
+          late = omega arith
+
+          listed-more : take (s .kept) list ++ z ∷ [] ≡ take (s .kept + 1) list
+          listed-more =
+              ap (λ (x : Zone). take (s .kept) list ++ x ∷ []) (hz ∙ ap (λ (x : ℕ). getD list x noZone) there)
+              ∙ sym (take-suc list (s .kept) noZone (omega (arith, m .long)))
+              ∙ ap (λ (n : ℕ). take n list) (sym (add-one (s .kept)))
 
 -- ---- the numbers of refusals
 number-two : (kept : ℕ) → numberC 2 kept ≤ 0 → kept < 32
@@ -422,6 +547,7 @@ module _ (b : Ranges) (w : ℕ) (ss : List Step) (whole : Zones) (list spare : L
         taken = m .taken;
         room = m .room;
         fresh = m .fresh;
+        new = m .new;
         long = m .long;
         spare-long = m .spare-long;
         full = m .full;
@@ -434,6 +560,14 @@ module _ (b : Ranges) (w : ℕ) (ss : List Step) (whole : Zones) (list spare : L
         same = m .same;
       }
 
+  listed-shown : p .halt ≡ 2 → s .kept < 32 → ended .zones ≡ plain (s .visit) (take (s .kept + 1) (set list (s .kept) (p .zone)))
+  listed-shown h k =
+      ap (λ (o : Counted). o .zones) (ended-kept p (m .out) h)
+      ∙ list-plain (s .visit) (take (s .kept) list) (p .zone) (p .tests) (m .out) (m .shown) (omega (arith, size-kept))
+      ∙ ap (plain (s .visit))
+      (sym (take-more (s .kept) list (p .zone) (omega (arith, m .long)))
+      ∙ ap (λ (n : ℕ). take n (set list (s .kept) (p .zone))) (sym (add-one (s .kept))))
+
   pub turn-listed : p .halt ≡ 2 → s .kept < 32
       → Machine b w ss whole (set list (s .kept) (p .zone)) (set spare (s .kept) (getD list (s .kept) noZone)) stack r (listedC s)
   turn-listed h k =
@@ -444,6 +578,7 @@ module _ (b : Ranges) (w : ℕ) (ss : List Step) (whole : Zones) (list spare : L
         taken = m .taken;
         room = omega arith;
         fresh = λ e. absurd (omega arith);
+        new = m .new;
         long = length-set list (s .kept) (p .zone) ∙ m .long;
         spare-long = length-set spare (s .kept) (getD list (s .kept) noZone) ∙ m .spare-long;
         full = m .full;
@@ -452,15 +587,38 @@ module _ (b : Ranges) (w : ℕ) (ss : List Step) (whole : Zones) (list spare : L
             rw (add-one (s .kept))
             (merged-more (s .kept) spare list (m .full) (p .zone) (m .spare-long) (m .long) k (m .merged));
         out = ended;
-        shown =
-            ap (λ (o : Counted). o .zones) (ended-kept p (m .out) h)
-            ∙ list-plain (s .visit) (take (s .kept) list) (p .zone) (p .tests) (m .out) (m .shown) (omega (arith, size-kept))
-            ∙ ap (plain (s .visit))
-            (sym (take-more (s .kept) list (p .zone) (omega (arith, m .long)))
-            ∙ ap (λ (n : ℕ). take n (set list (s .kept) (p .zone))) (sym (add-one (s .kept))));
+        shown = listed-shown h k;
         worth = m .worth;
         turned = ends-turned turn (λ e. absurd (omega arith));
         same = m .same;
+      }
+
+  -- the same where the place was taken up before: nothing is spared
+  pub turn-listed-late : p .halt ≡ 2 → s .kept < 32 → s .kept < s .i
+      → Machine b w ss whole (set list (s .kept) (p .zone)) spare stack r (listedC s)
+  turn-listed-late h k late =
+      record {
+        most = m .most;
+        at = m .at;
+        few = m .few;
+        taken = m .taken;
+        room = omega arith;
+        fresh = λ e. absurd (omega arith);
+        new = m .new;
+        long = length-set list (s .kept) (p .zone) ∙ m .long;
+        spare-long = m .spare-long;
+        full = given (s .kept) (s .i) spare list (m .full) (m .spare-long) (m .long) (m .full-long) k late (m .merged);
+        full-long = given-long (s .kept) (s .i) spare list (m .full) (m .spare-long) (m .long) (m .full-long) k late (m .merged);
+        merged =
+            rw (add-one (s .kept)) (ap (λ (l : List Zone). take (suc (s .kept)) spare ++ l) (drop-set (s .kept) list (p .zone)));
+        out = ended;
+        shown = listed-shown h k;
+        worth = m .worth;
+        turned = ends-turned turn (λ e. absurd (omega arith));
+        same =
+            rest-ahead b w (drop (s .j) ss) (s .visit) (s .n) (s .i) _ (m .full) (m .worth) (omega (arith, length-drop (s .j) ss))
+            (given-ahead (s .kept) (s .i) spare list (m .full) (m .spare-long) (m .long) (m .full-long) k late (m .merged) (s .n))
+            ∙ m .same;
       }
 
   pub split-room : p .halt ≡ 3 → s .depth < 25
@@ -479,6 +637,7 @@ module _ (b : Ranges) (w : ℕ) (ss : List Step) (whole : Zones) (list spare : L
           taken = m .taken;
           room = m .room;
           fresh = m .fresh;
+          new = m .new;
           long = m .long;
           spare-long = m .spare-long;
           full = m .full;
@@ -598,6 +757,9 @@ less-stepped ss stack s st h k = let z = load-none stack in omega arith
 pub less-loaded : (ss : List Step) (stack : List Part) (s : Pass) (p : Part) → length stack ≡ 25 → s .i < s .n
     → left ss (set stack 0 p) (loadedC s) < left ss stack s
 less-loaded ss stack s p l h = let o = load-one stack p (omega (arith, l)) in omega arith
+
+pub less-passed : (ss : List Step) (stack : List Part) (s : Pass) → s .i < s .n → left ss stack (passedC s) < left ss stack s
+less-passed ss stack s h = omega arith
 
 pub less-ended : (ss : List Step) (stack : List Part) (s : Pass) (k : ℕ) → 0 < s .depth
     → left ss stack (record { j = s .j; n = s .n; i = s .i; kept = k; depth = s .depth - 1; visit = s .visit }) < left ss stack s

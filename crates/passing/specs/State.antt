@@ -23,6 +23,9 @@ droppedC s = record { j = s .j; n = s .n; i = s .i; kept = s .kept; depth = s .d
 abbrev pub loadedC : Pass → Pass
 loadedC s = record { j = s .j; n = s .n; i = s .i + 1; kept = s .kept; depth = 1; visit = s .visit }
 
+abbrev pub passedC : Pass → Pass
+passedC s = record { j = s .j; n = s .n; i = s .i + 1; kept = s .kept + 1; depth = s .depth; visit = s .visit }
+
 abbrev pub steppedC : Pass → Step → Pass
 steppedC s st =
     record { j = s .j + 1; n = s .kept; i = 0; kept = 0; depth = 0; visit = cond (ltb 1 (st .kind)) (st .visit) (s .visit) }

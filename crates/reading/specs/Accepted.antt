@@ -12,7 +12,7 @@ use Rattle.contents.specs.declared.Contents.{Contents}
 use Rattle.cursor.specs.Cursor.{advanced}
 use Rattle.contents.specs.Contents.{sized, mostParameters, contentsOf}
 use Rattle.expr.specs.Records.{PARAMETERS, rangeList}
-use Rattle.search.specs.Valuations.{widths}
+use Rattle.valuations.specs.Valuations.{widths}
 use Rattle.sheet.specs.declared.Sheet.{Sheet}
 use Rattle.reading.specs.declared.SheetAt.{SheetAt}
 use Rattle.reading.specs.declared.Reading.{Reading}

@@ -8,7 +8,7 @@ use lib.ListN.{set, take, replicate}
 use lib.IntN.{pos, negsuc}
 use Rattle.integer.specs.Parts.{p}
 use Rattle.expr.specs.Records.{blankRange, four}
-use Rattle.search.specs.Valuations.{width, widths}
+use Rattle.valuations.specs.Valuations.{width, widths}
 use Rattle.answers.specs.Numbers.{numbered}
 use Rattle.cursor.specs.Cursor.{shifted, signedOf, judged, byteTaken, wordTaken, signedTaken, byteField, belowField, wordField}
 use Rattle.cursor.specs.Cursor.{signedField, finished, iterate}

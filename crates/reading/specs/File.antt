@@ -19,7 +19,7 @@ use Rattle.expr.specs.Records.{rangeList, zeroRanges}
 use Rattle.parameters.specs.Parameters.{parametersAt}
 use Rattle.automaton.specs.Automaton.{locationsAt, transitionsAt, blankLocations, blankTransitions}
 use Rattle.route.specs.Route.{routeAt, linksOf}
-use Rattle.search.specs.Valuations.{widths}
+use Rattle.valuations.specs.Valuations.{widths}
 use Rattle.sheet.specs.WellFormed.{MOST_VALUATIONS}
 
 -- a sheet with nothing but zeros

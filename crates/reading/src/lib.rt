@@ -1,16 +1,11 @@
-// The sheet file (paper 01, "The sheet file") read whole: `read` gives the sheet by value, or why the file is refused, with the place;
-// `indexed` gives the file's index in place of the sheet.
+// The sheet file (paper 01, "The sheet file") read whole: `read` gives the sheet by value, or why the file is refused, with the place.
 //
 // Every function is total, and its contract is an equation with a definition of specs/File.
-mod kept;
-
-pub use kept::Indexing;
-pub use kept::indexed;
 ghost use mathlib.Core.Path.{_≡_};
 ghost use Rattle.reading.specs.File.{blankSheet, bodiesOf, judgedRoute, judgedWidths, judgedBodies, readOf, readAs};
 ghost use lib.Dec.{leb};
 ghost use Rattle.expr.specs.Records.{rangeList};
-ghost use Rattle.search.specs.Valuations.{widths};
+ghost use Rattle.valuations.specs.Valuations.{widths};
 ghost use Rattle.sheet.specs.WellFormed.{MOST_VALUATIONS};
 ghost use Rattle.answers.specs.Numbers.{refusalAs};
 use answers::file::Checked;
@@ -113,11 +108,11 @@ fn judged_route(third: u32, sheet: Sheet) -> Reading
 }
 
 // Whether the ranges have at most 262,144 valuations.
-pub(crate) fn few_valuations(b: Ranges) -> bool
+pub fn few_valuations(b: Ranges) -> bool
     ensures { λ r. ⌜ r ≡ leb (widths (rangeList b)) MOST_VALUATIONS ⌝ }
 {
     let none = [0i32; 1];
-    search::count(b, &none, 0) <= 262144
+    counting::count(b, &none, 0) <= 262144
 }
 
 // The reading of a file whose body 4 starts at `third`: its fields are right, its ranges and then its route are judged.

@@ -11,7 +11,7 @@ use Rattle.expr.specs.Records.{PARAMETERS}
 use Rattle.expr.specs.declared.number.Valuation.{Valuation}
 use Rattle.expr.specs.declared.range.Range.{Range}
 use Rattle.expr.specs.declared.range.Ranges.{Ranges}
-use Rattle.search.specs.declared.search.Solution.{Solution}
+use Rattle.first_met.specs.declared.search.Solution.{Solution}
 use Rattle.search_c.specs.Answer.{numberOf}
 use Rattle.search_c.specs.Input.{numberAt, rangeAt}
 

@@ -7,7 +7,7 @@ use Rattle.expr.specs.Affine.{Affine}
 use Rattle.expr.specs.Records.{PARAMETERS}
 use Rattle.expr.specs.declared.range.Range.{Range}
 use Rattle.expr.specs.declared.range.Ranges.{Ranges}
-use Rattle.search.specs.System.{exprsIn}
+use Rattle.inequalities.specs.Flat.{exprsIn}
 
 -- the number at i
 abbrev pub numberAt : List ℤ → ℕ → ℤ

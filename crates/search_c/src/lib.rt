@@ -9,8 +9,9 @@ use search::Solution;
 ghost use mathlib.Core.Path.{_≡_};
 ghost use Prim.Native.Nat.{_<_, min};
 ghost use Rattle.expr.specs.Records.{rangeList, valuationOf};
-ghost use Rattle.search.specs.System.{solutionOf, isSome};
-ghost use Rattle.search.specs.Valuations.{first, count};
+ghost use Rattle.first_met.specs.Solutions.{solutionOf};
+ghost use Rattle.search.specs.Answers.{isSome};
+ghost use Rattle.valuations.specs.Valuations.{first, count};
 ghost use Rattle.search_c.specs.Input.{numberAt, rangeAt, rangesOf, exprsOf};
 ghost use Rattle.search_c.specs.Answer.{numberOf};
 
@@ -104,7 +105,7 @@ pub extern "C" fn search_count(ranges: &[i16], inequalities: &[i32]) -> usize
         ≡ min (count (rangeList (rangesOf (now (ranges .entry)))) (exprsOf (now (inequalities .entry))))
         18446744073709551615 ⌝ }
 {
-    search::count(ranges_of(ranges), inequalities, inequalities.len() / 5)
+    counting::count(ranges_of(ranges), inequalities, inequalities.len() / 5)
 }
 
 // Whether some valuation meets the inequalities; the guess is tried before a search.

@@ -8,7 +8,7 @@ use Rattle.cursor_laws.specs.Right.{Filled}
 use Rattle.contents.specs.Contents.{mostParameters}
 use Rattle.expr.specs.Records.{rangeList}
 use Rattle.parameters.specs.Right.{RangesRight}
-use Rattle.search.specs.Valuations.{widths}
+use Rattle.valuations.specs.Valuations.{widths}
 use Rattle.automaton.specs.Automaton.{noLocation, blankLocation, noTransition, blankTransition}
 use Rattle.automaton.specs.Right.{LocationRight, TransitionRight}
 use Rattle.route.specs.Route.{arrivedAt}

@@ -26,8 +26,8 @@ use Rattle.expr.specs.declared.number.Expr.{Expr}
 use Rattle.expr.specs.declared.range.Range.{Range}
 use Rattle.guards.specs.Right.{ExprRight, GuardRight}
 use Rattle.guards.specs.declared.Guard.{Guard}
-use Rattle.search.specs.SearchLaws.{first-sound, first-inside}
-use Rattle.search.specs.Valuations.{satisfies}
+use Rattle.valuations.specs.SearchLaws.{first-sound, first-inside}
+use Rattle.valuations.specs.Valuations.{satisfies}
 use Rattle.sheet.specs.WellFormed.{WellFormed}
 use Rattle.sheet.specs.declared.Sheet.{Sheet}
 use Rattle.timed.specs.Lists.{AllOf}

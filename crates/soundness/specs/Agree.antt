@@ -12,7 +12,7 @@ use Rattle.dbm.specs.Matrix.{Matrix, start, Outcome, void, kept}
 use Rattle.expr.specs.Ranges.{Inside}
 use Rattle.weight.specs.Upper.{Upper}
 use Rattle.expr.specs.Records.{rangeList}
-use Rattle.search.specs.Valuations.{satisfies}
+use Rattle.valuations.specs.Valuations.{satisfies}
 use Rattle.expr.specs.declared.range.Range.{Range}
 use Rattle.sheet.specs.declared.Sheet.{Sheet}
 use Rattle.concrete.specs.Walk.{andThen, step, walk, sweepAlong}

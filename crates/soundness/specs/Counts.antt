@@ -2,7 +2,7 @@
 use mathlib.Core.Path.{_≡_}
 use mathlib.Core.List.{List}
 use Prim.Native.Nat.{_+_}
-use Rattle.search.specs.Valuations.{widths, valuations}
+use Rattle.valuations.specs.Valuations.{widths, valuations}
 use Rattle.expr.specs.Records.{rangeList}
 use Rattle.sheet.specs.declared.Sheet.{Sheet}
 use Rattle.sheet.specs.WellFormed.{WellFormed}

@@ -8,8 +8,8 @@ use native.Mathlib.Omega.{arith}
 use lib.IntN.{ℤ}
 use lib.ListN.{length}
 use Rattle.dbm.specs.Matrix.{Outcome, void, kept}
-use Rattle.search.specs.SearchLaws.{valuations-inside, valuations-length}
-use Rattle.search.specs.Valuations.{widths, valuations, satisfies, countIn, count}
+use Rattle.valuations.specs.SearchLaws.{valuations-inside, valuations-length}
+use Rattle.valuations.specs.Valuations.{widths, valuations, satisfies, countIn, count}
 use Rattle.expr.specs.Records.{rangeList}
 use Rattle.expr.specs.declared.range.Range.{Range}
 use Rattle.sheet.specs.declared.Sheet.{Sheet}

@@ -1,8 +1,8 @@
 -- One turn of `run`: the test of a phase, from the entries that the code reads, moves the part on as `forwardC` does.
 use mathlib.Core.Path.{_≡_, refl, sym, ap, subst, _∙_}
 use mathlib.Core.List.{List, map}
-use mathlib.Core.Bool.{Bool, true, false, cond, _&&_}
-use Prim.Native.Nat.{ℕ, zero, suc, _+_, _-_, _≤_, _<_, min}
+use mathlib.Core.Bool.{Bool, true, false, cond, _&&_, true≢false}
+use Prim.Native.Nat.{ℕ, zero, suc, _+_, _-_, _/_, _%_, _≤_, _<_, min}
 use native.Mathlib.Omega.{arith}
 use borrow.Author.Tests.{lt-ltb, le-ltb, ne-eqb, ltb-true, ltb-false}
 use lib.Dec.{ltb, eqb}
@@ -10,7 +10,7 @@ use lib.IntN.{ℤ}
 use lib.ListN.{length, getD, set, take}
 use lib.Seq.{set-getD}
 use Rattle.constrain.specs.RuleLaws.{Few, places-few, readC, read-framed, viaOf, asked-is, via-is}
-use Rattle.constrain.specs.Rules.{tighterC, viaC, askC, placesAt, framedC, viaAt}
+use Rattle.constrain.specs.Rules.{tighterC, viaC, pushTest, askC, placesAt, framedC, viaAt, outsideC}
 use Rattle.constrain.specs.declared.rule.Reads.{Reads}
 use Rattle.constrain.specs.declared.rule.Rule.{Rule}
 use Rattle.expr.specs.Affine.{Affine}
@@ -25,8 +25,9 @@ use Rattle.parts.specs.Parts.{withBounds, standing, putC, pushedC, answeredC, h
 use Rattle.parts.specs.declared.part.Next.{Next}
 use Rattle.parts.specs.declared.part.Part.{Part}
 use Rattle.parts.specs.declared.part.Turn.{Turn}
-use Rattle.search.specs.Boxes.{Narrows}
-use Rattle.search.specs.System.{exprsIn}
+use Rattle.systems.specs.Boxes.{Narrows}
+use Rattle.systems.specs.BoxLaws.{narrows-refl}
+use Rattle.inequalities.specs.Flat.{exprsIn}
 use Rattle.split.specs.Runs.{Going, left, going-starts, goes-on, left-less}
 use Rattle.split.specs.Trees.{Live}
 use Rattle.zones.specs.FlatLaws.{Listing, settled-same, settled-leaves}
@@ -217,17 +218,17 @@ pub record Way (r : Rule) (z : Zone) (c : Ranges) (n : ℕ) (p : Part) (flat : L
   pub going : (b : Ranges) → Narrows (exprsOf z) (rangeList b) (rangeList c) → Going b r p q
   pub early : q .halt < 1 → q .phase < 27
 
-pub way-starts : (b : Ranges) (r : Rule) (c : Ranges) (n : ℕ) (p : Part) (flat : List ℤ) → Live p → length (r .old) ≡ 25
-    → Listing b c (p .zone) n flat → Way r (p .zone) c n p flat p
-way-starts b r c n p flat live m l =
+pub way-starts : (r : Rule) (c : Ranges) (n : ℕ) (p : Part) (flat : List ℤ) → Live p → length (r .old) ≡ 25
+    → n ≡ min (p .zone .count) 24 → length flat ≡ 125 → exprsIn flat n ≡ exprsOf (p .zone) → Way r (p .zone) c n p flat p
+way-starts r c n p flat live m count long same =
     record {
       matrix = m;
-      counted = l .counted;
-      long = l .long;
-      same = l .same;
+      counted = count;
+      long = long;
+      same = same;
       zone = refl;
-      all = b;
-      narrows = l .narrows;
+      all = c;
+      narrows = narrows-refl (exprsOf (p .zone)) (rangeList c);
       going = λ d h. going-starts d r p live;
       early = live .early;
     }
@@ -274,6 +275,70 @@ module _ (r : Rule) (z : Zone) (c : Ranges) (n : ℕ) (p : Part) (flat : List �
       way-less =
           subst (λ (x : Part). left x < left q) (sym (after-is (w .all) (w .narrows)))
           (left-less (w .all) r p q (w .going (w .all) (w .narrows)) h)
+
+-- ---- an entry past the clocks
+outside-none : (r : Rule) (k : ℕ) → outsideC (r .clocks) k ≡ true → askC r k ≡ noTest
+unfolding outsideC askC pushTest
+outside-none r zero o = absurd (true≢false (sym o))
+outside-none r (suc zero) o = absurd (true≢false (sym o))
+outside-none r (suc (suc x)) o = by _ (ltb (r .clocks) (x / 5)) (ltb (r .clocks) (x % 5)) o
+  where
+    by : (u : Test) (s t : Bool) → cond s true t ≡ true → cond s noTest (cond t noTest u) ≡ noTest
+    by u true t h = refl
+    by u false true h = refl
+    by u false false h = absurd (true≢false (sym h))
+
+module _ (r : Rule) (z : Zone) (c : Ranges) (n : ℕ) (p : Part) (flat : List ℤ) (q : Part) (w : Way r z c n p flat q) (h : q .halt < 1)
+    (o : outsideC (r .clocks) (q .phase) ≡ true) (x : Next) (hx : x ≡ afterC (q .phase) 0) where
+  abbrev skipped : Part
+  skipped = record { phase = x .phase; halt = x .halt; tests = q .tests; test = q .test; zone = q .zone }
+
+  few-tests : min (q .tests) 26 + 0 ≡ q .tests
+  few-tests = let g = w .going (w .all) (w .narrows) in omega (arith, g .counted h, g .early h)
+
+  abbrev into-now : ℕ
+  into-now = placesAt (r .left) (r .right) (q .phase) .into
+
+  skipped-is : turned into-now q noTest (viaOf r (w .matrix) (q .phase)) 0 ≡ skipped
+  unfolding turned turnC entersC
+  skipped-is =
+      rw (few-tests, hx)
+      (ap
+      (λ (e : Bound).
+      record {
+        phase = afterC (q .phase) 0 .phase;
+        halt = afterC (q .phase) 0 .halt;
+        tests = q .tests;
+        test = q .test;
+        zone = withBounds (q .zone) (set (q .zone .bounds) into-now e);
+      })
+      (never _ _ (ltb 1 (q .phase)))
+      ∙ ap (λ (y : Part). standing y (afterC (q .phase) 0 .phase) (afterC (q .phase) 0 .halt)) (same-zone q into-now))
+    where
+      never : (a e : Bound) (s : Bool) → cond (s && false) a e ≡ e
+      never a e true = refl
+      never a e false = refl
+
+  none-settled : 0 ≡ settledF c flat n noTest
+  unfolding settledF
+  none-settled = refl
+
+  none-left : flat ≡ settledLeaves c flat n noTest
+  unfolding settledLeaves
+  none-left = refl
+
+  asked : noTest ≡ askC r (q .phase)
+  asked = sym (outside-none r (q .phase) o)
+
+  pub way-skips : Way r z c n p flat skipped
+  way-skips =
+      subst (Way r z c n p flat) skipped-is
+      (way-turn r z c n p flat q w h noTest asked 0 none-settled (viaOf r (w .matrix) (q .phase)) refl flat none-left)
+
+  pub skip-less : left skipped < left q
+  skip-less =
+      subst (λ (y : Part). left y < left q) skipped-is
+      (way-less r z c n p flat q w h noTest asked 0 none-settled (viaOf r (w .matrix) (q .phase)) refl)
 
 -- ---- the code's turn, call by call
 -- a part from the code's numbers

@@ -55,7 +55,9 @@ fn cut_zone(b: Ranges, r: Rule, zone: Zone, out: Counted) -> Counted
     while 0 < n {
         let top = n - 1;
         let popped = stack[top];
-        let p = run(b, r, popped);
+        let here = popped.zone;
+        let hint = zones::hint_of(b, here);
+        let p = run(hint, r, popped);
         let next = ended(now, p);
         now = next;
         if 0 < now.zones.refusal {

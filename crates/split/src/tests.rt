@@ -1,23 +1,28 @@
 // A part of a zone worked on until it stops: the tests of a guard one after another.
 use constrain::Rule;
-use expr::Ranges;
 use parts::Part;
+use zones::Hint;
 use zones::Zone;
+ghost use mathlib.Core.Path.{_≡_};
+ghost use Rattle.parts.specs.Parts.{withBounds};
+ghost use Rattle.expr.specs.declared.range.Ranges.{Ranges};
+ghost use Rattle.zones.specs.Hinted.{Hinted};
 ghost use Rattle.split.specs.Trees.{Live, Ran};
 
-// The part where it stops.
-pub fn run(b: Ranges, r: Rule, p: Part) -> Part
+// The part where it stops, whatever the ranges are that the hint was made of; an entry past the clocks asks nothing.
+pub fn run(hint: Hint, r: Rule, p: Part) -> Part
     requires { ⌜ Live p ⌝ }
-    ensures { λ q. ⌜ Ran b r p q ⌝ }
+    ensures { λ q. ⌜ ((b : Ranges) → Hinted b (p .zone) hint → Ran b r p q) ⌝ }
+    ensures same { λ q. ⌜ q .zone ≡ withBounds (p .zone) (q .zone .bounds) ⌝ }
 {
     if 0 < p.halt {
         return p;
     }
     let zone = p.zone;
-    let ready = zones::begin(b, zone);
-    let ranges = ready.ranges;
-    let guess = ready.guess;
-    let mut flat = ready.numbers;
+    let list = zones::flat_of(zone);
+    let ranges = hint.ranges;
+    let guess = hint.guess;
+    let mut flat = list.numbers;
     let matrix = r.old;
     let old = constrain::framed_of(matrix);
     let bound = r.bound;
@@ -27,26 +32,32 @@ pub fn run(b: Ranges, r: Rule, p: Part) -> Part
     let mut phase = p.phase;
     let mut halt = p.halt;
     while halt < 1 {
-        let at = constrain::places(r.left, r.right, phase);
-        let f = at.first;
-        let first = old.entries[f];
-        let l = at.last;
-        let last = old.entries[l];
-        let w = at.was;
-        let was = old.entries[w];
-        let via = constrain::via(r.clocks, phase, bound, first, last);
-        let t = via.tighter(was);
-        let kind = zones::settled(ranges, guess, &mut flat, ready.count, t);
-        let x = at.into;
-        let kept = new[x];
-        let next = parts::turned(phase, tests, test, kept, t, via, kind);
-        let entry = next.entry;
-        new[x] = entry;
-        let question = next.test;
-        test = question;
-        tests = next.tests;
-        phase = next.phase;
-        halt = next.halt;
+        if constrain::outside(r.clocks, phase) {
+            let next = parts::after(phase, 0);
+            phase = next.phase;
+            halt = next.halt;
+        } else {
+            let at = constrain::places(r.left, r.right, phase);
+            let f = at.first;
+            let first = old.entries[f];
+            let l = at.last;
+            let last = old.entries[l];
+            let w = at.was;
+            let was = old.entries[w];
+            let via = constrain::via(r.clocks, phase, bound, first, last);
+            let t = via.tighter(was);
+            let kind = zones::settled(ranges, guess, &mut flat, list.count, t);
+            let x = at.into;
+            let kept = new[x];
+            let next = parts::turned(phase, tests, test, kept, t, via, kind);
+            let entry = next.entry;
+            new[x] = entry;
+            let question = next.test;
+            test = question;
+            tests = next.tests;
+            phase = next.phase;
+            halt = next.halt;
+        }
     }
     let ineqs = zone.ineqs;
     let left = Zone {

@@ -27,10 +27,10 @@ use Rattle.expr.specs.declared.number.Valuation.{Valuation}
 use Rattle.integer.specs.Split.{split, split-all}
 use Rattle.sheet.specs.declared.Sheet.{Sheet}
 use Rattle.index.specs.SheetIn.{sheetIn}
-use Rattle.reading.specs.declared.kept.Indexing.{Indexing}
+use Rattle.indexing.specs.declared.Indexing.{Indexing}
 use Rattle.reading.specs.File.{Read, readOf}
-use Rattle.reading.specs.Indexed.{indexedAs}
-use Rattle.reading.specs.IndexedLaws.{indexing-well-formed}
+use Rattle.indexing.specs.Indexed.{indexedAs}
+use Rattle.indexing.specs.IndexedLaws.{indexing-well-formed}
 use Rattle.sweep.specs.Faithful.{sheet-faithful}
 use Rattle.sweep.specs.Reply.{SweepReply, blankReply, inRange, outside, orOutside, sheetReply, readReply, replyOf}
 use Rattle.sweep.specs.TableReply.{placedBy, placedOf, sweptTable, sheetTable}

@@ -17,7 +17,7 @@ ghost use Rattle.sweep.specs.Reply.{replyAs, replyOf};
 pub fn sweep(file: &[u8], numbers: Numbers) -> Reply
     ensures { λ x. ⌜ replyAs x ≡ replyOf (now (file .entry)) (four (numbers .list)) ⌝ }
 {
-    let reading = reading::indexed(file);
+    let reading = indexing::indexed(file);
     let checked = reading.checked;
     let ix = reading.index;
     match checked {

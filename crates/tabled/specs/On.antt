@@ -3,8 +3,8 @@ use mathlib.Core.List.{List, _++_}
 use Prim.Native.Nat.{ℕ}
 use lib.ListN.{drop}
 use Rattle.windows_reply.specs.Reply.{Answered, answeredAs, answeredOf, replyOf}
-use Rattle.windows.specs.Pieces.{tableOf}
-use Rattle.windows.specs.declared.table.Piece.{Piece}
+use Rattle.pieces.specs.Pieces.{tableOf}
+use Rattle.pieces.specs.declared.Piece.{Piece}
 use Rattle.tabled.specs.declared.Reply.{Reply}
 
 pub record Tabled : Type 0 where

@@ -31,11 +31,11 @@ fn guards_of(
     while k < n {
         let g = guards[k];
         let bound = g.bound;
-        let e = bound.at(v);
+        let e = values::bound_at(bound, v);
         let i = numbers::at_most(g.left as usize, 4);
         let j = numbers::at_most(g.right as usize, 4);
         if weight_matrix::changes(now[0][0], now[j][i], now[i][j], e) {
-            let next = weight_matrix::guarded(now, clocks, g.left as usize, g.right as usize, e);
+            let next = weight_guard::guarded(now, clocks, g.left as usize, g.right as usize, e);
             now = next;
         }
         k += 1;

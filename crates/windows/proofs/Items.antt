@@ -4,33 +4,15 @@ use mathlib.Core.Path.{_≡_, refl, sym, _∙_, ap, subst}
 use Prim.Native.Nat.{ℕ, zero, suc, _+_, _≤_, _<_, _%_, min}
 use native.Mathlib.Nat.{not-suc-le-zero, le-of-suc-le-suc, le-refl, add-zero, add-suc, le-of-lt, mod-eq-of-lt}
 use native.Mathlib.Omega.{arith}
-use borrow.Author.Tests.{lt-ltb, le-ltb, ltb-true}
+use borrow.Author.Tests.{ltb-true}
 use lib.Dec.{ltb}
 use lib.ListN.{length, getD, set, drop, length-set, drop-of-length-le}
 use mathlib.Core.Bool.{Bool, true, false, cond}
-use Rattle.expr.specs.declared.number.Valuation.{Valuation}
-use Rattle.expr.specs.declared.range.Ranges.{Ranges}
 use Rattle.windows_reply.specs.declared.Worked.{Worked}
 use Rattle.zones.specs.Zone.{blankZone}
-use Rattle.zones.specs.declared.zone.Zone.{Zone}
-use Rattle.windows.specs.declared.table.Piece.{Piece}
-use Rattle.windows.specs.Pieces.{blankPiece}
-use Rattle.windows.specs.Table.{pieceIn, itemFor, itemOf, itemsOf, items-length}
-
--- a piece with the first valuation that its zone holds
-pub piece-with : (b : Ranges) (z : Zone) (v : Valuation) → v ≡ pieceIn b z .first
-    → record { used = true; first = v; count = z .count; ineqs = z .ineqs; bounds = z .bounds } ≡ pieceIn b z
-piece-with b z v e = ap (λ (x : Valuation). record { used = true; first = x; count = z .count; ineqs = z .ineqs; bounds = z .bounds }) e
-
--- the two cases of an item
-module _ (b : Ranges) (pieces n i : ℕ) (z : Zone) where
-  pub item-in : (p : Piece) → n ≡ min pieces 32 → i < n → p ≡ pieceIn b z → p ≡ itemFor b pieces i z
-  unfolding itemFor
-  item-in p e h k = rw (lt-ltb i (min pieces 32) (omega arith)) k
-
-  pub item-past : n ≡ min pieces 32 → n ≤ i → blankPiece ≡ itemFor b pieces i z
-  unfolding itemFor
-  item-past e h = rw (le-ltb i (min pieces 32) (omega arith)) refl
+use Rattle.pieces.specs.declared.Piece.{Piece}
+use Rattle.pieces.specs.Pieces.{blankPiece}
+use Rattle.pieces.specs.Table.{pieceIn, itemFor, itemOf, itemsOf, items-length}
 
 -- places that have a piece are among the first 32, and the zone at a place further on is not used
 pub item-at : (work : Worked) (i : ℕ)

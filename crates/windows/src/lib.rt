@@ -1,14 +1,15 @@
 // Windows: the ranges of a sheet's parameters (paper: allowances) cut into zones (paper: pieces), listed in a table that the caller lends.
 //
-// The contract of `windows` is an equation with `replyOf` and `tableOf` of specs/Reply, for every file and every table.
+// The contract of `windows` is an equation with `replyOf` of windows_reply/specs/Reply and `tableOf` of pieces/specs/Pieces, for every
+// file and every table.
 mod table;
 
 use answers::windows::Answer;
-pub use table::Piece;
+pub use pieces::Piece;
 ghost use mathlib.Core.Path.{_≡_};
 ghost use lib.ListN.{length};
 ghost use Rattle.windows_reply.specs.Reply.{answeredAs, answeredOf, replyOf};
-ghost use Rattle.windows.specs.Pieces.{tableOf};
+ghost use Rattle.pieces.specs.Pieces.{tableOf};
 
 // What Windows answers to a sheet file; the table has the pieces in order, the rest of it blank, and with a refusal it is all blank.
 pub fn windows(file: &[u8], table: &mut [Piece]) -> Answer

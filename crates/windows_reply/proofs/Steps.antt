@@ -1,12 +1,10 @@
 -- The cases of the code's steps, with the branches' tests, and the turns of its loops.
 use mathlib.Core.Path.{_≡_, refl, sym, ap, subst, _∙_}
 use mathlib.Core.List.{List, [], _∷_, map}
-use Prim.Native.Nat.{ℕ, suc, _+_, _-_, _≤_, _<_, min}
-use native.Mathlib.Numerals.{add-one}
+use Prim.Native.Nat.{ℕ, _+_, _-_, _≤_, _<_, min}
 use native.Mathlib.Omega.{arith}
 use borrow.Author.Tests.{lt-ltb, le-ltb, eq-eqb, ne-eqb}
-use lib.ListN.{length, getD, take, drop, length-take, drop-of-length-le}
-use lib.Seq.{drop-cons, getD-take}
+use lib.ListN.{take}
 use Rattle.answers.specs.Numbers.{numbered, checkedAs, refusalAs}
 use Rattle.answers.specs.declared.file.Checked.{Checked}
 use Rattle.answers.specs.declared.file.Checked.the-variants as checked
@@ -15,13 +13,13 @@ use Rattle.answers.specs.declared.file.Refusal.the-variants.{Size, Contents, Bo
 use Rattle.answers.specs.declared.windows.Answer.{Answer}
 use Rattle.answers.specs.declared.windows.Answer.the-variants as answer
 use Rattle.coded.specs.Records.{zonesIn}
-use Rattle.search.specs.SearchLaws.{count-few}
-use Rattle.search.specs.Valuations.{widths, count}
+use Rattle.valuations.specs.SearchLaws.{count-few}
+use Rattle.valuations.specs.Valuations.{widths, count}
 use Rattle.expr.specs.Records.{affine, rangeList}
 use Rattle.expr.specs.declared.range.Ranges.{Ranges}
 use Rattle.index.specs.SheetIn.{sheetIn}
 use Rattle.reading.specs.declared.Reading.{Reading}
-use Rattle.reading.specs.declared.kept.Indexing.{Indexing}
+use Rattle.indexing.specs.declared.Indexing.{Indexing}
 use Rattle.sheet.specs.declared.Sheet.{Sheet}
 use Rattle.reading.specs.File.{Fine, Read, readAs, readOf}
 use Rattle.reading.specs.Accepted.{reading-well-formed}
@@ -29,12 +27,9 @@ use Rattle.sheet.specs.WellFormed.{WellFormed}
 use Rattle.windows_reply.specs.Reply.{sheetReply, readReply, replyOf}
 use Rattle.windows_reply.specs.Work.{shownOf, blankShown, refusedBy, listedC}
 use Rattle.coded.specs.CodedRead.{keptC}
+use Rattle.kept.specs.Stacks.{heldIn}
 use Rattle.zones.specs.declared.zone.Zone.{Zone}
 use Rattle.zones.specs.declared.zone.Zones.{Zones}
-
--- ---- lists
-pub size-is : {A : Type 0} (n k most : ℕ) (xs : List A) → n ≡ min k most → length xs ≡ most → (n ≤ most) × (n ≡ length (take k xs))
-size-is n k most xs e l = (omega arith, rw (length-take k xs, l) e)
 
 -- ---- the reply
 pub seven : (n visit : ℕ) → n ≡ 7 → answer.Zones visit ≡ refusedBy n visit
@@ -43,44 +38,17 @@ seven n visit h = rw (eq-eqb n 7 h) refl
 pub eight : (n visit : ℕ) → (n ≡ 7 → ⊥) → answer.Inequalities visit ≡ refusedBy n visit
 eight n visit h = rw (ne-eqb n 7 h) refl
 
-kept-none : (b : Ranges) → keptC b [] ≡ 0
-unfolding keptC
-kept-none b = refl
-
-module _ (b : Ranges) (xs : List Zone) (k : ℕ) where
-  kept-cons : (l : List Zone) (z : Zone) (rest : List Zone) → l ≡ z ∷ rest → keptC b l
-      ≡ count (rangeList b) (map affine (take (z .count) (z .ineqs))) + keptC b rest
-  unfolding keptC
-  kept-cons l z rest h = rw h refl
-
-  pub kept-turn : (i total held : ℕ) (d : Zone) → i < length (take k xs) → total + keptC b (drop i (take k xs)) ≡ keptC b (take k xs)
-      → held ≡ count (rangeList b) (map affine (take (getD xs i d .count) (getD xs i d .ineqs)))
-      → total + held + keptC b (drop (i + 1) (take k xs)) ≡ keptC b (take k xs)
-  kept-turn i total held d h e f =
-      let few : i < k = omega (arith, length-take k xs) in
-      let here = kept-cons (drop i (take k xs)) (getD (take k xs) i d) (drop (suc i) (take k xs)) (drop-cons (take k xs) i d h) in
-      let same : count (rangeList b) (map affine (take (getD (take k xs) i d .count) (getD (take k xs) i d .ineqs))) ≡ held =
-      rw (getD-take k xs i d few) (sym f) in
-      rw (add-one i) (omega (arith, e, here, same))
-
-  pub kept-done : (i total : ℕ) → length (take k xs) ≤ i → total + keptC b (drop i (take k xs)) ≡ keptC b (take k xs) → total
-      ≡ keptC b (take k xs)
-  kept-done i total h e =
-      let z : keptC b (drop i (take k xs)) ≡ 0 = rw (drop-of-length-le (take k xs) h) (kept-none b) in
-      omega arith
-
--- what is read past the zones' end
-abbrev pub noZone : Zone
-noZone = record { count = 0; ineqs = []; bounds = [] }
+-- the zones' valuations, as `kept` counts them
+pub kept-is : (b : Ranges) (zs : List Zone) → heldIn b zs ≡ keptC b zs
+unfolding heldIn keptC
+kept-is b [] = refl
+kept-is b (z ∷ zs) = ap (λ (n : ℕ). count (rangeList b) (map affine (take (z .count) (z .ineqs))) + n) (kept-is b zs)
 
 -- what a zone holds, where the ranges have few valuations
 module _ (b : Ranges) (z : Zone) (n : ℕ) (e : n ≡ min (count (rangeList b) (map affine (take (z .count) (z .ineqs)))) 18446744073709551615)
     (h : widths (rangeList b) ≤ 262144) where
   pub held-is : n ≡ count (rangeList b) (map affine (take (z .count) (z .ineqs)))
   held-is = let k = count-few (rangeList b) (map affine (take (z .count) (z .ineqs))) in omega arith
-
-  pub held-few : n ≤ 262144
-  held-few = let k = count-few (rangeList b) (map affine (take (z .count) (z .ineqs))) in omega arith
 
 module _ (b : Ranges) (zs : Zones) where
   pub listed-refused : (a : Answer) → 0 < zs .refusal → a ≡ refusedBy (zs .refusal) (zs .visit) → blankShown a ≡ listedC b zs

@@ -5,7 +5,7 @@ use Prim.Native.Nat.{ℕ}
 use borrow.Author.Tests.{lt-ltb}
 use Rattle.cutting.specs.Cutting.{Listing, listed, refused, zonesOf, SevenOrEight}
 use Rattle.cutting.specs.NumberedProof.{some-number, zones-numbered}
-use Rattle.search.specs.SearchLaws.{count-all}
+use Rattle.valuations.specs.SearchLaws.{count-all}
 use Rattle.expr.specs.Records.{rangeList}
 use Rattle.sheet.specs.declared.Sheet.{Sheet}
 use Rattle.sheet.specs.WellFormed.{WellFormed}
@@ -15,7 +15,7 @@ use Rattle.windows_reply.specs.Work.{shownOf, refusedBy, listedC}
 use Rattle.coded.specs.Records.{coded, zonesIn}
 use Rattle.coded.specs.CodedRead.{kept-in}
 use Rattle.coded.specs.CodedWalk.{zones-coded}
-use Rattle.windows_route.specs.Walked.{zonesAll}
+use Rattle.segments.specs.Walked.{zonesAll}
 use Rattle.zones.specs.declared.zone.Zones.{Zones}
 
 -- ---- the reply

@@ -13,7 +13,7 @@ use Rattle.coded.specs.Records.{zonesIn}
 use Rattle.coded.specs.CodedRead.{keptC}
 use Rattle.expr.specs.Records.{rangeList, zeroRanges}
 use Rattle.expr.specs.declared.range.Ranges.{Ranges}
-use Rattle.search.specs.Valuations.{count}
+use Rattle.valuations.specs.Valuations.{count}
 use Rattle.windows_reply.specs.Reply.{WindowsReply}
 use Rattle.windows_reply.specs.declared.Worked.{Worked}
 use Rattle.zones.specs.Zone.{blankZone}

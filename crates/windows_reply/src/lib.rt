@@ -8,14 +8,12 @@ use zones::Zone;
 use zones::Zones;
 ghost use mathlib.Core.Path.{_≡_};
 ghost use Prim.Native.Nat.{_≤_};
-ghost use lib.ListN.{take};
-ghost use Rattle.search.specs.Valuations.{widths};
+ghost use Rattle.valuations.specs.Valuations.{widths};
 ghost use Rattle.expr.specs.Records.{rangeList};
 ghost use Rattle.index.specs.SheetIn.{sheetIn};
 ghost use Rattle.sheet.specs.WellFormed.{WellFormed};
 ghost use Rattle.windows_reply.specs.Reply.{sheetReply, replyOf};
 ghost use Rattle.windows_reply.specs.Work.{shown, shownOf, blankShown, refusedBy, listedC};
-ghost use Rattle.coded.specs.CodedRead.{keptC};
 
 // What is worked out: the answer, the ranges that were cut, how many pieces, and their zones in order, blank past them.
 pub struct Worked {
@@ -47,22 +45,6 @@ fn refused(number: usize, visit: usize) -> Answer
     Answer::Inequalities(visit)
 }
 
-// How many valuations the zones hold.
-fn kept(b: Ranges, zones: Zones) -> usize
-    requires { ⌜ widths (rangeList b) ≤ 262144 ⌝ }
-    ensures { λ n. ⌜ n ≡ keptC b (take (zones .count) (zones .list)) ⌝ }
-{
-    let n = numbers::at_most(zones.count, 32);
-    let mut total = 0;
-    let mut i = 0;
-    while i < n {
-        let z = zones.list[i];
-        total += zones::held(b, z);
-        i += 1;
-    }
-    total
-}
-
 // The reply for the zones that a route leaves, or for their refusal.
 fn listed(b: Ranges, zones: Zones) -> Worked
     requires { ⌜ widths (rangeList b) ≤ 262144 ⌝ }
@@ -71,7 +53,7 @@ fn listed(b: Ranges, zones: Zones) -> Worked
     if 0 < zones.refusal {
         return blank(refused(zones.refusal, zones.visit));
     }
-    let kept = kept(b, zones);
+    let kept = kept::kept(b, zones);
     let all = zones::held(b, Zone::BLANK);
     let list = zones.list;
     Worked {
@@ -102,7 +84,7 @@ pub fn work_for(file: &[u8], places: usize) -> Worked
     if places < 32 {
         return blank(Answer::Small);
     }
-    let reading = reading::indexed(file);
+    let reading = indexing::indexed(file);
     let checked = reading.checked;
     let ix = reading.index;
     match checked {

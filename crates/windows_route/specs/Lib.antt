@@ -1,4 +1,4 @@
--- Walked has the whole route, on the code's records; Lists the steps of a stay and of a transition; Blanks what stands behind the zones.
+-- Walking says where the walk stands, and what it comes to; Known what is known of the zones on its way; Blanks what stands behind them.
 pub mod Blanks
-pub mod Lists
-pub mod Walked
+pub mod Known
+pub mod Walking

@@ -15,12 +15,14 @@ use lib.ListN.{length, getD, set, take, replicate}
 use lib.Seq.{take-all, take-suc}
 use Rattle.expr.specs.Affine.{Affine, value, dot}
 use Rattle.expr.specs.Records.{PARAMETERS, affine, noExpr, rangeList, valuationOf, zeroExpr}
-use Rattle.search.specs.SearchLaws.{first-same, count-same}
-use Rattle.search.specs.System.{exprsIn, isSome, solutionOf}
-use Rattle.search.specs.Valuations.{first, numbersIn, satisfies, count, valuations}
+use Rattle.valuations.specs.SearchLaws.{first-same, count-same}
+use Rattle.inequalities.specs.Flat.{exprsIn}
+use Rattle.first_met.specs.Solutions.{solutionOf}
+use Rattle.search.specs.Answers.{isSome}
+use Rattle.valuations.specs.Valuations.{first, numbersIn, satisfies, count, valuations}
 use Rattle.expr.specs.declared.number.Expr.{Expr}
 use Rattle.expr.specs.declared.range.Ranges.{Ranges}
-use Rattle.search.specs.declared.search.Solution.{Solution}
+use Rattle.first_met.specs.declared.search.Solution.{Solution}
 use Rattle.zones.specs.System.{putIn}
 use Rattle.zones.specs.Put.{written-length, written-next}
 use Rattle.zones.specs.Zone.{plusC, moreC}

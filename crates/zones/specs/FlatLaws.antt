@@ -15,10 +15,10 @@ use Rattle.expr.specs.declared.bound.Asked.the-variants.{Yes, No, Ask}
 use Rattle.expr.specs.declared.bound.Test.{Test}
 use Rattle.expr.specs.declared.number.Expr.{Expr}
 use Rattle.expr.specs.declared.range.Ranges.{Ranges}
-use Rattle.search.specs.Boxes.{Narrows}
-use Rattle.search.specs.BoxLaws.{first-in-narrower, narrows-listed}
-use Rattle.search.specs.System.{exprsIn}
-use Rattle.search.specs.Valuations.{first}
+use Rattle.systems.specs.Boxes.{Narrows}
+use Rattle.systems.specs.BoxLaws.{first-in-narrower, narrows-listed}
+use Rattle.inequalities.specs.Flat.{exprsIn}
+use Rattle.valuations.specs.Valuations.{first}
 use Rattle.zones.specs.Put.{written-keeps, written-length, written-next, map-last}
 use Rattle.zones.specs.Settled.{Verdict, oppositeC, isNone, neverC, onC, settledC, neverF, onF, onLeaves, settledF, settledLeaves}
 use Rattle.zones.specs.System.{putIn}
@@ -95,9 +95,8 @@ module _ (b c : Ranges) (z : Zone) (n : ℕ) where
       by No = h
       by Ask = asked (neverF c l n (t .expr))
 
--- the first list, before any test: its inequalities have narrowed the ranges
-pub listing-starts : (b c : Ranges) (z : Zone) (n : ℕ) (l : List ℤ) → n ≡ min (z .count) 24 → length l ≡ 125
-    → exprsIn l n ≡ map affine (take (z .count) (z .ineqs)) → length (b .list) ≡ PARAMETERS
-    → Narrows (exprsIn l n) (b .list) (c .list) → Listing b c z n l
-listing-starts b c z n l h k s g m =
-    record { counted = h; long = k; same = s; narrows = rw (sym s) (narrows-listed (exprsIn l n) b c g m) }
+-- what a zone's inequalities leave, as a flat list of them says it
+pub narrows-zone : (b c : Ranges) (z : Zone) (n : ℕ) (l : List ℤ) → exprsIn l n ≡ map affine (take (z .count) (z .ineqs))
+    → length (b .list) ≡ PARAMETERS → Narrows (exprsIn l n) (b .list) (c .list)
+    → Narrows (map affine (take (z .count) (z .ineqs))) (rangeList b) (rangeList c)
+narrows-zone b c z n l s g m = rw (sym s) (narrows-listed (exprsIn l n) b c g m)

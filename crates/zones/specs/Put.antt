@@ -11,8 +11,7 @@ use lib.Seq.{getD-set-same, getD-set-other}
 use Rattle.expr.specs.Affine.{Affine}
 use Rattle.expr.specs.Records.{PARAMETERS, placesFrom, four, affine}
 use Rattle.expr.specs.declared.number.Expr.{Expr}
-use Rattle.narrowing.specs.Flat.{exprAt}
-use Rattle.search.specs.System.{exprsFrom}
+use Rattle.inequalities.specs.Flat.{exprAt, exprsFrom}
 use Rattle.zones.specs.System.{putFrom, putIn}
 
 pub put-length : (xs l : List ℤ) (p : ℕ) → length (putFrom l p xs) ≡ length l

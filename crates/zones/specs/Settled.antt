@@ -9,8 +9,8 @@ use lib.IntN.{ℤ}
 use lib.ListN.{take}
 use Rattle.expr.specs.Affine.{opposite, saturatedE}
 use Rattle.expr.specs.Records.{affine, exprOf, rangeList, zeroExpr}
-use Rattle.search.specs.System.{exprsIn}
-use Rattle.search.specs.Valuations.{first}
+use Rattle.inequalities.specs.Flat.{exprsIn}
+use Rattle.valuations.specs.Valuations.{first}
 use Rattle.expr.specs.declared.bound.Asked.{Asked}
 use Rattle.expr.specs.declared.bound.Asked.the-variants.{Yes, No, Ask}
 use Rattle.expr.specs.declared.bound.Test.{Test}

@@ -3,12 +3,14 @@ mod settle;
 mod system;
 mod zone;
 
-pub use settle::Begun;
-pub use settle::begin;
+pub use settle::Hint;
 pub use settle::first_held;
 pub use settle::held;
+pub use settle::hint_of;
 pub use settle::settled;
 pub use settle::with_opposite;
+pub use system::Flat;
+pub use system::flat_of;
 pub use zone::Zone;
 pub use zone::Zones;
 pub use zone::with_inequality;

@@ -12,8 +12,8 @@ ghost use Prim.Native.Nat.{min};
 ghost use mathlib.Core.List.{map};
 ghost use lib.ListN.{take};
 ghost use Rattle.expr.specs.Records.{affine, rangeList, valuationOf};
-ghost use Rattle.search.specs.Valuations.{first, numbersIn, count};
-ghost use Rattle.zones.specs.FlatLaws.{Listing};
+ghost use Rattle.valuations.specs.Valuations.{first, numbersIn, count};
+ghost use Rattle.zones.specs.Hinted.{Hinted};
 ghost use Rattle.zones.specs.Zone.{moreC};
 ghost use Rattle.zones.specs.System.{putIn};
 ghost use Rattle.zones.specs.Settled.{oppositeC, neverF, onF, onLeaves, settledF, settledLeaves};
@@ -23,7 +23,7 @@ pub fn held(b: Ranges, zone: Zone) -> usize
     ensures { λ n. ⌜ n ≡ min (count (rangeList b) (map affine (take (zone .count) (zone .ineqs)))) 18446744073709551615 ⌝ }
 {
     let list = system::flat_of(zone);
-    search::count(b, &list.numbers, list.count)
+    counting::count(b, &list.numbers, list.count)
 }
 
 // The first valuation of the ranges that a zone holds, comparing parameter 1, then 2 and so on, smaller first; zeros if it holds none.
@@ -35,30 +35,29 @@ pub fn first_held(b: Ranges, zone: Zone) -> Valuation
     found.valuation
 }
 
-// A zone before its tests: its inequalities as a flat list with a place behind them, the ranges that they leave, and a valuation that
-// it holds, if there is one.
-pub struct Begun {
-    pub count: usize,
-    pub numbers: [i32; 125],
+// What is known of a zone before its tests: the ranges that its inequalities leave, and a valuation that it holds, if there is one.
+pub struct Hint {
     pub ranges: Ranges,
     pub guess: Valuation,
 }
 
-// The zone made ready for tests.
-pub fn begin(b: Ranges, zone: Zone) -> Begun
-    ensures { λ r. ⌜ Listing b (r .ranges) zone (r .count) (r .numbers) ⌝ }
+impl Hint {
+    // Nothing.
+    pub const NONE: Hint = Hint {
+        ranges: Ranges::ZERO,
+        guess: Valuation::ZERO,
+    };
+}
+
+// What is known of a zone of these ranges.
+pub fn hint_of(b: Ranges, zone: Zone) -> Hint
+    ensures { λ h. ⌜ Hinted b zone h ⌝ }
 {
     let list = system::flat_of(zone);
     let ranges = search::narrowed(b, &list.numbers, list.count);
     let found = search::first(ranges, &list.numbers, list.count);
-    let numbers = list.numbers;
     let guess = found.valuation;
-    Begun {
-        count: list.count,
-        numbers,
-        ranges,
-        guess,
-    }
+    Hint { ranges, guess }
 }
 
 // Whether no valuation of the ranges meets the first n inequalities of the list and e, which is written behind them; the guess is tried

@@ -7,11 +7,11 @@ ghost use mathlib.Core.List.{map};
 ghost use Prim.Native.Nat.{min};
 ghost use lib.ListN.{length, take};
 ghost use Rattle.expr.specs.Records.{affine};
-ghost use Rattle.search.specs.System.{exprsIn};
+ghost use Rattle.inequalities.specs.Flat.{exprsIn};
 ghost use Rattle.zones.specs.System.{putIn};
 
 // The first `count` inequalities of the list, 24 at most; there is room for one more, a test.
-pub(crate) struct Flat {
+pub struct Flat {
     pub count: usize,
     pub numbers: [i32; 125],
 }
@@ -36,7 +36,7 @@ pub(crate) fn put(flat: &mut [i32], k: usize, e: Expr)
 }
 
 // The zone's inequalities, for the search.
-pub(crate) fn flat_of(zone: Zone) -> Flat
+pub fn flat_of(zone: Zone) -> Flat
     ensures { λ r. ⌜ exprsIn (r .numbers) (r .count) ≡ map affine (take (zone .count) (zone .ineqs)) ⌝ }
     ensures counted { λ r. ⌜ r .count ≡ min (zone .count) 24 ⌝ }
 {

@@ -8,9 +8,9 @@ use native.Mathlib.Omega.{arith}
 use lib.Dec.{leb}
 use borrow.Author.Tests.{leb-true, leb-false, le-leb, lt-leb}
 use Rattle.expr.specs.declared.range.Range.{Range}
-use Rattle.search.specs.SearchLaws.{count-all}
-use Rattle.search.specs.Valuations.{count, widths}
-use Rattle.search.specs.System.{exprsFrom}
+use Rattle.valuations.specs.SearchLaws.{count-all}
+use Rattle.valuations.specs.Valuations.{count, widths}
+use Rattle.inequalities.specs.Flat.{exprsFrom}
 use borrow.Author.Needs.{needs}
 use Rattle.reading.proofs.few_valuations.Statement.{statement}
 use Rattle.reading.proofs.few_valuations.Tie as tie

@@ -3,7 +3,7 @@ use mathlib.Core.Path.{ap, _∙_}
 use mir.Syntax.{w64}
 use mir.Val.{SFits}
 use mir.ValLaws.{toZ-ofZ}
-use Rattle.search.specs.declared.search.Solution.{Solution}
+use Rattle.first_met.specs.declared.search.Solution.{Solution}
 use Rattle.search_c.specs.Answer.{numberOf}
 use borrow.Author.Needs.{needs}
 use Rattle.search_c.proofs.search_first.Statement.{statement}

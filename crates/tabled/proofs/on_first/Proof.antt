@@ -51,11 +51,11 @@ use denote.Triple.Spec.{Meets, tripleOf}
 use denote.Triple.Table.{entered, cited}
 use denote.Triple.Walked.{says, needs, Stays, stay-dropped, walkOf, AllGo, goes-dropped, Walks, ends-at, walked, walk-meets}
 use denote.Exit.{yes}
-use Rattle.windows.specs.declared.table.Piece.{Piece}
-use Rattle.windows.proofs.table.Piece as Z
-use Rattle.windows.proofs.table.Piece.Laws as Z′
+use Rattle.pieces.specs.declared.Piece.{Piece}
+use Rattle.pieces.proofs.Piece as Z
+use Rattle.pieces.proofs.Piece.Laws as Z′
 use Rattle.windows_reply.specs.Reply.{Answered, answeredAs, answeredOf, replyOf}
-use Rattle.windows.specs.Pieces.{tableOf}
+use Rattle.pieces.specs.Pieces.{tableOf}
 use Rattle.answers.specs.declared.windows.Answer.{Answer}
 use Rattle.answers.proofs.windows.Answer as N
 use Rattle.answers.proofs.windows.Answer.Laws as N′

@@ -44,11 +44,11 @@ use denote.Triple.Table.{entered, cited}
 use denote.Triple.Walked.{says, Stays, stay-none-slice, gave-slice, walkOf, AllGo, goes-none-slice, goes-gave-slice, Walks, ends-at}
 use denote.Triple.Walked.{walked, walk-meets}
 use denote.Exit.{yes}
-use Rattle.windows.specs.declared.table.Piece.{Piece}
-use Rattle.windows.proofs.table.Piece as Z
+use Rattle.pieces.specs.declared.Piece.{Piece}
+use Rattle.pieces.proofs.Piece as Z
 use Rattle.windows_reply.specs.Reply.{replyOf}
 use Rattle.windows_reply.specs.Work.{shown, shownOf}
-use Rattle.windows.specs.Table.{itemsOf, items-length, work-table, work-answer}
+use Rattle.pieces.specs.Table.{itemsOf, items-length, work-table, work-answer}
 use Rattle.windows_reply.specs.declared.Worked.{Worked}
 use Rattle.answers.proofs.windows.Answer as N
 use Rattle.answers.proofs.windows.Answer.Laws as N′

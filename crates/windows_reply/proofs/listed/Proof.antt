@@ -3,7 +3,7 @@ use borrow.Author.Needs.{needs}
 use Rattle.windows_reply.proofs.listed.Statement.{statement}
 use Rattle.windows_reply.proofs.listed.Tie as tie
 use mathlib.Core.Path.{_∙_}
-use Rattle.windows_reply.proofs.Steps.{held-is, listed-refused, listed-zones}
+use Rattle.windows_reply.proofs.Steps.{held-is, kept-is, listed-refused, listed-zones}
 use Rattle.zones.specs.Zone.{blankZone}
 
 refused-requires : tie.Need-refused-requires
@@ -33,7 +33,7 @@ returns-2 c =
     let tested-1 = at-kept .before in
     let start = tested-1 .before .before in
     listed-zones (start .args .b) (start .args .zones) (at-kept .kept .result) (at-held .held .result) (c .less .result)
-    (tested-1 .if1 .left) (at-kept .kept .ensures)
+    (tested-1 .if1 .left) (at-kept .kept .ensures ∙ kept-is _ _)
     (held-is (start .args .b) blankZone (at-held .held .result) (at-held .held .ensures) (start .pre)) (c .less .ensures)
 
 pub listed-spec : {M : Type 1} → statement M

@@ -1,17 +1,16 @@
 -- The loop's invariant: the sum so far, with the most that the products still to come add, is the most of all.
-use mathlib.Core.Path.{_≡_, refl}
+use mathlib.Core.Path.{_≡_}
 use Prim.Native.Nat.{_+_, _-_, _≤_}
 use native.Mathlib.Omega.{arith}
 use lib.IntN.{pos, _+ℤ_}
 use lib.ListN.{length, getD, length-map}
 use mir.Facts.{sfits-widen}
-use mir.Syntax.{w16, w32, w64}
+use mir.Syntax.{w32, w64}
 use mir.Val.{SFits, toZ, ofZ}
 use mir.ValLaws.{toZ-ofZ}
 use Rattle.integer.specs.Bits.{held, passed}
 use Rattle.integer.specs.Product.{size-fits}
 use Rattle.expr.specs.Records.{PARAMETERS, blankRange}
-use Rattle.narrowing.specs.Interval.{best}
 use Rattle.narrowing.proofs.Terms.{SumTo, Most, sum-start, sum-turn, sum-fits, sum-all}
 use borrow.Author.Needs.{needs}
 use Rattle.narrowing.proofs.boxes.best.Statement.{statement}

@@ -7,10 +7,10 @@ use lib.ListN.{length, getD, length-map}
 use mir.Syntax.{w32, w64}
 use mir.Val.{SFits, toZ, ofZ}
 use mir.ValLaws.{toZ-ofZ}
+use Rattle.integer.specs.Order.{ltZ-true}
 use Rattle.integer.specs.Product.{size-fits}
 use Rattle.expr.specs.Records.{PARAMETERS, affine}
 use Rattle.narrowing.specs.Cut.{Cut}
-use Rattle.narrowing.proofs.Cuts.{is-below}
 use Rattle.narrowing.proofs.Terms.{cut-start, cut-turn, cut-none}
 use borrow.Author.Needs.{needs}
 use Rattle.narrowing.proofs.boxes.cut.Statement.{statement}
@@ -34,7 +34,7 @@ returns c =
     let t = c .before .before in
     let l : length (t .args .t1 .list) ≡ PARAMETERS = simp length-map at (t .good .0 .1 .1 .0 .1 .0 .1) in
     cut-none (t .args .t2) (t .args .t1 .list) (c .before .best .result) l (c .before .best .ensures .0)
-    (is-below _ _ (best-is (c .before)) (c .if1 .taken))
+    (ltZ-true (rw (best-is (c .before)) at (c .if1 .taken)))
 
 loop-holds : tie.Need-loop-holds Inv-loop μ-loop
 loop-holds c = (omega arith, cut-start (c .before .before .args .t2) (c .before .before .args .t1 .list))

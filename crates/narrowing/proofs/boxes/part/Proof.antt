@@ -8,7 +8,8 @@ use mir.Val.{SFits, toZ, ofZ}
 use mir.ValLaws.{toZ-ofZ}
 use Rattle.integer.specs.Bits.{held, passed, op-fits, op-is, op-back}
 use Rattle.integer.specs.Product.{size-fits}
-use Rattle.narrowing.proofs.Terms.{less-fits, more-fits, less-tame, slope-tame, part-all, part-cut}
+use Rattle.intervals.specs.IntervalLaws.{slope-tame}
+use Rattle.narrowing.proofs.Terms.{less-fits, more-fits, less-tame, part-all, part-cut}
 use borrow.Author.Needs.{needs}
 use Rattle.narrowing.proofs.boxes.part.Statement.{statement}
 use Rattle.narrowing.proofs.boxes.part.Tie as tie

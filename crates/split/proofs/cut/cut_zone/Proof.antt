@@ -18,7 +18,7 @@ abbrev μ-loop : tie.MeasureT-loop
 -- the turn that is made when `ended` has returned
 abbrev TurnAt : tie.After-ended Inv-loop μ-loop → Type 0
 TurnAt c =
-    let at-loop = c .before .before .before .before in
+    let at-loop = c .before .before .before .before .before .before in
     let after-start = at-loop .before in
     let a = after-start .before .before .before .args in
     Turn (a .b) (a .r) (at-loop .loop .stack) (at-loop .loop .n) (at-loop .loop .now) (c .ended .result)
@@ -26,11 +26,12 @@ TurnAt c =
 
 turn : (c : tie.After-ended Inv-loop μ-loop) → TurnAt c
 turn c =
-    let in-loop = c .before .before .before in
+    let in-loop = c .before .before .before .before .before in
+    let a = in-loop .before .before .before .before .before .args in
     record {
       top = omega (arith, in-loop .loop-test .taken);
       turned = in-loop .before .loop .inv;
-      ran = c .before .run .ensures;
+      ran = c .before .run .ensures .0 (a .b) (c .before .before .hint-of .ensures);
       ended = c .ended .ensures;
     }
 
@@ -54,9 +55,12 @@ mul-popped c = omega (arith, c .before .loop .inv .few)
 array-copy-out-popped : tie.Need-array-copy-out-popped Inv-loop μ-loop
 array-copy-out-popped c = omega (arith, c .loop-test .taken, c .before .loop .inv .few)
 
+hint-of-requires : tie.Need-hint-of-requires Inv-loop μ-loop
+hint-of-requires c κs = search needs
+
 run-requires : tie.Need-run-requires Inv-loop μ-loop
 run-requires c κs =
-    let in-loop = c .before in
+    let in-loop = c .before .before .before in
     let at-loop = in-loop .before .loop in
     top-live (at-loop .stack) (at-loop .n) (at-loop .n - 1) (omega (arith, in-loop .loop-test .taken)) (at-loop .inv .waiting)
 
@@ -66,7 +70,7 @@ ended-requires c κs = search needs
 returns-2 : tie.Need-returns-2 Inv-loop μ-loop
 returns-2 c =
     let after-ended = c .before .before in
-    let at-loop = after-ended .before .before .before .before in
+    let at-loop = after-ended .before .before .before .before .before .before in
     let after-start = at-loop .before in
     let a = after-start .before .before .before .args in
     refused-turned (turn after-ended) (c .if2 .taken)
@@ -123,7 +127,7 @@ loop-again c =
 loop-less-2 : tie.Need-loop-less-2 Inv-loop μ-loop
 loop-less-2 c =
     let after-ended = c .before .before .before .before in
-    let at-loop = after-ended .before .before .before .before .loop in
+    let at-loop = after-ended .before .before .before .before .before .before .loop in
     ends-less (at-loop .stack) (at-loop .n) (at-loop .n - 1) (turn after-ended .top)
 
 loop-again-2 : tie.Need-loop-again-2 Inv-loop μ-loop
@@ -149,6 +153,7 @@ cut-zone-spec =
     sub-top
     mul-popped
     array-copy-out-popped
+    hint-of-requires
     run-requires
     ended-requires
     returns-2

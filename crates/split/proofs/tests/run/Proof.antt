@@ -1,40 +1,71 @@
 -- The loop's invariant: the part on its way comes to what the first one comes to, and the list has its zone's inequalities.
-use mathlib.Core.Path.{_≡_}
+use mathlib.Core.Path.{_≡_, refl, sym, _∙_}
 use native.Mathlib.Omega.{arith}
 use lib.ListN.{length, length-map}
 use Rattle.split.specs.Runs.{left, going-starts, going-ends}
-use Rattle.split.proofs.Turns.{Way, partOf, way-starts, few-at, run-turn, run-less}
+use Rattle.split.proofs.Turns.{Way, partOf, way-starts, way-skips, skip-less, few-at, run-turn, run-less}
 use borrow.Author.Needs.{needs}
 use Rattle.split.proofs.tests.run.Statement.{statement}
 use Rattle.split.proofs.tests.run.Tie as tie
 
 abbrev Inv-loop : tie.InvT-loop
-Inv-loop r zone ready ranges guess flat₀ old bound new₀ test₀ tests₀ phase₀ halt₀ flat new test tests phase halt =
-    Way r zone ranges (ready .count) (partOf zone new₀ test₀ tests₀ phase₀ halt₀) flat (partOf zone new test tests phase halt)
+Inv-loop r zone list ranges guess flat₀ old bound new₀ test₀ tests₀ phase₀ halt₀ flat new test tests phase halt =
+    Way r zone ranges (list .count) (partOf zone new₀ test₀ tests₀ phase₀ halt₀) flat (partOf zone new test tests phase halt)
 
 abbrev μ-loop : tie.MeasureT-loop
-μ-loop r zone ready ranges guess flat₀ old bound new₀ test₀ tests₀ phase₀ halt₀ flat new test tests phase halt =
+μ-loop r zone list ranges guess flat₀ old bound new₀ test₀ tests₀ phase₀ halt₀ flat new test tests phase halt =
     left (partOf zone new test tests phase halt)
 
 returns : tie.Need-returns Inv-loop μ-loop
 returns c =
     let start = c .before .before in
     let a = start .args in
-    going-ends (a .b) (a .r) (a .p) (a .p) (going-starts (a .b) (a .r) (a .p) (start .pre)) (c .if1 .taken)
+    (λ b h. going-ends b (a .r) (a .p) (a .p) (going-starts b (a .r) (a .p) (start .pre)) (c .if1 .taken), refl)
 
-begin-requires : tie.Need-begin-requires Inv-loop μ-loop
-begin-requires c κs = search needs
+flat-of-requires : tie.Need-flat-of-requires Inv-loop μ-loop
+flat-of-requires c κs = search needs
 
 framed-of-requires : tie.Need-framed-of-requires Inv-loop μ-loop
 framed-of-requires c κs = search needs
 
 loop-holds : tie.Need-loop-holds Inv-loop μ-loop
 loop-holds c =
-    let begun = c .before .before .before .before .before .before .before .before in
-    let start = begun .before .before .before .before in
+    let listed = c .before .before .before .before .before .before .before .before in
+    let start = listed .before .before .before .before in
     let a = start .args in
     let long : length (a .r .old) ≡ 25 = simp length-map at (start .good .1 .0 .1 .1 .1 .1 .1 .1 .0 .1 .0 .1) in
-    way-starts (a .b) (a .r) _ _ (a .p) _ (start .pre) long (begun .begin .ensures)
+    let room : length (listed .flat-of .result .numbers) ≡ 125 = simp length-map at (listed .flat-of .ok .1 .1 .1 .0 .1 .0 .1) in
+    way-starts (a .r) _ _ (a .p) _ (start .pre) long (listed .flat-of .ensures .1) room (listed .flat-of .ensures .0)
+
+outside-requires : tie.Need-outside-requires Inv-loop μ-loop
+outside-requires c κs = search needs
+
+after-requires : tie.Need-after-requires Inv-loop μ-loop
+after-requires c κs = search needs
+
+loop-less : tie.Need-loop-less Inv-loop μ-loop
+loop-less c =
+    let skipped = c in
+    let in-loop = skipped .before .before .before in
+    let at-loop = in-loop .before in
+    let start = at-loop .before .before .before .before .before .before .before .before .before .before .before .before .before in
+    let loop = at-loop .loop in
+    let a = start .args in
+    skip-less (a .r) (a .p .zone) _ _ (a .p) (loop .flat)
+    (partOf (a .p .zone) (loop .new) (loop .test) (loop .tests) (loop .phase) (loop .halt)) (loop .inv) (in-loop .loop-test .taken)
+    (sym (skipped .before .before .outside .ensures) ∙ skipped .before .if2 .taken) (skipped .after .result) (skipped .after .ensures)
+
+loop-again : tie.Need-loop-again Inv-loop μ-loop
+loop-again c =
+    let skipped = c in
+    let in-loop = skipped .before .before .before in
+    let at-loop = in-loop .before in
+    let start = at-loop .before .before .before .before .before .before .before .before .before .before .before .before .before in
+    let loop = at-loop .loop in
+    let a = start .args in
+    way-skips (a .r) (a .p .zone) _ _ (a .p) (loop .flat)
+    (partOf (a .p .zone) (loop .new) (loop .test) (loop .tests) (loop .phase) (loop .halt)) (loop .inv) (in-loop .loop-test .taken)
+    (sym (skipped .before .before .outside .ensures) ∙ skipped .before .if2 .taken) (skipped .after .result) (skipped .after .ensures)
 
 places-requires : tie.Need-places-requires Inv-loop μ-loop
 places-requires c κs = search needs
@@ -94,36 +125,38 @@ array-set-from-new : tie.Need-array-set-from-new Inv-loop μ-loop
 array-set-from-new c = let placed = c .before .before .before .before .before .before .before .before .before .before .before in
     omega (arith, few-at _ _ _ _ (placed .places .ensures) .into)
 
-loop-less : tie.Need-loop-less Inv-loop μ-loop
-loop-less c =
+loop-less-2 : tie.Need-loop-less-2 Inv-loop μ-loop
+loop-less-2 c =
     let moved = c .before .before in
     let asked = moved .before .before .before in
     let compared = asked .before .before in
     let placed = compared .before .before .before .before .before in
-    let at-loop = placed .before .before in
+    let in-loop = placed .before .before .before in
+    let at-loop = in-loop .before in
     let start = at-loop .before .before .before .before .before .before .before .before .before .before .before .before .before in
     let framed = at-loop .before .before .before .before in
     let loop = at-loop .loop in
     let a = start .args in
     run-less (a .r) (a .p .zone) _ _ (a .p) (loop .flat)
-    (partOf (a .p .zone) (loop .new) (loop .test) (loop .tests) (loop .phase) (loop .halt)) (loop .inv) (placed .before .loop-test .taken)
+    (partOf (a .p .zone) (loop .new) (loop .test) (loop .tests) (loop .phase) (loop .halt)) (loop .inv) (in-loop .loop-test .taken)
     (placed .places .result) (placed .places .ensures) (framed .framed-of .result .entries) (framed .framed-of .ensures)
     (compared .before .via .result) (compared .before .via .ensures) (compared .tighter .result) (compared .tighter .ensures)
     (asked .settled .result) (asked .settled .ensures .0) (moved .turned .result) (moved .turned .ensures)
 
-loop-again : tie.Need-loop-again Inv-loop μ-loop
-loop-again c =
+loop-again-2 : tie.Need-loop-again-2 Inv-loop μ-loop
+loop-again-2 c =
     let moved = c .before .before in
     let asked = moved .before .before .before in
     let compared = asked .before .before in
     let placed = compared .before .before .before .before .before in
-    let at-loop = placed .before .before in
+    let in-loop = placed .before .before .before in
+    let at-loop = in-loop .before in
     let start = at-loop .before .before .before .before .before .before .before .before .before .before .before .before .before in
     let framed = at-loop .before .before .before .before in
     let loop = at-loop .loop in
     let a = start .args in
     run-turn (a .r) (a .p .zone) _ _ (a .p) (loop .flat)
-    (partOf (a .p .zone) (loop .new) (loop .test) (loop .tests) (loop .phase) (loop .halt)) (loop .inv) (placed .before .loop-test .taken)
+    (partOf (a .p .zone) (loop .new) (loop .test) (loop .tests) (loop .phase) (loop .halt)) (loop .inv) (in-loop .loop-test .taken)
     (placed .places .result) (placed .places .ensures) (framed .framed-of .result .entries) (framed .framed-of .ensures)
     (compared .before .via .result) (compared .before .via .ensures) (compared .tighter .result) (compared .tighter .ensures)
     (asked .settled .result) (asked .settled .ensures .0) (moved .turned .result) (moved .turned .ensures) _ (asked .settled .ensures .1)
@@ -131,11 +164,12 @@ loop-again c =
 returns-2 : tie.Need-returns-2 Inv-loop μ-loop
 returns-2 c =
     let at-loop = c .before .before in
-    let begun = at-loop .before .before .before .before .before .before .before .before .before in
-    let a = begun .before .before .before .before .args in
-    let loop = at-loop .loop in
-    going-ends (a .b) (a .r) (a .p) (partOf (a .p .zone) (loop .new) (loop .test) (loop .tests) (loop .phase) (loop .halt))
-    (loop .inv .going (a .b) (begun .begin .ensures .narrows)) (c .before .loop-test .left)
+    let a = at-loop .before .before .before .before .before .before .before .before .before .before .before .before .before .args in
+    let loop = at-loop .loop in (
+      λ b h. going-ends b (a .r) (a .p) (partOf (a .p .zone) (loop .new) (loop .test) (loop .tests) (loop .phase) (loop .halt))
+          (loop .inv .going b (h .narrows)) (c .before .loop-test .left),
+      refl,
+    )
 
 pub run-spec : {M : Type 1} → statement M
 run-spec =
@@ -144,9 +178,13 @@ run-spec =
     Inv-loop
     μ-loop
     returns
-    begin-requires
+    flat-of-requires
     framed-of-requires
     loop-holds
+    outside-requires
+    after-requires
+    loop-less
+    loop-again
     places-requires
     mul-first
     element-copy-out-first
@@ -163,6 +201,6 @@ run-spec =
     turned-requires
     mul-new
     array-set-from-new
-    loop-less
-    loop-again
+    loop-less-2
+    loop-again-2
     returns-2)

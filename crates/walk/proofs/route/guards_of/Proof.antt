@@ -36,8 +36,8 @@ mul-g c = omega arith
 array-copy-out-g : tie.Need-array-copy-out-g Inv-loop μ-loop
 array-copy-out-g c = omega arith
 
-at-requires : tie.Need-at-requires Inv-loop μ-loop
-at-requires c κs = search needs
+bound-at-requires : tie.Need-bound-at-requires Inv-loop μ-loop
+bound-at-requires c κs = search needs
 
 cast-at-most : tie.Need-cast-at-most Inv-loop μ-loop
 cast-at-most c = search needs
@@ -112,10 +112,10 @@ loop-again c =
     let g = getD (a .t5) (i .k) noGuard in
     let next : c .if1 .now ≡ guardTable (i .now) (a .clocks) (point (a .v)) g =
     ⊎-elim
-    (λ w. w .4 ∙ guard-made (i .now) (a .clocks) (point (a .v)) g _ (e .at .ensures) _ (w .3 .ensures))
+    (λ w. w .4 ∙ guard-made (i .now) (a .clocks) (point (a .v)) g _ (e .bound-at .ensures) _ (w .3 .ensures))
     (λ w.
     w .1
-    ∙ guard-kept (i .now) (a .clocks) (point (a .v)) g _ (e .at .ensures) _ _ _ (at-i .at-most2 .ensures) (at-j .at-most3 .ensures)
+    ∙ guard-kept (i .now) (a .clocks) (point (a .v)) g _ (e .bound-at .ensures) _ _ _ (at-i .at-most2 .ensures) (at-j .at-most3 .ensures)
     (told .changes .ensures) (w .0 .left))
     (c .if1 .came) in (
       v .0,
@@ -138,7 +138,7 @@ guards-of-spec =
     loop-holds
     mul-g
     array-copy-out-g
-    at-requires
+    bound-at-requires
     cast-at-most
     at-most-requires-2
     cast-at-most-2

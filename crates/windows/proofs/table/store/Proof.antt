@@ -57,11 +57,11 @@ use denote.Triple.Spec.{Meets, tripleOf}
 use denote.Triple.Table.{entered, cited}
 use denote.Triple.Walked.{says, Stays, stay-slice, stay-none, walkOf, AllGo, goes-slice, goes-none, Walks, ends-at, walked, walk-meets}
 use denote.Exit.{yes}
-use Rattle.windows.specs.declared.table.Piece.{Piece}
-use Rattle.windows.specs.Pieces.{blankPiece}
-use Rattle.windows.proofs.table.Piece as Z
-use Rattle.windows.proofs.table.Piece.Laws as Z′
-use Rattle.windows.specs.Table.{itemFor, itemOf, itemsOf, items-length}
+use Rattle.pieces.specs.declared.Piece.{Piece}
+use Rattle.pieces.specs.Pieces.{blankPiece}
+use Rattle.pieces.proofs.Piece as Z
+use Rattle.pieces.proofs.Piece.Laws as Z′
+use Rattle.pieces.specs.Table.{itemFor, itemOf, itemsOf, items-length}
 use Rattle.expr.specs.declared.range.Ranges.{Ranges}
 use Rattle.expr.proofs.range.Ranges as B
 use Rattle.expr.proofs.range.Ranges.Laws as B′
@@ -74,10 +74,10 @@ use Rattle.windows_reply.proofs.Worked as K
 use Rattle.windows_reply.proofs.Worked.Laws as K′
 use Rattle.windows.proofs.Items.{item-at, filled, filled-none, filled-next, filled-all, filled-length}
 use Rattle.windows.proofs.Places as places
-use Rattle.windows.proofs.table.item_for as item
-use Rattle.windows.proofs.table.item_for.Symbol as item-def
-use Rattle.windows.proofs.table.item_for.Symbol.{name as #item-for}
-use Rattle.windows.proofs.table.item_for.Met as item-thm
+use Rattle.pieces.proofs.item_for as item
+use Rattle.pieces.proofs.item_for.Symbol as item-def
+use Rattle.pieces.proofs.item_for.Symbol.{name as #item-for}
+use Rattle.pieces.proofs.item_for.Met as item-thm
 use Rattle.windows.proofs.table.store.Key.{name as #store}
 use Rattle.windows.proofs.table.store as store′
 use Rattle.windows.proofs.table.store.Statement as stated
@@ -431,5 +431,5 @@ store-spec 𝓤 H 𝓜 𝓖 𝓡 =
     entered 𝓤 H (tripleOf 𝓤 H (𝓖 .A) store′.signature (store′.spec 𝓤 H (𝓖 .A) (𝓜 .mem) (𝓡 .run)))
     (tables 𝓤 H 𝓜 𝓡 code.env .C) (tables 𝓤 H 𝓜 𝓡 code.env .Λ) #store code.function (code.unfolded 𝓤 H 𝓜 𝓡)
     (store-meets 𝓤 H (𝓖 .A) (givenOf 𝓤 H 𝓜 𝓖) (𝓜 .mem) (𝓡 .run) (tablesOf 𝓤 H 𝓜 (tables 𝓤 H 𝓜 𝓡 code.env))
-    (cited 𝓤 H (ItemFor 𝓤 H (𝓖 .A) (𝓜 .mem) (𝓡 .run)) 𝓜 𝓡 code.env #item-for item-def.routine code.calls-windows·table·item-for
+    (cited 𝓤 H (ItemFor 𝓤 H (𝓖 .A) (𝓜 .mem) (𝓡 .run)) 𝓜 𝓡 code.env #item-for item-def.routine code.calls-pieces·item-for
     (item-thm.met 𝓤 H 𝓜 𝓖 𝓡)))

@@ -1,148 +1,533 @@
--- The loop's invariant: what is left of the route takes the zones to where the whole route takes them.
-use mathlib.Core.Path.{_≡_, refl, sym, ap, _∙_}
-use Prim.Native.Nat.{ℕ, _≤_, _-_}
+-- The loop's invariant: where the walk stands (specs/Walking).
+use mathlib.Core.Path.{_≡_, refl, sym, ap, subst, _∙_}
+use mathlib.Core.Logic.{⊎-elim}
+use mathlib.Core.Bool.{Bool, true, false, true≢false}
+use mathlib.Core.List.{List}
+use Prim.Native.Nat.{ℕ, _+_, _-_, _≤_, _<_}
 use native.Mathlib.Omega.{arith}
-use lib.ListN.{length, take, drop, length-map}
+use lib.ListN.{length, getD, take, set, replicate, length-map}
 use Rattle.index.specs.SheetIn.{sheetIn}
-use Rattle.sheet.specs.Lookup.{locationC, transitionC}
-use Rattle.steps.specs.Steps.{Fit, closed}
-use Rattle.windows_route.proofs.Steps.{size-is, walk-begun, walk-turn, walk-done, moved-is, stayed-is}
-use Rattle.windows_route.specs.Walked.{stayAll, walkAll, zonesAll}
+use Rattle.split.specs.Stack.{top-live}
+use Rattle.passing.specs.Machine.{noStep}
+use Rattle.passing.specs.State.{numberC}
+use Rattle.passing.specs.declared.pass.Pass.{Pass}
+use Rattle.windows_route.specs.Known.{noHint}
+use Rattle.windows_route.specs.Walking.{Walking, Run, Free, way, counted-is, walking-starts, less-next, walking-next, walking-ends}
+use Rattle.windows_route.specs.Walking.{refused-ends, room-listed, room-split}
+use Rattle.windows_route.specs.Walking.{walking-dropped, walking-listed, walking-listed-late, walking-split, walking-stepped}
+use Rattle.windows_route.specs.Walking.{walking-passed, walking-loaded, taken-spare, taken-list, Taken}
+use Rattle.windows_route.specs.Walking.{way-split, way-dropped, way-listed, way-stepped, way-passed, way-loaded}
 use borrow.Author.Needs.{needs}
 use Rattle.windows_route.proofs.route.walk.Statement.{statement}
 use Rattle.windows_route.proofs.route.walk.Tie as tie
 
 abbrev Inv-loop : tie.InvT-loop
-Inv-loop file ix b clocks n here₀ zones₀ k₀ here zones k =
-    let s = sheetIn file ix in
-    (n ≤ 32) × (n ≡ length (take (s .moves) (s .route))) × Fit zones
-    × ((l : ℕ) × ((here ≡ locationC s l) × (walkAll s k l (drop k (take (s .moves) (s .route))) (closed zones) ≡ zonesAll s)))
+Inv-loop file ix b clocks end here₀ steps₀ list₀ spare₀ hints₀ spares₀ stack₀ waits₀ rule₀ s₀ k₀ here steps list spare hints spares
+    stack waits rule s k =
+    Walking (sheetIn file ix) end here steps list spare hints spares stack waits rule s k
 
 abbrev μ-loop : tie.MeasureT-loop
-μ-loop file ix b clocks n here₀ zones₀ k₀ here zones k = n - k
+μ-loop file ix b clocks end here₀ steps₀ list₀ spare₀ hints₀ spares₀ stack₀ waits₀ rule₀ s₀ k₀ here steps list spare hints spares
+    stack waits rule s k =
+    way end k steps stack s
 
 cast-clocks : tie.Need-cast-clocks Inv-loop μ-loop
 cast-clocks c = search needs
 
-cast-at-most : tie.Need-cast-at-most Inv-loop μ-loop
-cast-at-most c = search needs
+moves-requires : tie.Need-moves-requires Inv-loop μ-loop
+moves-requires c κs = search needs
 
-at-most-requires : tie.Need-at-most-requires Inv-loop μ-loop
-at-most-requires c κs = search needs
+add-end : tie.Need-add-end Inv-loop μ-loop
+add-end c = search needs
 
 location-at-requires : tie.Need-location-at-requires Inv-loop μ-loop
 location-at-requires c κs = search needs
 
-started-requires : tie.Need-started-requires Inv-loop μ-loop
-started-requires c κs = search needs
+segment-at-requires : tie.Need-segment-at-requires Inv-loop μ-loop
+segment-at-requires c κs = search needs
+
+hint-of-requires : tie.Need-hint-of-requires Inv-loop μ-loop
+hint-of-requires c κs = search needs
+
+start-requires : tie.Need-start-requires Inv-loop μ-loop
+start-requires c κs = search needs
+
+rule-requires : tie.Need-rule-requires Inv-loop μ-loop
+rule-requires c κs = search needs
+
+begun-requires : tie.Need-begun-requires Inv-loop μ-loop
+begun-requires c κs = search needs
 
 loop-holds : tie.Need-loop-holds Inv-loop μ-loop
 unfolding sheetIn
 loop-holds c =
-    let start = c .before .before .before .before .before in
+    let up = c .before .before .before .before .before .before .before .before .before in
+    let hinted = c .before .before .before in
+    let first = c .before .before .before .before .before .before in
+    let found = first .before in
+    let counted = found .before in
+    let start = up .before .before .before in
     let a = start .args in
-    let l : length (a .t2 .route) ≡ 32 =
-    simp length-map at (start .good .1 .0 .1 .1 .1 .1 .1 .1 .1 .1 .1 .1 .1 .1 .1 .0 .1 .0 .1) in
-    let h = size-is _ (a .t2 .moves) 32 (a .t2 .route) (c .before .before .at-most .ensures) l in
-    let s = sheetIn (a .file .now) (a .t2) in (
-      h .0,
-      h .1,
-      c .started .ensures .1,
-      (
-        0,
-        (
-          c .before .location-at .ensures,
-          walk-begun s (c .started .result) (c .before .location-at .result) (c .before .location-at .ensures) (c .started .ensures .0),
-        ),
-      ),
-    )
+    let long : length (first .segment-at .result .steps .list) ≡ 20 =
+    simp length-map at (first .segment-at .ok .1 .1 .0 .1 .1 .1 .0 .1 .0 .1) in
+    walking-starts (sheetIn (a .file .now) (a .ix)) _ _ (first .segment-at .result) (hinted .hint-of .result) _ _ _ _
+    (counted .moves .ensures .0) (counted .moves .ensures .1) (found .location-at .ensures) (first .segment-at .ensures) long
+    (hinted .hint-of .ensures) (c .begun .ensures)
 
-element-copy-out-index : tie.Need-element-copy-out-index Inv-loop μ-loop
+-- what holds when a part has been run
+run-at : (c : tie.After-run Inv-loop μ-loop)
+    → let at-loop = c .before .before .before .before .before .before .before .before .before in
+    let loop = at-loop .loop in
+    let a = c .before .before .before .before .before .before .before .before .before .before .before .before .before .before
+    .before .before .before .before .before .before .before .before .args in
+    Run (sheetIn (a .file .now) (a .ix)) (c .before .before .before .before .before .before .before .before .before .before .before
+    .before .before .before .before .before .before .before .moves .result + 2) (loop .here) (loop .steps) (loop .list) (loop
+    .spare)
+    (loop .hints) (loop .spares) (loop .stack) (loop .waits) (loop .rule) (loop .s) (loop .k) (getD (loop .waits) (loop .s .depth -
+    1) noHint)
+    (c .run .result)
 unfolding sheetIn
-element-copy-out-index c = omega (arith, c .loop-test .taken, c .before .loop .inv .0)
+run-at c =
+    record {
+      w = c .before .before .before .before .before .before .before .before .before .loop .inv;
+      go = c .before .before .before .before .before .before .if1 .taken;
+      busy = c .before .before .before .before .if2 .taken;
+      hint = refl;
+      ran = c .run .ensures .0;
+      same = c .run .ensures .1;
+    }
 
-index-requires : tie.Need-index-requires Inv-loop μ-loop
-index-requires c κs = search needs
+-- .. and no refusal follows from it
+quiet-at : (c : tie.Else4 Inv-loop μ-loop) → numberC (c .before .before .before .before .run .result .halt) (c .before .before
+    .before .before .before .before .before .before .before .before .before .before .before .loop .s .kept) ≤ 0
+quiet-at c = subst (λ (x : ℕ). x ≤ 0) (c .before .before .before .number .ensures) (c .before .before .if3 .left)
 
-transition-at-requires : tie.Need-transition-at-requires Inv-loop μ-loop
-transition-at-requires c κs = search needs
-
-location-at-requires-2 : tie.Need-location-at-requires-2 Inv-loop μ-loop
-location-at-requires-2 c κs = search needs
-
-move-steps-requires : tie.Need-move-steps-requires Inv-loop μ-loop
+-- what holds when no part waits
+free-at : (c : tie.After-step Inv-loop μ-loop)
+    → let loop = c .before .before .before .before .before .before .loop in
+    let a = c .before .before .before .before .before .before .before .before .before .before .before .before .before .before
+    .before .before .before .before .before .args in
+    Free (sheetIn (a .file .now) (a .ix)) (c .before .before .before .before .before .before .before .before .before .before .before
+    .before .before .before .before .moves .result + 2) (loop .here) (loop .steps) (loop .list) (loop .spare)
+    (loop .hints) (loop .spares) (loop .stack) (loop .waits) (loop .rule) (loop .s) (loop .k) (getD (loop .steps .list) (loop .s .j)
+    noStep)
 unfolding sheetIn
-move-steps-requires c κs =
-    let in-loop = c .before .before .before .before in
-    omega (arith, in-loop .loop-test .taken, in-loop .before .loop .inv .0)
+free-at c =
+    record {
+      w = c .before .before .before .before .before .before .loop .inv;
+      go = c .before .before .before .if1 .taken;
+      idle =
+          omega (arith, c .before .if2 .left);
+      step = refl;
+    }
 
-passed-requires : tie.Need-passed-requires Inv-loop μ-loop
-passed-requires c κs = c .before .before .before .before .before .before .loop .inv .2
+sub-top : tie.Need-sub-top Inv-loop μ-loop
+sub-top c = search needs
 
-add-k : tie.Need-add-k Inv-loop μ-loop
+mul-popped : tie.Need-mul-popped Inv-loop μ-loop
+mul-popped c = search needs
+
+array-copy-out-popped : tie.Need-array-copy-out-popped Inv-loop μ-loop
+array-copy-out-popped c = search needs
+
+mul-hint : tie.Need-mul-hint Inv-loop μ-loop
+mul-hint c = search needs
+
+array-copy-out-hint : tie.Need-array-copy-out-hint Inv-loop μ-loop
+array-copy-out-hint c = search needs
+
+run-requires : tie.Need-run-requires Inv-loop μ-loop
 unfolding sheetIn
-add-k c =
-    let in-loop = c .before .before .before .before .before .before in
-    omega (arith, in-loop .loop-test .taken, in-loop .before .loop .inv .0)
+run-requires c κs =
+    let loop = c .before .before .before .before .before .before .before .before .loop in
+    top-live (loop .stack) (loop .s .depth) (loop .s .depth - 1) (omega (arith, c .before .before .before .if2 .taken))
+    (loop .inv .machine .turned .waiting)
 
-loop-less : tie.Need-loop-less Inv-loop μ-loop
-loop-less c = search needs
+number-requires : tie.Need-number-requires Inv-loop μ-loop
+number-requires c κs = search needs
 
-loop-again : tie.Need-loop-again Inv-loop μ-loop
-unfolding sheetIn
-loop-again c =
-    let listed = c .before in
-    let at-there = listed .before in
-    let at-move = at-there .before in
-    let in-loop = at-move .before .before .before in
-    let at-loop = in-loop .before in
-    let a = at-loop .before .before .before .before .before .before .args in
-    let i = at-loop .loop in
-    let v = i .inv in
-    let s = sheetIn (a .file .now) (a .t2) in
-    let t = at-move .transition-at .result in
-    let there = at-there .location-at2 .result in (
-      v .0,
-      v .1,
-      c .passed .ensures .1,
-      (
-        t .to,
-        (
-          at-there .location-at2 .ensures,
-          walk-turn s (i .k) (v .3 .0) (closed (i .zones)) (stayAll (s .ranges) (s .clocks) (i .here) (closed (i .zones)))
-              (closed (c .passed .result)) _ (i .here) there t (omega (arith, in-loop .loop-test .taken, v .1)) (v .3 .1 .1)
-              (at-move .transition-at .ensures ∙ ap (λ (n : ℕ). transitionC s n) (at-move .before .index .ensures)) (v .3 .1 .0)
-              (at-there .location-at2 .ensures) refl
-              (moved-is (s .ranges) (s .clocks) (i .zones) (c .passed .result) (listed .move-steps .result) (c .passed .ensures
-              .0) (i .here) (i .k) t
-              there (listed .move-steps .ensures)),
-        ),
-      ),
-    )
-
-stay-steps-requires : tie.Need-stay-steps-requires Inv-loop μ-loop
-stay-steps-requires c κs = search needs
-
-passed-requires-2 : tie.Need-passed-requires-2 Inv-loop μ-loop
-passed-requires-2 c κs = c .before .before .loop .inv .2
-
-blanked-requires : tie.Need-blanked-requires Inv-loop μ-loop
-blanked-requires c κs = search needs
+refused-requires : tie.Need-refused-requires Inv-loop μ-loop
+refused-requires c κs = search needs
 
 returns : tie.Need-returns Inv-loop μ-loop
 unfolding sheetIn
 returns c =
-    let at-loop = c .before .before .before .before in
-    let a = at-loop .before .before .before .before .before .before .args in
-    let i = at-loop .loop in
-    let v = i .inv in
-    let s = sheetIn (a .file .now) (a .t2) in
-    c .blanked .ensures
-    ∙ walk-done s (i .k) (v .3 .0) (closed (i .zones)) (closed (c .before .passed2 .result)) _ (i .here)
-    (omega (arith, c .before .before .before .loop-test .left, v .1)) (v .3 .1 .1) (v .3 .1 .0)
-    (stayed-is (s .ranges) (s .clocks) (i .zones) (c .before .passed2 .result) (c .before .before .stay-steps .result) (c .before
-    .passed2 .ensures .0) (i .here)
-    (c .before .before .stay-steps .ensures))
+    let n = c .before .before .number in
+    c .refused .ensures ∙ refused-ends (run-at (c .before .before .before)) (n .result) (n .ensures) (c .before .if3 .taken)
+
+no-part-requires : tie.Need-no-part-requires Inv-loop μ-loop
+no-part-requires c κs = search needs
+
+hint-of-requires-2 : tie.Need-hint-of-requires-2 Inv-loop μ-loop
+hint-of-requires-2 c κs = search needs
+
+mul-stack : tie.Need-mul-stack Inv-loop μ-loop
+mul-stack c =
+    let t = run-at (c .before .before .before .before .before .before .before) in omega (arith, t .busy, t .w .machine .turned .few)
+
+array-set-from-stack : tie.Need-array-set-from-stack Inv-loop μ-loop
+array-set-from-stack c =
+    let t = run-at (c .before .before .before .before .before .before .before) in omega (arith, t .busy, t .w .machine .turned .few)
+
+mul-waits : tie.Need-mul-waits Inv-loop μ-loop
+mul-waits c =
+    let t = run-at (c .before .before .before .before .before .before .before) in omega (arith, t .busy, t .w .machine .turned .few)
+
+array-set-from-waits : tie.Need-array-set-from-waits Inv-loop μ-loop
+array-set-from-waits c =
+    let t = run-at (c .before .before .before .before .before .before .before) in omega (arith, t .busy, t .w .machine .turned .few)
+
+yes-part-requires : tie.Need-yes-part-requires Inv-loop μ-loop
+yes-part-requires c κs = search needs
+
+hint-of-requires-3 : tie.Need-hint-of-requires-3 Inv-loop μ-loop
+hint-of-requires-3 c κs = search needs
+
+add-stack : tie.Need-add-stack Inv-loop μ-loop
+add-stack c =
+    let up = c .before .before .before .before .before .before .before .before .before in
+    let t = run-at (up .before) in omega (arith, t .busy, room-split t (c .before .before .before .before .before .before .if4 .taken))
+
+mul-stack-2 : tie.Need-mul-stack-2 Inv-loop μ-loop
+mul-stack-2 c =
+    let up = c .before .before .before .before .before .before .before .before .before in
+    let t = run-at (up .before) in omega (arith, t .busy, room-split t (c .before .before .before .before .before .before .if4 .taken))
+
+array-set-from-stack-2 : tie.Need-array-set-from-stack-2 Inv-loop μ-loop
+array-set-from-stack-2 c =
+    let up = c .before .before .before .before .before .before .before .before .before in
+    let t = run-at (up .before) in omega (arith, t .busy, room-split t (c .before .before .before .before .before .before .if4 .taken))
+
+add-waits : tie.Need-add-waits Inv-loop μ-loop
+add-waits c =
+    let up = c .before .before .before .before .before .before .before .before .before in
+    let t = run-at (up .before) in omega (arith, t .busy, room-split t (c .before .before .before .before .before .before .if4 .taken))
+
+mul-waits-2 : tie.Need-mul-waits-2 Inv-loop μ-loop
+mul-waits-2 c =
+    let up = c .before .before .before .before .before .before .before .before .before in
+    let t = run-at (up .before) in omega (arith, t .busy, room-split t (c .before .before .before .before .before .before .if4 .taken))
+
+array-set-from-waits-2 : tie.Need-array-set-from-waits-2 Inv-loop μ-loop
+array-set-from-waits-2 c =
+    let up = c .before .before .before .before .before .before .before .before .before in
+    let t = run-at (up .before) in omega (arith, t .busy, room-split t (c .before .before .before .before .before .before .if4 .taken))
+
+pushed-requires : tie.Need-pushed-requires Inv-loop μ-loop
+pushed-requires c κs =
+    let up = c .before .before .before .before .before .before .before .before .before in
+    room-split (run-at (up .before)) (c .before .before .before .before .before .before .if4 .taken)
+
+loop-less : tie.Need-loop-less Inv-loop μ-loop
+loop-less c =
+    let up = c .before .before .before .before .before .before .before .before .before in
+    way-split (run-at (up .before .before)) (c .before .before .before .before .before .before .before .if4 .taken) _ _ (c .before
+    .before .before .before .before .before .no-part .ensures)
+    (c .before .before .before .yes-part .ensures) _ (c .pushed .ensures)
+
+loop-again : tie.Need-loop-again Inv-loop μ-loop
+unfolding sheetIn
+loop-again c =
+    let up = c .before .before .before .before .before .before .before .before .before in
+    walking-split (run-at (up .before .before)) (c .before .before .before .before .before .before .before .if4 .taken) _ _ (c
+    .before .before .before .before .before .before .no-part .ensures)
+    (c .before .before .before .yes-part .ensures) _ _
+    (c .before .before .before .before .hint-of2 .ensures) (c .before .hint-of3 .ensures) _ (c .pushed .ensures)
+
+mul-was : tie.Need-mul-was Inv-loop μ-loop
+mul-was c =
+    omega (
+      arith,
+      room-listed (run-at (c .before .before .before .before .before .before .before .before)) (quiet-at (c .before
+          .before .before .before)) (c .before .before .if5 .taken),
+    )
+
+array-copy-out-was : tie.Need-array-copy-out-was Inv-loop μ-loop
+array-copy-out-was c =
+    omega (
+      arith,
+      room-listed (run-at (c .before .before .before .before .before .before .before .before)) (quiet-at (c .before
+          .before .before .before)) (c .before .before .if5 .taken),
+    )
+
+mul-spare : tie.Need-mul-spare Inv-loop μ-loop
+mul-spare c =
+    omega (
+      arith,
+      room-listed (run-at (c .before .before .before .before .before .before .before .before .before)) (quiet-at (c
+          .before .before .before .before .before)) (c .before .before .before .if5 .taken),
+    )
+
+array-set-from-spare : tie.Need-array-set-from-spare Inv-loop μ-loop
+array-set-from-spare c =
+    omega (
+      arith,
+      room-listed (run-at (c .before .before .before .before .before .before .before .before .before)) (quiet-at (c
+          .before .before .before .before .before)) (c .before .before .before .if5 .taken),
+    )
+
+mul-known : tie.Need-mul-known Inv-loop μ-loop
+mul-known c =
+    omega (
+      arith,
+      room-listed (run-at (c .before .before .before .before .before .before .before .before .before)) (quiet-at (c
+          .before .before .before .before .before)) (c .before .before .before .if5 .taken),
+    )
+
+array-copy-out-known : tie.Need-array-copy-out-known Inv-loop μ-loop
+array-copy-out-known c =
+    omega (
+      arith,
+      room-listed (run-at (c .before .before .before .before .before .before .before .before .before)) (quiet-at (c
+          .before .before .before .before .before)) (c .before .before .before .if5 .taken),
+    )
+
+mul-spares : tie.Need-mul-spares Inv-loop μ-loop
+mul-spares c =
+    let up = c .before .before .before .before .before .before .before .before .before in
+    omega (
+      arith,
+      room-listed (run-at (up .before)) (quiet-at (c .before .before .before .before .before .before)) (c .before
+          .before .before .before .if5 .taken),
+    )
+
+array-set-from-spares : tie.Need-array-set-from-spares Inv-loop μ-loop
+array-set-from-spares c =
+    let up = c .before .before .before .before .before .before .before .before .before in
+    omega (
+      arith,
+      room-listed (run-at (up .before)) (quiet-at (c .before .before .before .before .before .before)) (c .before
+          .before .before .before .if5 .taken),
+    )
+
+mul-list : tie.Need-mul-list Inv-loop μ-loop
+mul-list c =
+    omega (
+      arith,
+      room-listed (run-at (c .before .before .before .before .before .before .before .before .before)) (quiet-at (c
+          .before .before .before .before .before)) (c .before .before .before .if5 .taken),
+    )
+
+array-set-from-list : tie.Need-array-set-from-list Inv-loop μ-loop
+array-set-from-list c =
+    omega (
+      arith,
+      room-listed (run-at (c .before .before .before .before .before .before .before .before .before)) (quiet-at (c
+          .before .before .before .before .before)) (c .before .before .before .if5 .taken),
+    )
+
+mul-hints : tie.Need-mul-hints Inv-loop μ-loop
+mul-hints c =
+    omega (
+      arith,
+      room-listed (run-at (c .before .before .before .before .before .before .before .before .before)) (quiet-at (c
+          .before .before .before .before .before)) (c .before .before .before .if5 .taken),
+    )
+
+array-set-from-hints : tie.Need-array-set-from-hints Inv-loop μ-loop
+array-set-from-hints c =
+    omega (
+      arith,
+      room-listed (run-at (c .before .before .before .before .before .before .before .before .before)) (quiet-at (c
+          .before .before .before .before .before)) (c .before .before .before .if5 .taken),
+    )
+
+listed-requires : tie.Need-listed-requires Inv-loop μ-loop
+listed-requires c κs =
+    room-listed (run-at (c .before .before .before .before .before .before .before .before .before)) (quiet-at (c .before .before
+    .before .before .before)) (c .before .before .before .if5 .taken)
+
+loop-less-2 : tie.Need-loop-less-2 Inv-loop μ-loop
+loop-less-2 c =
+    let up = c .before .before .before .before .before .before .before .before .before in
+    way-listed (run-at (up .before)) _ (c .listed .ensures)
+
+loop-again-2 : tie.Need-loop-again-2 Inv-loop μ-loop
+loop-again-2 c =
+    let up = c .before .before .before .before .before .before .before .before .before in
+    let t = run-at (up .before) in
+    let quiet = quiet-at (c .before .before .before .before .before .before) in
+    let kept = c .before .before .before .before .if5 .taken in
+    ⊎-elim (λ j. rw (j .3, j .4) (walking-listed t quiet kept _ (c .listed .ensures)))
+    (λ j. rw (j .1, j .2) (walking-listed-late t quiet kept (j .0 .left) _ (c .listed .ensures))) (c .before .before .if6 .came)
+
+dropped-requires : tie.Need-dropped-requires Inv-loop μ-loop
+dropped-requires c κs = search needs
+
+loop-less-3 : tie.Need-loop-less-3 Inv-loop μ-loop
+loop-less-3 c =
+    way-dropped (run-at (c .before .before .before .before .before .before .before)) _ (c .dropped .ensures)
+
+loop-again-3 : tie.Need-loop-again-3 Inv-loop μ-loop
+loop-again-3 c =
+    walking-dropped (run-at (c .before .before .before .before .before .before .before)) (quiet-at (c .before .before .before)) (c
+    .before .before .before .if4 .left) (c .before .if5 .left) _
+    (c .dropped .ensures)
+
+mul-step : tie.Need-mul-step Inv-loop μ-loop
+mul-step c = search needs
+
+element-copy-out-step : tie.Need-element-copy-out-step Inv-loop μ-loop
+element-copy-out-step c = search needs
+
+mul-idle : tie.Need-mul-idle Inv-loop μ-loop
+mul-idle c = search needs
+
+array-copy-out-idle : tie.Need-array-copy-out-idle Inv-loop μ-loop
+array-copy-out-idle c = search needs
+
+mul-idle-2 : tie.Need-mul-idle-2 Inv-loop μ-loop
+mul-idle-2 c = search needs
+
+array-copy-out-idle-2 : tie.Need-array-copy-out-idle-2 Inv-loop μ-loop
+array-copy-out-idle-2 c = search needs
+
+idle-requires : tie.Need-idle-requires Inv-loop μ-loop
+idle-requires c κs = search needs
+
+passed-by-requires : tie.Need-passed-by-requires Inv-loop μ-loop
+passed-by-requires c κs =
+    let more = c .before .before .before .if7 .taken in
+    let few = free-at (c .before .before .before .before .before) .w .machine .few in
+    ⊎-elim (λ j. (omega (arith, more, few), omega (arith, j .0 .taken, more, few)))
+    (λ j. absurd (true≢false (sym (c .if9 .taken) ∙ j .1))) (c .before .if8 .came)
+
+loop-less-4 : tie.Need-loop-less-4 Inv-loop μ-loop
+loop-less-4 c =
+    way-passed (free-at (c .before .before .before .before .before .before)) (c .before .before .before .before .if7 .taken) _ (c
+    .passed-by .ensures)
+
+loop-again-4 : tie.Need-loop-again-4 Inv-loop μ-loop
+loop-again-4 c =
+    let still = c .before .if9 .taken in
+    ⊎-elim
+    (λ j. walking-passed (free-at (c .before .before .before .before .before .before)) (c .before .before .before .before .if7
+    .taken) (j .0 .taken) (j .3 .ensures (sym (j .4) ∙ still)) _
+    (c .passed-by .ensures))
+    (λ j. absurd (true≢false (sym still ∙ j .1))) (c .before .before .if8 .came)
+
+mul-zone : tie.Need-mul-zone Inv-loop μ-loop
+mul-zone c = search needs
+
+array-copy-out-zone : tie.Need-array-copy-out-zone Inv-loop μ-loop
+array-copy-out-zone c = search needs
+
+mul-zone-2 : tie.Need-mul-zone-2 Inv-loop μ-loop
+mul-zone-2 c = search needs
+
+array-copy-out-zone-2 : tie.Need-array-copy-out-zone-2 Inv-loop μ-loop
+array-copy-out-zone-2 c = search needs
+
+mul-hint-2 : tie.Need-mul-hint-2 Inv-loop μ-loop
+mul-hint-2 c = search needs
+
+array-copy-out-hint-2 : tie.Need-array-copy-out-hint-2 Inv-loop μ-loop
+array-copy-out-hint-2 c = search needs
+
+mul-hint-3 : tie.Need-mul-hint-3 Inv-loop μ-loop
+mul-hint-3 c = search needs
+
+array-copy-out-hint-3 : tie.Need-array-copy-out-hint-3 Inv-loop μ-loop
+array-copy-out-hint-3 c = search needs
+
+rule-requires-2 : tie.Need-rule-requires-2 Inv-loop μ-loop
+rule-requires-2 c κs = search needs
+
+part-of-requires : tie.Need-part-of-requires Inv-loop μ-loop
+part-of-requires c κs = search needs
+
+array-set-from-stack-3 : tie.Need-array-set-from-stack-3 Inv-loop μ-loop
+array-set-from-stack-3 c = search needs
+
+array-set-from-waits-3 : tie.Need-array-set-from-waits-3 Inv-loop μ-loop
+array-set-from-waits-3 c = search needs
+
+loaded-requires : tie.Need-loaded-requires Inv-loop μ-loop
+loaded-requires c κs =
+    let up = c .before .before .before .before .before .before .before .before .before in
+    omega (arith, up .if7 .taken, free-at (up .before .before) .w .machine .few)
+
+loop-less-5 : tie.Need-loop-less-5 Inv-loop μ-loop
+loop-less-5 c =
+    let up = c .before .before .before .before .before .before .before .before .before in
+    way-loaded (free-at (up .before .before .before)) (up .before .if7 .taken) _ _ (c .loaded .ensures)
+
+loop-again-5 : tie.Need-loop-again-5 Inv-loop μ-loop
+unfolding sheetIn
+loop-again-5 c =
+    let up = c .before .before .before .before .before .before .before .before .before in
+    let t = free-at (up .before .before .before) in
+    let more = up .before .if7 .taken in
+    let zone = c .before .before .before .before .before .if10 in
+    let hint = c .before .before .before .if11 in
+    walking-loaded t more (zone .zone) (hint .hint)
+    (⊎-elim
+    (λ j. ⊎-elim (λ l. rw (j .2, l .2) (taken-spare t more (j .0 .taken))) (λ l. absurd (omega (arith, j .0 .taken, l .0 .left)))
+    (hint .came))
+    (λ j. ⊎-elim (λ l. absurd (omega (arith, j .0 .left, l .0 .taken))) (λ l. rw (j .2, l .2) (taken-list t more (j .0 .left)))
+    (hint .came))
+    (zone .came))
+    _ (c .before .part-of .ensures) _ (c .before .before .rule2 .ensures) _ (c .loaded .ensures)
+
+stepped-requires : tie.Need-stepped-requires Inv-loop μ-loop
+stepped-requires c κs = search needs
+
+loop-less-6 : tie.Need-loop-less-6 Inv-loop μ-loop
+loop-less-6 c =
+    way-stepped (free-at (c .before .before .before)) _ (c .stepped .ensures)
+
+loop-again-6 : tie.Need-loop-again-6 Inv-loop μ-loop
+loop-again-6 c =
+    walking-stepped (free-at (c .before .before .before)) (omega (arith, c .before .if7 .left)) _ (c .stepped .ensures)
+
+add-k : tie.Need-add-k Inv-loop μ-loop
+add-k c = search needs
+
+segment-at-requires-2 : tie.Need-segment-at-requires-2 Inv-loop μ-loop
+segment-at-requires-2 c κs = search needs
+
+begun-requires-2 : tie.Need-begun-requires-2 Inv-loop μ-loop
+begun-requires-2 c κs = search needs
+
+loop-less-7 : tie.Need-loop-less-7 Inv-loop μ-loop
+unfolding sheetIn
+loop-less-7 c =
+    let next = c .before .before .before .segment-at2 in
+    let long : length (next .result .steps .list) ≡ 20 = simp length-map at (next .ok .1 .1 .0 .1 .1 .1 .0 .1 .0 .1) in
+    let at-loop = c .before .before .before .before .before .before .before in
+    let loop = at-loop .loop in
+    let end = at-loop .before .before .before .before .before .before .before .before .before .moves .result + 2 in
+    subst (λ (p : Pass). way end (loop .k + 1) (next .result .steps) (loop .stack) p < way end (loop .k) (loop .steps) (loop .stack)
+    (loop .s))
+    (sym (c .begun2 .ensures))
+    (less-next end (loop .k) (loop .steps) (next .result .steps) (loop .stack) (loop .s) (c .before .before .before .before .before
+    .before .loop-test .taken)
+    (next .ensures .few) (loop .inv .machine .few) (sym (counted-is (next .result .steps) (next .ensures .few) long)))
+
+loop-again-7 : tie.Need-loop-again-7 Inv-loop μ-loop
+unfolding sheetIn
+loop-again-7 c =
+    let next = c .before .before .before .segment-at2 in
+    let long : length (next .result .steps .list) ≡ 20 = simp length-map at (next .ok .1 .1 .0 .1 .1 .1 .0 .1 .0 .1) in
+    let at-loop = c .before .before .before .before .before .before .before in
+    let loop = at-loop .loop in
+    rw (c .begun2 .ensures)
+    (walking-next _ _ (loop .here) (loop .steps) (loop .list) (loop .spare) (loop .hints) (loop .spares) (loop .stack) (loop .waits)
+    (loop .rule)
+    (loop .s) (loop .k) (loop .inv) (omega (arith, c .before .before .before .before .if1 .left)) (c .before .before .before .before
+    .before .before .loop-test .taken) (next .result)
+    (next .ensures) long)
+
+blanked-requires : tie.Need-blanked-requires Inv-loop μ-loop
+blanked-requires c κs = search needs
+
+returns-2 : tie.Need-returns-2 Inv-loop μ-loop
+unfolding sheetIn
+returns-2 c =
+    let loop = c .before .before .loop in
+    c .blanked .ensures ∙ walking-ends _ _ (loop .here) (loop .steps) (loop .list) (loop .spare) (loop .hints) (loop .spares) (loop
+    .stack) (loop .waits) (loop .rule)
+    (loop .s) (loop .k) (loop .inv) (c .before .loop-test .left)
 
 pub walk-spec : {M : Type 1} → statement M
 walk-spec =
@@ -151,21 +536,91 @@ walk-spec =
     Inv-loop
     μ-loop
     cast-clocks
-    cast-at-most
-    at-most-requires
+    moves-requires
+    add-end
     location-at-requires
-    started-requires
+    segment-at-requires
+    hint-of-requires
+    start-requires
+    rule-requires
+    begun-requires
     loop-holds
-    element-copy-out-index
-    index-requires
-    transition-at-requires
-    location-at-requires-2
-    move-steps-requires
-    passed-requires
-    add-k
+    sub-top
+    mul-popped
+    array-copy-out-popped
+    mul-hint
+    array-copy-out-hint
+    run-requires
+    number-requires
+    refused-requires
+    returns
+    no-part-requires
+    hint-of-requires-2
+    mul-stack
+    array-set-from-stack
+    mul-waits
+    array-set-from-waits
+    yes-part-requires
+    hint-of-requires-3
+    add-stack
+    mul-stack-2
+    array-set-from-stack-2
+    add-waits
+    mul-waits-2
+    array-set-from-waits-2
+    pushed-requires
     loop-less
     loop-again
-    stay-steps-requires
-    passed-requires-2
+    mul-was
+    array-copy-out-was
+    mul-spare
+    array-set-from-spare
+    mul-known
+    array-copy-out-known
+    mul-spares
+    array-set-from-spares
+    mul-list
+    array-set-from-list
+    mul-hints
+    array-set-from-hints
+    listed-requires
+    loop-less-2
+    loop-again-2
+    dropped-requires
+    loop-less-3
+    loop-again-3
+    mul-step
+    element-copy-out-step
+    mul-idle
+    array-copy-out-idle
+    mul-idle-2
+    array-copy-out-idle-2
+    idle-requires
+    passed-by-requires
+    loop-less-4
+    loop-again-4
+    mul-zone
+    array-copy-out-zone
+    mul-zone-2
+    array-copy-out-zone-2
+    mul-hint-2
+    array-copy-out-hint-2
+    mul-hint-3
+    array-copy-out-hint-3
+    rule-requires-2
+    part-of-requires
+    array-set-from-stack-3
+    array-set-from-waits-3
+    loaded-requires
+    loop-less-5
+    loop-again-5
+    stepped-requires
+    loop-less-6
+    loop-again-6
+    add-k
+    segment-at-requires-2
+    begun-requires-2
+    loop-less-7
+    loop-again-7
     blanked-requires
-    returns)
+    returns-2)

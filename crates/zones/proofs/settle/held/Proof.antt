@@ -4,7 +4,7 @@ use mathlib.Core.List.{List}
 use Prim.Native.Nat.{min}
 use Rattle.expr.specs.Affine.{Affine}
 use Rattle.expr.specs.Records.{rangeList}
-use Rattle.search.specs.Valuations.{count}
+use Rattle.valuations.specs.Valuations.{count}
 use borrow.Author.Needs.{needs}
 use Rattle.zones.proofs.settle.held.Statement.{statement}
 use Rattle.zones.proofs.settle.held.Tie as tie

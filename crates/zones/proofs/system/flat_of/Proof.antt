@@ -3,7 +3,7 @@ use mathlib.Core.Path.{_≡_, refl, subst, sym}
 use Prim.Native.Nat.{_-_}
 use native.Mathlib.Omega.{arith}
 use lib.ListN.{length, length-map}
-use Rattle.search.specs.System.{exprsFrom}
+use Rattle.inequalities.specs.Flat.{exprsFrom}
 use Rattle.zones.proofs.Steps.{Copied, copied-turn, copied-all}
 use borrow.Author.Needs.{needs}
 use Rattle.zones.proofs.system.flat_of.Statement.{statement}

@@ -6,7 +6,7 @@ use lib.IntN.{pos}
 use lib.ListN.{getD}
 use Rattle.expr.specs.Affine.{minus, minusL, saturatedE}
 use Rattle.expr.proofs.Records.{filledE, expr-start, expr-turn, expr-all}
-use Rattle.expr.proofs.Sizes.{differenceC, difference-stored}
+use Rattle.saturating.specs.Sums.{differenceC, difference-stored}
 use borrow.Author.Needs.{needs}
 use Rattle.expr.proofs.number.Expr.less.Statement.{statement}
 use Rattle.expr.proofs.number.Expr.less.Tie as tie

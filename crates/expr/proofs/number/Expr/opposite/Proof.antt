@@ -5,10 +5,11 @@ use native.Mathlib.Omega.{arith}
 use lib.IntN.{ℤ, pos, negsuc, negℤ, _-ℤ_}
 use lib.ListN.{getD}
 use Rattle.weight.specs.Upper.{saturate}
-use Rattle.expr.specs.Affine.{opposite, LARGEST, saturatedE}
+use Rattle.saturating.specs.Largest.{LARGEST}
+use Rattle.saturating.specs.Sums.{turned-stored, negated-stored}
+use Rattle.expr.specs.Affine.{opposite, saturatedE}
 use Rattle.expr.specs.declared.number.Expr.{Expr}
 use Rattle.expr.proofs.Records.{filledE, expr-start, expr-turn, expr-all}
-use Rattle.expr.proofs.Sizes.{turned-stored, negated-stored}
 use borrow.Author.Needs.{needs}
 use Rattle.expr.proofs.number.Expr.opposite.Statement.{statement}
 use Rattle.expr.proofs.number.Expr.opposite.Tie as tie

@@ -6,7 +6,7 @@ use lib.IntN.{pos}
 use lib.ListN.{getD}
 use Rattle.expr.specs.Affine.{plus, plusL, saturatedE}
 use Rattle.expr.proofs.Records.{filledE, expr-start, expr-turn, expr-all}
-use Rattle.expr.proofs.Sizes.{sumC, sum-stored}
+use Rattle.saturating.specs.Sums.{sumC, sum-stored}
 use borrow.Author.Needs.{needs}
 use Rattle.expr.proofs.number.Expr.plus.Statement.{statement}
 use Rattle.expr.proofs.number.Expr.plus.Tie as tie

@@ -1,0 +1,4 @@
+// How many valuations of ranges meet inequalities.
+mod counted;
+
+pub use counted::count;

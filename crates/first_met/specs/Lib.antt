@@ -1,0 +1,2 @@
+-- Solutions is what the code answers.
+pub mod Solutions

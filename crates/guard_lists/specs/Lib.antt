@@ -1,0 +1,2 @@
+-- Listed: the guards after a count, one after another.
+pub mod Listed

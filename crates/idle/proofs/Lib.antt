@@ -1,0 +1,2 @@
+-- Why it leaves the zone.
+pub mod Leaves

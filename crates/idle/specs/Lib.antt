@@ -1,0 +1,2 @@
+-- Idle says what it is to leave a zone as it is.
+pub mod Idle

@@ -1,0 +1,2 @@
+-- Opposite is what such pairs are, with its laws.
+pub mod Opposite

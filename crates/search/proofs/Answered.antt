@@ -1,0 +1,44 @@
+-- The answers of the public calls: over the ranges of the record, and with inequalities past the end of the list.
+use mathlib.Core.Path.{_≡_, refl, sym, ap, _∙_}
+use mathlib.Core.Bool.{true, false}
+use mathlib.Core.List.{List}
+use mathlib.Core.Option.{Option, none, some}
+use Prim.Native.Nat.{ℕ, min}
+use lib.IntN.{ℤ}
+use lib.ListN.{length}
+use Rattle.integer.specs.Apart.{apart}
+use Rattle.expr.specs.Affine.{Affine}
+use Rattle.expr.specs.Ranges.{Inside}
+use Rattle.expr.specs.Records.{PARAMETERS, placesFrom, blankRange}
+use Rattle.expr.specs.declared.range.Range.{Range}
+use Rattle.systems.specs.BoxLaws.{first-listed}
+use Rattle.valuations.specs.SearchLaws.{first-none}
+use Rattle.inequalities.specs.Flat.{exprsIn}
+use Rattle.first_met.specs.Solutions.{solutionOf}
+use Rattle.search.specs.Answers.{isSome}
+use Rattle.valuations.specs.Valuations.{satisfies, first}
+use Rattle.first_met.specs.declared.search.Solution.{Solution}
+
+-- what was found, or not
+pub found-is : (rs : List Range) (es : List Affine) (s : Solution) → s ≡ solutionOf (first rs es) → s .found ≡ isSome (first rs es)
+found-is rs es s e = ap (λ (z : Solution). z .found) e ∙ by (first rs es)
+  where
+    by : (o : Option (List ℤ)) → solutionOf o .found ≡ isSome o
+    by none = refl
+    by (some v) = refl
+
+module _ (rs : List Range) (l : List ℤ) (n m : ℕ) (e : m ≡ min n (length l)) (h : length rs ≡ PARAMETERS) where
+  -- a valuation inside the ranges that meets the inequalities
+  pub guess-meets : (v : List ℤ) → Inside v rs → satisfies (exprsIn l m) v ≡ true
+      → true ≡ isSome (first (placesFrom blankRange rs 0 PARAMETERS) (exprsIn l n))
+  guess-meets v i a = by (first rs (exprsIn l m)) refl ∙ ap isSome (first-listed rs l n m e h)
+    where
+      by : (o : Option (List ℤ)) → first rs (exprsIn l m) ≡ o → true ≡ isSome o
+      by none q =
+          let b = first-none rs (exprsIn l m) q v i in
+          apart cc
+      by (some w) q = refl
+
+  -- nothing is there
+  pub some-none : first rs (exprsIn l m) ≡ none → false ≡ isSome (first (placesFrom blankRange rs 0 PARAMETERS) (exprsIn l n))
+  some-none q = ap isSome (sym q ∙ first-listed rs l n m e h)

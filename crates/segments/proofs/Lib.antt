@@ -1,0 +1,2 @@
+-- The cases of a segment.
+pub mod Cases

@@ -1,0 +1,2 @@
+-- Siblings are two zones that a split has made of one.
+pub mod Siblings

@@ -1,0 +1,2 @@
+-- Sifting is which inequalities may be left out of a count.
+pub mod Sifting

@@ -1,0 +1,2 @@
+-- Laws that the proofs of both functions cite.
+pub mod Sums

@@ -1,0 +1,2 @@
+-- Where counts end.
+pub mod Cap
