@@ -39,7 +39,7 @@ use Rattle.steps.specs.declared.step.Step.{Step}
 use Rattle.zones.specs.Hinted.{Hinted}
 use Rattle.zones.specs.Put.{map-last}
 use Rattle.zones.specs.Settled.{Verdict, isNone, neverC, oppositeC, onC, settledC}
-use Rattle.zones.specs.declared.settle.Hint.{Hint}
+use Rattle.zones.specs.declared.hint.Hint.{Hint}
 use Rattle.zones.specs.declared.zone.Zone.{Zone}
 use Rattle.idle.specs.Idle.{Fails, Idle}
 

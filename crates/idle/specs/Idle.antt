@@ -9,7 +9,7 @@ use Rattle.split.specs.declared.list.Counted.{Counted}
 use Rattle.steps.specs.declared.step.Step.{Step}
 use Rattle.zones.specs.Hinted.{Hinted}
 use Rattle.zones.specs.Settled.{settledC}
-use Rattle.zones.specs.declared.settle.Hint.{Hint}
+use Rattle.zones.specs.declared.hint.Hint.{Hint}
 use Rattle.zones.specs.declared.zone.Zone.{Zone}
 
 -- the verdict on the test is no, on every zone that the hint is of

@@ -22,7 +22,7 @@ pub fn kept(b: Ranges, zones: Zones) -> usize
         let at = q.at;
         let mut z = zones.list[at];
         z.count = q.count;
-        total += zones::held(b, z);
+        total += holding::held(b, z);
         i += 1;
     }
     total

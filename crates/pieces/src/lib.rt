@@ -38,7 +38,7 @@ fn piece_of(b: Ranges, zone: Zone) -> Piece
     let bounds = zone.bounds;
     Piece {
         used: true,
-        first: zones::first_held(b, zone),
+        first: holding::first_held(b, zone),
         count: zone.count,
         ineqs,
         bounds,

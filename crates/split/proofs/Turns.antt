@@ -30,8 +30,11 @@ use Rattle.systems.specs.BoxLaws.{narrows-refl}
 use Rattle.inequalities.specs.Flat.{exprsIn}
 use Rattle.split.specs.Runs.{Going, left, going-starts, goes-on, left-less}
 use Rattle.split.specs.Trees.{Live}
+use Rattle.zones.specs.Fits.{Fit, noted-trusted, noted-ranges}
 use Rattle.zones.specs.FlatLaws.{Listing, settled-same, settled-leaves}
+use Rattle.zones.specs.Hinted.{exprsOf, Hinted, Trusted, notedC}
 use Rattle.zones.specs.Settled.{Verdict, neverC, oppositeC, onC, settledC, settledF, settledLeaves}
+use Rattle.zones.specs.declared.hint.Hint.{Hint}
 use Rattle.zones.specs.declared.zone.Zone.{Zone}
 
 -- the part after a verdict on its test t, via being what was compared and x the place of the entry
@@ -204,9 +207,6 @@ module _ (b : Ranges) (r : Rule) (long : length (r .old) ≡ 25) (q : Part) (ear
       first false e = second (ltb (v .kind) 2) refl (ltb-false (v .kind) 1 e)
 
 -- ---- a part on its way, with the list of its zone's inequalities; c are the ranges that these leave
-abbrev pub exprsOf : Zone → List Affine
-exprsOf z = map affine (take (z .count) (z .ineqs))
-
 pub record Way (r : Rule) (z : Zone) (c : Ranges) (n : ℕ) (p : Part) (flat : List ℤ) (q : Part) : Type 0 where
   pub matrix : length (r .old) ≡ 25
   pub counted : n ≡ min (z .count) 24
@@ -232,6 +232,54 @@ way-starts r c n p flat live m count long same =
       going = λ d h. going-starts d r p live;
       early = live .early;
     }
+
+-- ---- what is known of its zone, from what was known at first
+pub record Knowing (z : Zone) (first now : Hint) : Type 0 where
+  pub ranges : now .ranges ≡ first .ranges
+  pub trusted : Trusted z now
+
+pub knowing-starts : (z : Zone) (h : Hint) → Trusted z h → Knowing z h h
+knowing-starts z h t = record { ranges = refl; trusted = t }
+
+pub knowing-hinted : (b : Ranges) (z : Zone) (first now : Hint) → Knowing z first now → Hinted b z first → Hinted b z now
+knowing-hinted b z first now k h =
+    record {
+      narrows = subst (λ (c : Ranges). Narrows (exprsOf z) (rangeList b) (rangeList c)) (sym (k .ranges)) (h .narrows);
+      trusted = k .trusted;
+    }
+
+module _ (r : Rule) (z : Zone) (first now : Hint) (n : ℕ) (p : Part) (flat : List ℤ) (q : Part) (w : Way r z (first .ranges) n p flat q)
+    (k : Knowing z first now) where
+  own : Listing (now .ranges) (now .ranges) z n flat
+  own =
+      record {
+        counted = w .counted;
+        long = w .long;
+        same = w .same;
+        narrows = narrows-refl (exprsOf z) (rangeList (now .ranges));
+      }
+
+  pub knowing-fits : Fit now n flat
+  knowing-fits = record { zone = z; listing = own; trusted = k .trusted }
+
+  -- the verdict is one over the first ranges
+  pub knowing-settled : (t : Test) (kind : ℕ) → kind ≡ settledF (now .ranges) flat n t → kind ≡ settledF (first .ranges) flat n t
+  knowing-settled t kind e = e ∙ ap (λ (c : Ranges). settledF c flat n t) (k .ranges)
+
+  pub knowing-left : (t : Test) (m : List ℤ) → m ≡ settledLeaves (now .ranges) flat n t → m ≡ settledLeaves (first .ranges) flat n t
+  knowing-left t m e = e ∙ ap (λ (c : Ranges). settledLeaves c flat n t) (k .ranges)
+
+  pub knowing-turn : (t : Test) (kind : ℕ) → kind ≡ settledF (now .ranges) flat n t → (s : Bool) (h : Hint)
+      → h ≡ cond s (notedC now t kind) now → Knowing z first h
+  knowing-turn t kind e s h g = subst (Knowing z first) (sym g) (by s)
+    where
+      by : (s : Bool) → Knowing z first (cond s (notedC now t kind) now)
+      by true =
+          record {
+            ranges = noted-ranges now t kind ∙ k .ranges;
+            trusted = noted-trusted z now t kind (k .trusted) (e ∙ settled-same (now .ranges) (now .ranges) z n flat t own);
+          }
+      by false = k
 
 module _ (r : Rule) (z : Zone) (c : Ranges) (n : ℕ) (p : Part) (flat : List ℤ) (q : Part) (w : Way r z c n p flat q) (h : q .halt < 1)
   where

@@ -1,27 +1,41 @@
 // A part of a zone worked on until it stops: the tests of a guard one after another.
 use constrain::Rule;
+use expr::Valuation;
 use parts::Part;
 use zones::Hint;
 use zones::Zone;
 ghost use mathlib.Core.Path.{_≡_};
 ghost use Rattle.parts.specs.Parts.{withBounds};
 ghost use Rattle.expr.specs.declared.range.Ranges.{Ranges};
-ghost use Rattle.zones.specs.Hinted.{Hinted};
+ghost use Rattle.zones.specs.Hinted.{Hinted, Trusted};
 ghost use Rattle.split.specs.Trees.{Live, Ran};
 
+// Where a part stops; what is known of its zone then; and a valuation: where it splits, the zone's guess may lie in one of the two parts
+// and this one in the other.
+pub struct Stop {
+    pub part: Part,
+    pub hint: Hint,
+    pub witness: Valuation,
+}
+
 // The part where it stops, whatever the ranges are that the hint was made of; an entry past the clocks asks nothing.
-pub fn run(hint: Hint, r: Rule, p: Part) -> Part
-    requires { ⌜ Live p ⌝ }
-    ensures { λ q. ⌜ ((b : Ranges) → Hinted b (p .zone) hint → Ran b r p q) ⌝ }
-    ensures same { λ q. ⌜ q .zone ≡ withBounds (p .zone) (q .zone .bounds) ⌝ }
+pub fn run(hint: Hint, r: Rule, p: Part) -> Stop
+    requires { ⌜ Live p × Trusted (p .zone) hint ⌝ }
+    ensures { λ q. ⌜ ((b : Ranges) → Hinted b (p .zone) hint → Ran b r p (q .part)) ⌝ }
+    ensures same { λ q. ⌜ q .part .zone ≡ withBounds (p .zone) (q .part .zone .bounds) ⌝ }
+    ensures known { λ q. ⌜ ((b : Ranges) → Hinted b (p .zone) hint → Hinted b (p .zone) (q .hint)) ⌝ }
 {
+    let mut known = hint;
+    let mut witness = hint.guess;
     if 0 < p.halt {
-        return p;
+        return Stop {
+            part: p,
+            hint: known,
+            witness,
+        };
     }
     let zone = p.zone;
     let list = zones::flat_of(zone);
-    let ranges = hint.ranges;
-    let guess = hint.guess;
     let mut flat = list.numbers;
     let matrix = r.old;
     let old = constrain::framed_of(matrix);
@@ -46,10 +60,16 @@ pub fn run(hint: Hint, r: Rule, p: Part) -> Part
             let was = old.entries[w];
             let via = constrain::via(r.clocks, phase, bound, first, last);
             let t = via.tighter(was);
-            let kind = zones::settled(ranges, guess, &mut flat, list.count, t);
+            let verdict = settling::settled(known, &mut flat, list.count, t);
+            if verdict.searched {
+                let more = zones::noted(known, t, verdict.kind);
+                known = more;
+            }
+            let found = verdict.witness;
+            witness = found;
             let x = at.into;
             let kept = new[x];
-            let next = parts::turned(phase, tests, test, kept, t, via, kind);
+            let next = parts::turned(phase, tests, test, kept, t, via, verdict.kind);
             let entry = next.entry;
             new[x] = entry;
             let question = next.test;
@@ -65,11 +85,16 @@ pub fn run(hint: Hint, r: Rule, p: Part) -> Part
         ineqs,
         bounds: new,
     };
-    Part {
+    let part = Part {
         phase,
         halt,
         tests,
         test,
         zone: left,
+    };
+    Stop {
+        part,
+        hint: known,
+        witness,
     }
 }

@@ -54,7 +54,7 @@ fn listed(b: Ranges, zones: Zones) -> Worked
         return blank(refused(zones.refusal, zones.visit));
     }
     let kept = kept::kept(b, zones);
-    let all = zones::held(b, Zone::BLANK);
+    let all = holding::held(b, Zone::BLANK);
     let list = zones.list;
     Worked {
         answer: Answer::Listed(Counts {

@@ -20,12 +20,13 @@ use Rattle.split.specs.Trees.{startC}
 use Rattle.steps.specs.Steps.{noZone, changedC, keptC, asksC, partC}
 use Rattle.steps.specs.declared.step.Step.{Step}
 use Rattle.zones.specs.Hinted.{Hinted}
-use Rattle.zones.specs.declared.settle.Hint.{Hint}
+use Rattle.zones.specs.declared.hint.Hint.{Hint}
 use Rattle.zones.specs.declared.zone.Zone.{Zone}
 
 -- what is read past the end of a list of hints
 abbrev pub noHint : Hint
-noHint = record { ranges = record { list = [] }; guess = record { numbers = [] } }
+noHint =
+    record { ranges = record { list = [] }; guess = record { numbers = [] }; nogoods = record { list = []; next = 0 } }
 
 -- each zone has its hint: those that are listed, those that are still to be taken up, and those of the parts that wait
 pub record Known (b : Ranges) (list : List Zone) (hints : List Hint) (spare : List Zone) (spares : List Hint) (stack : List Part)
@@ -43,16 +44,16 @@ pub record Known (b : Ranges) (list : List Zone) (hints : List Hint) (spare : Li
 
 -- ---- what a zone has does not depend on its matrix
 pub hinted-bounds : (b : Ranges) (z y : Zone) (m : List Bound) (h : Hint) → y ≡ withBounds z m → Hinted b z h → Hinted b y h
-hinted-bounds b z y m h e k = rw e (record { narrows = k .narrows })
+hinted-bounds b z y m h e k = rw e (record { narrows = k .narrows; trusted = k .trusted })
 
 hinted-changed : (b : Ranges) (st : Step) (w : ℕ) (z : Zone) (h : Hint) → Hinted b z h → Hinted b (changedC st w z) h
 unfolding changedC
 hinted-changed b st w z h k = by (ltb (st .kind) 1) (ltb (st .kind) 2)
   where
     by : (s t : Bool) → Hinted b (cond s (delayedZone w z) (cond t z (resetsZone w (st .bits) z))) h
-    by true t = record { narrows = k .narrows }
+    by true t = record { narrows = k .narrows; trusted = k .trusted }
     by false true = k
-    by false false = record { narrows = k .narrows }
+    by false false = record { narrows = k .narrows; trusted = k .trusted }
 
 pub hinted-part : (b : Ranges) (st : Step) (w : ℕ) (z : Zone) (h : Hint) → Hinted b z h → Hinted b (partC st w z .zone) h
 unfolding partC

@@ -35,12 +35,16 @@ use Rattle.sheet.specs.declared.Sheet.{Sheet}
 use Rattle.steps.specs.Steps.{noZone, closed, stepsAll, partC}
 use Rattle.steps.specs.declared.step.Step.{Step}
 use Rattle.steps.specs.declared.step.Steps.{Steps}
+use Rattle.windows_route.specs.Fewer.{fewer-yes, fewer-no}
 use Rattle.windows_route.specs.Known.{Known, noHint, known-starts, known-again}
 use Rattle.windows_route.specs.Known.{known-stepped, known-dropped, known-passed, known-loaded}
 use Rattle.windows_route.specs.Known.{known-pushed, known-listed, known-listed-late, hinted-bounds, hinted-part}
-use Rattle.zones.specs.Hinted.{Hinted}
+use Rattle.systems.specs.Boxes.{Narrows}
+use Rattle.expr.specs.Records.{rangeList}
+use Rattle.zones.specs.Fits.{Fewer, hinted-fewer}
+use Rattle.zones.specs.Hinted.{exprsOf, Hinted}
 use Rattle.zones.specs.Zone.{blankZone}
-use Rattle.zones.specs.declared.settle.Hint.{Hint}
+use Rattle.zones.specs.declared.hint.Hint.{Hint}
 use Rattle.zones.specs.declared.zone.Zone.{Zone}
 use Rattle.zones.specs.declared.zone.Zones.{Zones}
 
@@ -191,16 +195,18 @@ pub less-next : (end k : ℕ) (steps next : Steps) (stack : List Part) (p : Pass
 less-next end k steps next stack p h few n l = let z = load-none stack in omega arith
 
 -- ---- the turns of a segment
--- a part is run to q, with the hint h
+-- a part is run to q, and h is known of its zone then
 pub record Run (s : Sheet) (end : ℕ) (here : Location) (steps : Steps) (list spare : List Zone) (hints spares : List Hint) (stack :
     List Part)
     (waits : List Hint) (r : Rule) (p : Pass) (k : ℕ) (h : Hint) (q : Part) : Type 0 where
   pub w : Walking s end here steps list spare hints spares stack waits r p k
   pub go : p .j < steps .count
   pub busy : 0 < p .depth
-  pub hint : h ≡ getD waits (p .depth - 1) noHint
-  pub ran : (b : Ranges) → Hinted b (getD stack (p .depth - 1) noPart .zone) h → Ran b r (getD stack (p .depth - 1) noPart) q
+  pub ran : (b : Ranges) → Hinted b (getD stack (p .depth - 1) noPart .zone) (getD waits (p .depth - 1) noHint)
+      → Ran b r (getD stack (p .depth - 1) noPart) q
   pub same : q .zone ≡ withBounds (getD stack (p .depth - 1) noPart .zone) (q .zone .bounds)
+  pub known : (b : Ranges) → Hinted b (getD stack (p .depth - 1) noPart .zone) (getD waits (p .depth - 1) noHint)
+      → Hinted b (getD stack (p .depth - 1) noPart .zone) h
 
 -- no part waits, and st is the step
 pub record Free (s : Sheet) (end : ℕ) (here : Location) (steps : Steps) (list spare : List Zone) (hints spares : List Hint) (stack :
@@ -241,14 +247,13 @@ module _ {s : Sheet} {end : ℕ} {here : Location} {steps : Steps} {list spare :
   inside : p .j < length (stepsIn steps)
   inside = omega (arith, t .go, w .counted)
 
-  top-hinted : Hinted (s .ranges) (getD stack (p .depth - 1) noPart .zone) h
-  top-hinted =
-      subst (Hinted (s .ranges) (getD stack (p .depth - 1) noPart .zone)) (sym (t .hint)) (w .known .waiting (p .depth - 1) (omega
-      (arith, t .busy)))
+  top-hinted : Hinted (s .ranges) (getD stack (p .depth - 1) noPart .zone) (getD waits (p .depth - 1) noHint)
+  top-hinted = w .known .waiting (p .depth - 1) (omega (arith, t .busy))
 
   end-hinted : Hinted (s .ranges) (q .zone) h
   end-hinted =
-      hinted-bounds (s .ranges) (getD stack (p .depth - 1) noPart .zone) (q .zone) (q .zone .bounds) h (t .same) top-hinted
+      hinted-bounds (s .ranges) (getD stack (p .depth - 1) noPart .zone) (q .zone) (q .zone .bounds) h (t .same)
+      (t .known (s .ranges) top-hinted)
 
   told : Ran (s .ranges) r (getD stack (p .depth - 1) noPart) q
   told = t .ran (s .ranges) top-hinted
@@ -296,14 +301,22 @@ module _ {s : Sheet} {end : ℕ} {here : Location} {steps : Steps} {list spare :
     abbrev more : List Part
     more = set (set stack (p .depth - 1) no) (p .depth - 1 + 1) yes
 
-    pub walking-split : (g i : Hint) → Hinted (s .ranges) (no .zone) g → Hinted (s .ranges) (yes .zone) i → (p′ : Pass) → p′ ≡ pushedC p
+    fewer : (y z : Part) → y ≡ z → Fewer (z .zone) (q .zone) → (g : Hint)
+        → Narrows (exprsOf (y .zone)) (rangeList (s .ranges)) (rangeList (g .ranges)) → g .nogoods ≡ h .nogoods
+        → Hinted (s .ranges) (y .zone) g
+    fewer y z e f g n same =
+        hinted-fewer (s .ranges) (q .zone) (y .zone) h g (subst (λ (x : Part). Fewer (x .zone) (q .zone)) (sym e) f) end-hinted n same
+
+    pub walking-split : (g i : Hint) → Narrows (exprsOf (no .zone)) (rangeList (s .ranges)) (rangeList (g .ranges))
+        → g .nogoods ≡ h .nogoods → Narrows (exprsOf (yes .zone)) (rangeList (s .ranges)) (rangeList (i .ranges))
+        → i .nogoods ≡ h .nogoods → (p′ : Pass) → p′ ≡ pushedC p
         → Walking s end here steps list spare hints spares more (set (set waits (p .depth - 1) g) (p .depth - 1 + 1) i) r p′ k
-    walking-split g i kn ky p′ e =
+    walking-split g i ng sg ni si p′ e =
         rw e
         (keep w list spare hints spares more (set (set waits (p .depth - 1) g) (p .depth - 1 + 1) i) r (pushedC p)
         (turn-split _ _ _ _ list spare stack r p (w .machine) inside (t .busy) q told f no yes hn hy)
         (known-pushed (s .ranges) list hints spare spares stack waits p (w .known) no yes g i (p .depth - 1) (omega (arith, t .busy))
-        (room-split f) kn ky))
+        (room-split f) (fewer no (noC r q) hn (fewer-no r q) g ng sg) (fewer yes (yesC r q) hy (fewer-yes r q) i ni si)))
 
     pub way-split : (p′ : Pass) → p′ ≡ pushedC p → way end k steps more p′ < way end k steps stack p
     way-split p′ e =

@@ -36,7 +36,8 @@ pub fn walk(file: &[u8], ix: Index) -> Zones
     let mut steps = first.steps;
     let mut list = [Zone::BLANK; 32];
     let mut spare = list;
-    let mut hints = [zones::hint_of(b, Zone::BLANK); 32];
+    let corner = holding::first_held(b, Zone::BLANK);
+    let mut hints = [zones::hint_of(b, Zone::BLANK, Hint::NONE, corner); 32];
     let mut spares = hints;
     let mut stack = [split::start(Zone::BLANK); 25];
     let mut waits = [Hint::NONE; 25];
@@ -48,8 +49,10 @@ pub fn walk(file: &[u8], ix: Index) -> Zones
             if 0 < s.depth {
                 let top = s.depth - 1;
                 let popped = stack[top];
-                let hint = waits[top];
-                let p = split::run(hint, rule, popped);
+                let stop = split::run(waits[top], rule, popped);
+                let p = stop.part;
+                let hint = stop.hint;
+                let witness = stop.witness;
                 let refusal = passing::number(p.halt, s.kept);
                 if 0 < refusal {
                     return passing::refused(refusal, s.visit);
@@ -57,12 +60,12 @@ pub fn walk(file: &[u8], ix: Index) -> Zones
                 if p.halt == 3 {
                     let no = parts::no_part(rule, p);
                     let no_zone = no.zone;
-                    let no_hint = zones::hint_of(b, no_zone);
+                    let no_hint = zones::hint_of(b, no_zone, hint, witness);
                     stack[top] = no;
                     waits[top] = no_hint;
                     let yes = parts::yes_part(rule, p);
                     let yes_zone = yes.zone;
-                    let yes_hint = zones::hint_of(b, yes_zone);
+                    let yes_hint = zones::hint_of(b, yes_zone, hint, witness);
                     stack[top + 1] = yes;
                     waits[top + 1] = yes_hint;
                     s = passing::pushed(s);

@@ -43,7 +43,7 @@ listing-put b c z n l e h =
     }
 
 module _ (b c : Ranges) (z : Zone) (n : ℕ) where
-  never-same : (l : List ℤ) (e : Expr) → Listing b c z n l → neverF c l n e ≡ neverC b z e
+  pub never-same : (l : List ℤ) (e : Expr) → Listing b c z n l → neverF c l n e ≡ neverC b z e
   unfolding neverF neverC
   never-same l e h =
       let xs = take (z .count) (z .ineqs) in

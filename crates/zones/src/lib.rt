@@ -1,16 +1,16 @@
-// Zones (paper: pieces) by value, and a test on one: settled, or what is left of the zone on each side of it.
-mod settle;
+// Zones (paper: pieces) by value, their inequalities as the list that the search takes, and what is known of a zone before its tests.
+mod hint;
 mod system;
 mod zone;
 
-pub use settle::Hint;
-pub use settle::first_held;
-pub use settle::held;
-pub use settle::hint_of;
-pub use settle::settled;
-pub use settle::with_opposite;
+pub use hint::Hint;
+pub use hint::better;
+pub use hint::hint_of;
+pub use hint::noted;
 pub use system::Flat;
 pub use system::flat_of;
+pub use system::put;
 pub use zone::Zone;
 pub use zone::Zones;
 pub use zone::with_inequality;
+pub use zone::with_opposite;

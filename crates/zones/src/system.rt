@@ -17,7 +17,7 @@ pub struct Flat {
 }
 
 // Writes e into the list as inequality k, where it has room for 25 and k is one of them.
-pub(crate) fn put(flat: &mut [i32], k: usize, e: Expr)
+pub fn put(flat: &mut [i32], k: usize, e: Expr)
     ensures { λ _. ⌜ now (flat .exit) ≡ putIn (now (flat .entry)) k e ⌝ }
 {
     if k < 25 {

@@ -2,6 +2,7 @@
 use expr::Bound;
 use expr::Expr;
 ghost use mathlib.Core.Path.{_≡_};
+ghost use Rattle.zones.specs.Settled.{oppositeC};
 ghost use Rattle.zones.specs.Zone.{moreC};
 
 // A zone: its inequalities, the first `count` of the list, each an expression that is at least 0, zeros past them; and its matrix, five
@@ -41,4 +42,11 @@ pub fn with_inequality(zone: Zone, e: Expr) -> Zone
         return more;
     }
     zone
+}
+
+// The zone with the opposite of e ≥ 0 as one more inequality; one with 24 stays as it is.
+pub fn with_opposite(zone: Zone, e: Expr) -> Zone
+    ensures { λ r. ⌜ r ≡ moreC zone (oppositeC e) ⌝ }
+{
+    with_inequality(zone, e.opposite())
 }

@@ -5,8 +5,20 @@ use borrow.Author.Needs.{needs}
 use Prim.Native.Nat.{_-_}
 use native.Mathlib.Omega.{arith}
 use mathlib.Core.Path.{_∙_}
-use lib.ListN.{replicate}
-use Rattle.split.specs.Stack.{Turned, Turn, drained, load, cut-sticks, start-turned, ends-turned, refused-turned, room-turned}
+use Rattle.zones.specs.Fits.{hinted-new}
+use lib.ListN.{getD, replicate}
+use Rattle.split.specs.Stack.{
+  noPart,
+  Turned,
+  Turn,
+  drained,
+  load,
+  cut-sticks,
+  start-turned,
+  ends-turned,
+  refused-turned,
+  room-turned,
+}
 use Rattle.split.specs.Stack.{splits-turned, splits-less, ends-less, all-turned, start-whole, top-live}
 
 abbrev Inv-loop : tie.InvT-loop
@@ -18,20 +30,21 @@ abbrev μ-loop : tie.MeasureT-loop
 -- the turn that is made when `ended` has returned
 abbrev TurnAt : tie.After-ended Inv-loop μ-loop → Type 0
 TurnAt c =
-    let at-loop = c .before .before .before .before .before .before in
+    let at-loop = c .before .before .before .before .before .before .before .before in
     let after-start = at-loop .before in
     let a = after-start .before .before .before .args in
     Turn (a .b) (a .r) (at-loop .loop .stack) (at-loop .loop .n) (at-loop .loop .now) (c .ended .result)
-    (drained (a .b) (a .r) (replicate 25 (after-start .start .result)) 1 (a .out)) (c .before .run .result)
+    (drained (a .b) (a .r) (replicate 25 (after-start .start .result)) 1 (a .out)) (c .before .before .run .result .part)
 
 turn : (c : tie.After-ended Inv-loop μ-loop) → TurnAt c
 turn c =
-    let in-loop = c .before .before .before .before .before in
+    let in-loop = c .before .before .before .before .before .before .before in
     let a = in-loop .before .before .before .before .before .args in
+    let hinted = c .before .before .before .hint-of in
     record {
       top = omega (arith, in-loop .loop-test .taken);
       turned = in-loop .before .loop .inv;
-      ran = c .before .run .ensures .0 (a .b) (c .before .before .hint-of .ensures);
+      ran = c .before .before .run .ensures .0 (a .b) (hinted-new (a .b) _ (hinted .result) (hinted .ensures .0) (hinted .ensures .1));
       ended = c .ended .ensures;
     }
 
@@ -55,14 +68,21 @@ mul-popped c = omega (arith, c .before .loop .inv .few)
 array-copy-out-popped : tie.Need-array-copy-out-popped Inv-loop μ-loop
 array-copy-out-popped c = omega (arith, c .loop-test .taken, c .before .loop .inv .few)
 
+first-held-requires : tie.Need-first-held-requires Inv-loop μ-loop
+first-held-requires c κs = search needs
+
 hint-of-requires : tie.Need-hint-of-requires Inv-loop μ-loop
 hint-of-requires c κs = search needs
 
 run-requires : tie.Need-run-requires Inv-loop μ-loop
 run-requires c κs =
-    let in-loop = c .before .before .before in
+    let in-loop = c .before .before .before .before in
     let at-loop = in-loop .before .loop in
-    top-live (at-loop .stack) (at-loop .n) (at-loop .n - 1) (omega (arith, in-loop .loop-test .taken)) (at-loop .inv .waiting)
+    let a = in-loop .before .before .before .before .before .args in (
+      top-live (at-loop .stack) (at-loop .n) (at-loop .n - 1) (omega (arith, in-loop .loop-test .taken)) (at-loop .inv .waiting),
+      hinted-new (a .b) (getD (at-loop .stack) (at-loop .n - 1) noPart .zone) (c .hint-of .result) (c .hint-of .ensures .0) (c .hint-of
+          .ensures .1) .trusted,
+    )
 
 ended-requires : tie.Need-ended-requires Inv-loop μ-loop
 ended-requires c κs = search needs
@@ -70,7 +90,7 @@ ended-requires c κs = search needs
 returns-2 : tie.Need-returns-2 Inv-loop μ-loop
 returns-2 c =
     let after-ended = c .before .before in
-    let at-loop = after-ended .before .before .before .before .before .before in
+    let at-loop = after-ended .before .before .before .before .before .before .before .before in
     let after-start = at-loop .before in
     let a = after-start .before .before .before .args in
     refused-turned (turn after-ended) (c .if2 .taken)
@@ -127,7 +147,7 @@ loop-again c =
 loop-less-2 : tie.Need-loop-less-2 Inv-loop μ-loop
 loop-less-2 c =
     let after-ended = c .before .before .before .before in
-    let at-loop = after-ended .before .before .before .before .before .before .loop in
+    let at-loop = after-ended .before .before .before .before .before .before .before .before .loop in
     ends-less (at-loop .stack) (at-loop .n) (at-loop .n - 1) (turn after-ended .top)
 
 loop-again-2 : tie.Need-loop-again-2 Inv-loop μ-loop
@@ -153,6 +173,7 @@ cut-zone-spec =
     sub-top
     mul-popped
     array-copy-out-popped
+    first-held-requires
     hint-of-requires
     run-requires
     ended-requires

@@ -11,7 +11,8 @@ use Rattle.split.specs.Stack.{top-live}
 use Rattle.passing.specs.Machine.{noStep}
 use Rattle.passing.specs.State.{numberC}
 use Rattle.passing.specs.declared.pass.Pass.{Pass}
-use Rattle.windows_route.specs.Known.{noHint}
+use Rattle.zones.specs.Fits.{hinted-new}
+use Rattle.zones.specs.Zone.{blankZone}
 use Rattle.windows_route.specs.Walking.{Walking, Run, Free, way, counted-is, walking-starts, less-next, walking-next, walking-ends}
 use Rattle.windows_route.specs.Walking.{refused-ends, room-listed, room-split}
 use Rattle.windows_route.specs.Walking.{walking-dropped, walking-listed, walking-listed-late, walking-split, walking-stepped}
@@ -46,6 +47,9 @@ location-at-requires c κs = search needs
 segment-at-requires : tie.Need-segment-at-requires Inv-loop μ-loop
 segment-at-requires c κs = search needs
 
+first-held-requires : tie.Need-first-held-requires Inv-loop μ-loop
+first-held-requires c κs = search needs
+
 hint-of-requires : tie.Need-hint-of-requires Inv-loop μ-loop
 hint-of-requires c κs = search needs
 
@@ -61,54 +65,54 @@ begun-requires c κs = search needs
 loop-holds : tie.Need-loop-holds Inv-loop μ-loop
 unfolding sheetIn
 loop-holds c =
-    let up = c .before .before .before .before .before .before .before .before .before in
     let hinted = c .before .before .before in
-    let first = c .before .before .before .before .before .before in
+    let first = c .before .before .before .before .before .before .before in
     let found = first .before in
     let counted = found .before in
-    let start = up .before .before .before in
+    let start = counted .before .before .before .before in
     let a = start .args in
     let long : length (first .segment-at .result .steps .list) ≡ 20 =
     simp length-map at (first .segment-at .ok .1 .1 .0 .1 .1 .1 .0 .1 .0 .1) in
     walking-starts (sheetIn (a .file .now) (a .ix)) _ _ (first .segment-at .result) (hinted .hint-of .result) _ _ _ _
     (counted .moves .ensures .0) (counted .moves .ensures .1) (found .location-at .ensures) (first .segment-at .ensures) long
-    (hinted .hint-of .ensures) (c .begun .ensures)
+    (hinted-new (a .ix .ranges) blankZone (hinted .hint-of .result) (hinted .hint-of .ensures .0) (hinted .hint-of .ensures .1))
+    (c .begun .ensures)
 
 -- what holds when a part has been run
 run-at : (c : tie.After-run Inv-loop μ-loop)
     → let at-loop = c .before .before .before .before .before .before .before .before .before in
     let loop = at-loop .loop in
-    let a = c .before .before .before .before .before .before .before .before .before .before .before .before .before .before
+    let a = c .before .before .before .before .before .before .before .before .before .before .before .before .before .before .before
     .before .before .before .before .before .before .before .before .args in
     Run (sheetIn (a .file .now) (a .ix)) (c .before .before .before .before .before .before .before .before .before .before .before
-    .before .before .before .before .before .before .before .moves .result + 2) (loop .here) (loop .steps) (loop .list) (loop
+    .before .before .before .before .before .before .before .before .moves .result + 2) (loop .here) (loop .steps) (loop .list) (loop
     .spare)
-    (loop .hints) (loop .spares) (loop .stack) (loop .waits) (loop .rule) (loop .s) (loop .k) (getD (loop .waits) (loop .s .depth -
-    1) noHint)
-    (c .run .result)
+    (loop .hints) (loop .spares) (loop .stack) (loop .waits) (loop .rule) (loop .s) (loop .k) (c .run .result .hint) (c .run .result
+    .part)
 unfolding sheetIn
 run-at c =
     record {
       w = c .before .before .before .before .before .before .before .before .before .loop .inv;
       go = c .before .before .before .before .before .before .if1 .taken;
       busy = c .before .before .before .before .if2 .taken;
-      hint = refl;
       ran = c .run .ensures .0;
-      same = c .run .ensures .1;
+      same = c .run .ensures .1 .0;
+      known = c .run .ensures .1 .1;
     }
 
 -- .. and no refusal follows from it
-quiet-at : (c : tie.Else4 Inv-loop μ-loop) → numberC (c .before .before .before .before .run .result .halt) (c .before .before
-    .before .before .before .before .before .before .before .before .before .before .before .loop .s .kept) ≤ 0
+quiet-at : (c : tie.Else4 Inv-loop μ-loop) → numberC (c .before .before .before .before .before .before .before .run .result .part
+    .halt) (c .before .before .before .before .before .before .before .before .before .before .before .before .before .before .before
+    .before .loop .s .kept) ≤ 0
 quiet-at c = subst (λ (x : ℕ). x ≤ 0) (c .before .before .before .number .ensures) (c .before .before .if3 .left)
 
 -- what holds when no part waits
 free-at : (c : tie.After-step Inv-loop μ-loop)
     → let loop = c .before .before .before .before .before .before .loop in
-    let a = c .before .before .before .before .before .before .before .before .before .before .before .before .before .before
+    let a = c .before .before .before .before .before .before .before .before .before .before .before .before .before .before .before
     .before .before .before .before .before .args in
     Free (sheetIn (a .file .now) (a .ix)) (c .before .before .before .before .before .before .before .before .before .before .before
-    .before .before .before .before .moves .result + 2) (loop .here) (loop .steps) (loop .list) (loop .spare)
+    .before .before .before .before .before .moves .result + 2) (loop .here) (loop .steps) (loop .list) (loop .spare)
     (loop .hints) (loop .spares) (loop .stack) (loop .waits) (loop .rule) (loop .s) (loop .k) (getD (loop .steps .list) (loop .s .j)
     noStep)
 unfolding sheetIn
@@ -130,18 +134,20 @@ mul-popped c = search needs
 array-copy-out-popped : tie.Need-array-copy-out-popped Inv-loop μ-loop
 array-copy-out-popped c = search needs
 
-mul-hint : tie.Need-mul-hint Inv-loop μ-loop
-mul-hint c = search needs
+mul-run : tie.Need-mul-run Inv-loop μ-loop
+mul-run c = search needs
 
-array-copy-out-hint : tie.Need-array-copy-out-hint Inv-loop μ-loop
-array-copy-out-hint c = search needs
+array-copy-out-run : tie.Need-array-copy-out-run Inv-loop μ-loop
+array-copy-out-run c = search needs
 
 run-requires : tie.Need-run-requires Inv-loop μ-loop
 unfolding sheetIn
 run-requires c κs =
-    let loop = c .before .before .before .before .before .before .before .before .loop in
-    top-live (loop .stack) (loop .s .depth) (loop .s .depth - 1) (omega (arith, c .before .before .before .if2 .taken))
-    (loop .inv .machine .turned .waiting)
+    let loop = c .before .before .before .before .before .before .before .before .loop in (
+      top-live (loop .stack) (loop .s .depth) (loop .s .depth - 1) (omega (arith, c .before .before .before .if2 .taken))
+          (loop .inv .machine .turned .waiting),
+      loop .inv .known .waiting (loop .s .depth - 1) (omega (arith, c .before .before .before .if2 .taken)) .trusted,
+    )
 
 number-requires : tie.Need-number-requires Inv-loop μ-loop
 number-requires c κs = search needs
@@ -153,7 +159,8 @@ returns : tie.Need-returns Inv-loop μ-loop
 unfolding sheetIn
 returns c =
     let n = c .before .before .number in
-    c .refused .ensures ∙ refused-ends (run-at (c .before .before .before)) (n .result) (n .ensures) (c .before .if3 .taken)
+    c .refused .ensures ∙ refused-ends (run-at (c .before .before .before .before .before .before)) (n .result) (n .ensures) (c .before
+    .if3 .taken)
 
 no-part-requires : tie.Need-no-part-requires Inv-loop μ-loop
 no-part-requires c κs = search needs
@@ -163,19 +170,39 @@ hint-of-requires-2 c κs = search needs
 
 mul-stack : tie.Need-mul-stack Inv-loop μ-loop
 mul-stack c =
-    let t = run-at (c .before .before .before .before .before .before .before) in omega (arith, t .busy, t .w .machine .turned .few)
+    let t = run-at (c .before .before .before .before .before .before .before .before .before .before) in omega (
+      arith,
+      t .busy,
+      t .w
+          .machine .turned .few,
+    )
 
 array-set-from-stack : tie.Need-array-set-from-stack Inv-loop μ-loop
 array-set-from-stack c =
-    let t = run-at (c .before .before .before .before .before .before .before) in omega (arith, t .busy, t .w .machine .turned .few)
+    let t = run-at (c .before .before .before .before .before .before .before .before .before .before) in omega (
+      arith,
+      t .busy,
+      t .w
+          .machine .turned .few,
+    )
 
 mul-waits : tie.Need-mul-waits Inv-loop μ-loop
 mul-waits c =
-    let t = run-at (c .before .before .before .before .before .before .before) in omega (arith, t .busy, t .w .machine .turned .few)
+    let t = run-at (c .before .before .before .before .before .before .before .before .before .before) in omega (
+      arith,
+      t .busy,
+      t .w
+          .machine .turned .few,
+    )
 
 array-set-from-waits : tie.Need-array-set-from-waits Inv-loop μ-loop
 array-set-from-waits c =
-    let t = run-at (c .before .before .before .before .before .before .before) in omega (arith, t .busy, t .w .machine .turned .few)
+    let t = run-at (c .before .before .before .before .before .before .before .before .before .before) in omega (
+      arith,
+      t .busy,
+      t .w
+          .machine .turned .few,
+    )
 
 yes-part-requires : tie.Need-yes-part-requires Inv-loop μ-loop
 yes-part-requires c κs = search needs
@@ -186,100 +213,132 @@ hint-of-requires-3 c κs = search needs
 add-stack : tie.Need-add-stack Inv-loop μ-loop
 add-stack c =
     let up = c .before .before .before .before .before .before .before .before .before in
-    let t = run-at (up .before) in omega (arith, t .busy, room-split t (c .before .before .before .before .before .before .if4 .taken))
+    let t = run-at (up .before .before .before .before) in omega (
+      arith,
+      t .busy,
+      room-split t (c .before .before .before .before
+          .before .before .if4 .taken),
+    )
 
 mul-stack-2 : tie.Need-mul-stack-2 Inv-loop μ-loop
 mul-stack-2 c =
     let up = c .before .before .before .before .before .before .before .before .before in
-    let t = run-at (up .before) in omega (arith, t .busy, room-split t (c .before .before .before .before .before .before .if4 .taken))
+    let t = run-at (up .before .before .before .before) in omega (
+      arith,
+      t .busy,
+      room-split t (c .before .before .before .before
+          .before .before .if4 .taken),
+    )
 
 array-set-from-stack-2 : tie.Need-array-set-from-stack-2 Inv-loop μ-loop
 array-set-from-stack-2 c =
     let up = c .before .before .before .before .before .before .before .before .before in
-    let t = run-at (up .before) in omega (arith, t .busy, room-split t (c .before .before .before .before .before .before .if4 .taken))
+    let t = run-at (up .before .before .before .before) in omega (
+      arith,
+      t .busy,
+      room-split t (c .before .before .before .before
+          .before .before .if4 .taken),
+    )
 
 add-waits : tie.Need-add-waits Inv-loop μ-loop
 add-waits c =
     let up = c .before .before .before .before .before .before .before .before .before in
-    let t = run-at (up .before) in omega (arith, t .busy, room-split t (c .before .before .before .before .before .before .if4 .taken))
+    let t = run-at (up .before .before .before .before) in omega (
+      arith,
+      t .busy,
+      room-split t (c .before .before .before .before
+          .before .before .if4 .taken),
+    )
 
 mul-waits-2 : tie.Need-mul-waits-2 Inv-loop μ-loop
 mul-waits-2 c =
     let up = c .before .before .before .before .before .before .before .before .before in
-    let t = run-at (up .before) in omega (arith, t .busy, room-split t (c .before .before .before .before .before .before .if4 .taken))
+    let t = run-at (up .before .before .before .before) in omega (
+      arith,
+      t .busy,
+      room-split t (c .before .before .before .before
+          .before .before .if4 .taken),
+    )
 
 array-set-from-waits-2 : tie.Need-array-set-from-waits-2 Inv-loop μ-loop
 array-set-from-waits-2 c =
     let up = c .before .before .before .before .before .before .before .before .before in
-    let t = run-at (up .before) in omega (arith, t .busy, room-split t (c .before .before .before .before .before .before .if4 .taken))
+    let t = run-at (up .before .before .before .before) in omega (
+      arith,
+      t .busy,
+      room-split t (c .before .before .before .before
+          .before .before .if4 .taken),
+    )
 
 pushed-requires : tie.Need-pushed-requires Inv-loop μ-loop
 pushed-requires c κs =
     let up = c .before .before .before .before .before .before .before .before .before in
-    room-split (run-at (up .before)) (c .before .before .before .before .before .before .if4 .taken)
+    room-split (run-at (up .before .before .before .before)) (c .before .before .before .before .before .before .if4 .taken)
 
 loop-less : tie.Need-loop-less Inv-loop μ-loop
 loop-less c =
     let up = c .before .before .before .before .before .before .before .before .before in
-    way-split (run-at (up .before .before)) (c .before .before .before .before .before .before .before .if4 .taken) _ _ (c .before
-    .before .before .before .before .before .no-part .ensures)
+    way-split (run-at (up .before .before .before .before .before)) (c .before .before .before .before .before .before .before .if4
+    .taken) _ _ (c .before .before .before .before .before .before .no-part .ensures)
     (c .before .before .before .yes-part .ensures) _ (c .pushed .ensures)
 
 loop-again : tie.Need-loop-again Inv-loop μ-loop
 unfolding sheetIn
 loop-again c =
     let up = c .before .before .before .before .before .before .before .before .before in
-    walking-split (run-at (up .before .before)) (c .before .before .before .before .before .before .before .if4 .taken) _ _ (c
-    .before .before .before .before .before .before .no-part .ensures)
+    walking-split (run-at (up .before .before .before .before .before)) (c .before .before .before .before .before .before .before .if4
+    .taken) _ _ (c .before .before .before .before .before .before .no-part .ensures)
     (c .before .before .before .yes-part .ensures) _ _
-    (c .before .before .before .before .hint-of2 .ensures) (c .before .hint-of3 .ensures) _ (c .pushed .ensures)
+    (c .before .before .before .before .hint-of2 .ensures .0) (c .before .before .before .before .hint-of2 .ensures .1) (c .before
+    .hint-of3 .ensures .0)
+    (c .before .hint-of3 .ensures .1) _ (c .pushed .ensures)
 
 mul-was : tie.Need-mul-was Inv-loop μ-loop
 mul-was c =
     omega (
       arith,
-      room-listed (run-at (c .before .before .before .before .before .before .before .before)) (quiet-at (c .before
-          .before .before .before)) (c .before .before .if5 .taken),
+      room-listed (run-at (c .before .before .before .before .before .before .before .before .before .before .before)) (quiet-at (c
+          .before .before .before .before)) (c .before .before .if5 .taken),
     )
 
 array-copy-out-was : tie.Need-array-copy-out-was Inv-loop μ-loop
 array-copy-out-was c =
     omega (
       arith,
-      room-listed (run-at (c .before .before .before .before .before .before .before .before)) (quiet-at (c .before
-          .before .before .before)) (c .before .before .if5 .taken),
+      room-listed (run-at (c .before .before .before .before .before .before .before .before .before .before .before)) (quiet-at (c
+          .before .before .before .before)) (c .before .before .if5 .taken),
     )
 
 mul-spare : tie.Need-mul-spare Inv-loop μ-loop
 mul-spare c =
     omega (
       arith,
-      room-listed (run-at (c .before .before .before .before .before .before .before .before .before)) (quiet-at (c
-          .before .before .before .before .before)) (c .before .before .before .if5 .taken),
+      room-listed (run-at (c .before .before .before .before .before .before .before .before .before .before .before .before))
+          (quiet-at (c .before .before .before .before .before)) (c .before .before .before .if5 .taken),
     )
 
 array-set-from-spare : tie.Need-array-set-from-spare Inv-loop μ-loop
 array-set-from-spare c =
     omega (
       arith,
-      room-listed (run-at (c .before .before .before .before .before .before .before .before .before)) (quiet-at (c
-          .before .before .before .before .before)) (c .before .before .before .if5 .taken),
+      room-listed (run-at (c .before .before .before .before .before .before .before .before .before .before .before .before))
+          (quiet-at (c .before .before .before .before .before)) (c .before .before .before .if5 .taken),
     )
 
 mul-known : tie.Need-mul-known Inv-loop μ-loop
 mul-known c =
     omega (
       arith,
-      room-listed (run-at (c .before .before .before .before .before .before .before .before .before)) (quiet-at (c
-          .before .before .before .before .before)) (c .before .before .before .if5 .taken),
+      room-listed (run-at (c .before .before .before .before .before .before .before .before .before .before .before .before))
+          (quiet-at (c .before .before .before .before .before)) (c .before .before .before .if5 .taken),
     )
 
 array-copy-out-known : tie.Need-array-copy-out-known Inv-loop μ-loop
 array-copy-out-known c =
     omega (
       arith,
-      room-listed (run-at (c .before .before .before .before .before .before .before .before .before)) (quiet-at (c
-          .before .before .before .before .before)) (c .before .before .before .if5 .taken),
+      room-listed (run-at (c .before .before .before .before .before .before .before .before .before .before .before .before))
+          (quiet-at (c .before .before .before .before .before)) (c .before .before .before .if5 .taken),
     )
 
 mul-spares : tie.Need-mul-spares Inv-loop μ-loop
@@ -287,8 +346,8 @@ mul-spares c =
     let up = c .before .before .before .before .before .before .before .before .before in
     omega (
       arith,
-      room-listed (run-at (up .before)) (quiet-at (c .before .before .before .before .before .before)) (c .before
-          .before .before .before .if5 .taken),
+      room-listed (run-at (up .before .before .before .before)) (quiet-at (c .before .before .before .before .before .before)) (c
+          .before .before .before .before .if5 .taken),
     )
 
 array-set-from-spares : tie.Need-array-set-from-spares Inv-loop μ-loop
@@ -296,56 +355,56 @@ array-set-from-spares c =
     let up = c .before .before .before .before .before .before .before .before .before in
     omega (
       arith,
-      room-listed (run-at (up .before)) (quiet-at (c .before .before .before .before .before .before)) (c .before
-          .before .before .before .if5 .taken),
+      room-listed (run-at (up .before .before .before .before)) (quiet-at (c .before .before .before .before .before .before)) (c
+          .before .before .before .before .if5 .taken),
     )
 
 mul-list : tie.Need-mul-list Inv-loop μ-loop
 mul-list c =
     omega (
       arith,
-      room-listed (run-at (c .before .before .before .before .before .before .before .before .before)) (quiet-at (c
-          .before .before .before .before .before)) (c .before .before .before .if5 .taken),
+      room-listed (run-at (c .before .before .before .before .before .before .before .before .before .before .before .before))
+          (quiet-at (c .before .before .before .before .before)) (c .before .before .before .if5 .taken),
     )
 
 array-set-from-list : tie.Need-array-set-from-list Inv-loop μ-loop
 array-set-from-list c =
     omega (
       arith,
-      room-listed (run-at (c .before .before .before .before .before .before .before .before .before)) (quiet-at (c
-          .before .before .before .before .before)) (c .before .before .before .if5 .taken),
+      room-listed (run-at (c .before .before .before .before .before .before .before .before .before .before .before .before))
+          (quiet-at (c .before .before .before .before .before)) (c .before .before .before .if5 .taken),
     )
 
 mul-hints : tie.Need-mul-hints Inv-loop μ-loop
 mul-hints c =
     omega (
       arith,
-      room-listed (run-at (c .before .before .before .before .before .before .before .before .before)) (quiet-at (c
-          .before .before .before .before .before)) (c .before .before .before .if5 .taken),
+      room-listed (run-at (c .before .before .before .before .before .before .before .before .before .before .before .before))
+          (quiet-at (c .before .before .before .before .before)) (c .before .before .before .if5 .taken),
     )
 
 array-set-from-hints : tie.Need-array-set-from-hints Inv-loop μ-loop
 array-set-from-hints c =
     omega (
       arith,
-      room-listed (run-at (c .before .before .before .before .before .before .before .before .before)) (quiet-at (c
-          .before .before .before .before .before)) (c .before .before .before .if5 .taken),
+      room-listed (run-at (c .before .before .before .before .before .before .before .before .before .before .before .before))
+          (quiet-at (c .before .before .before .before .before)) (c .before .before .before .if5 .taken),
     )
 
 listed-requires : tie.Need-listed-requires Inv-loop μ-loop
 listed-requires c κs =
-    room-listed (run-at (c .before .before .before .before .before .before .before .before .before)) (quiet-at (c .before .before
-    .before .before .before)) (c .before .before .before .if5 .taken)
+    room-listed (run-at (c .before .before .before .before .before .before .before .before .before .before .before .before)) (quiet-at
+    (c .before .before .before .before .before)) (c .before .before .before .if5 .taken)
 
 loop-less-2 : tie.Need-loop-less-2 Inv-loop μ-loop
 loop-less-2 c =
     let up = c .before .before .before .before .before .before .before .before .before in
-    way-listed (run-at (up .before)) _ (c .listed .ensures)
+    way-listed (run-at (up .before .before .before .before)) _ (c .listed .ensures)
 
 loop-again-2 : tie.Need-loop-again-2 Inv-loop μ-loop
 loop-again-2 c =
     let up = c .before .before .before .before .before .before .before .before .before in
-    let t = run-at (up .before) in
+    let t = run-at (up .before .before .before .before) in
     let quiet = quiet-at (c .before .before .before .before .before .before) in
     let kept = c .before .before .before .before .if5 .taken in
     ⊎-elim (λ j. rw (j .3, j .4) (walking-listed t quiet kept _ (c .listed .ensures)))
@@ -356,12 +415,12 @@ dropped-requires c κs = search needs
 
 loop-less-3 : tie.Need-loop-less-3 Inv-loop μ-loop
 loop-less-3 c =
-    way-dropped (run-at (c .before .before .before .before .before .before .before)) _ (c .dropped .ensures)
+    way-dropped (run-at (c .before .before .before .before .before .before .before .before .before .before)) _ (c .dropped .ensures)
 
 loop-again-3 : tie.Need-loop-again-3 Inv-loop μ-loop
 loop-again-3 c =
-    walking-dropped (run-at (c .before .before .before .before .before .before .before)) (quiet-at (c .before .before .before)) (c
-    .before .before .before .if4 .left) (c .before .if5 .left) _
+    walking-dropped (run-at (c .before .before .before .before .before .before .before .before .before .before)) (quiet-at (c .before
+    .before .before)) (c .before .before .before .if4 .left) (c .before .if5 .left) _
     (c .dropped .ensures)
 
 mul-step : tie.Need-mul-step Inv-loop μ-loop
@@ -401,8 +460,8 @@ loop-again-4 : tie.Need-loop-again-4 Inv-loop μ-loop
 loop-again-4 c =
     let still = c .before .if9 .taken in
     ⊎-elim
-    (λ j. walking-passed (free-at (c .before .before .before .before .before .before)) (c .before .before .before .before .if7
-    .taken) (j .0 .taken) (j .3 .ensures (sym (j .4) ∙ still)) _
+    (λ j. walking-passed (free-at (c .before .before .before .before .before .before)) (c .before .before .before .before .if7 .taken)
+    (j .0 .taken) (j .3 .ensures (sym (j .4) ∙ still)) _
     (c .passed-by .ensures))
     (λ j. absurd (true≢false (sym still ∙ j .1))) (c .before .before .if8 .came)
 
@@ -418,17 +477,17 @@ mul-zone-2 c = search needs
 array-copy-out-zone-2 : tie.Need-array-copy-out-zone-2 Inv-loop μ-loop
 array-copy-out-zone-2 c = search needs
 
+mul-hint : tie.Need-mul-hint Inv-loop μ-loop
+mul-hint c = search needs
+
+array-copy-out-hint : tie.Need-array-copy-out-hint Inv-loop μ-loop
+array-copy-out-hint c = search needs
+
 mul-hint-2 : tie.Need-mul-hint-2 Inv-loop μ-loop
 mul-hint-2 c = search needs
 
 array-copy-out-hint-2 : tie.Need-array-copy-out-hint-2 Inv-loop μ-loop
 array-copy-out-hint-2 c = search needs
-
-mul-hint-3 : tie.Need-mul-hint-3 Inv-loop μ-loop
-mul-hint-3 c = search needs
-
-array-copy-out-hint-3 : tie.Need-array-copy-out-hint-3 Inv-loop μ-loop
-array-copy-out-hint-3 c = search needs
 
 rule-requires-2 : tie.Need-rule-requires-2 Inv-loop μ-loop
 rule-requires-2 c κs = search needs
@@ -496,7 +555,7 @@ loop-less-7 c =
     let long : length (next .result .steps .list) ≡ 20 = simp length-map at (next .ok .1 .1 .0 .1 .1 .1 .0 .1 .0 .1) in
     let at-loop = c .before .before .before .before .before .before .before in
     let loop = at-loop .loop in
-    let end = at-loop .before .before .before .before .before .before .before .before .before .moves .result + 2 in
+    let end = at-loop .before .before .before .before .before .before .before .before .before .before .moves .result + 2 in
     subst (λ (p : Pass). way end (loop .k + 1) (next .result .steps) (loop .stack) p < way end (loop .k) (loop .steps) (loop .stack)
     (loop .s))
     (sym (c .begun2 .ensures))
@@ -540,6 +599,7 @@ walk-spec =
     add-end
     location-at-requires
     segment-at-requires
+    first-held-requires
     hint-of-requires
     start-requires
     rule-requires
@@ -548,8 +608,8 @@ walk-spec =
     sub-top
     mul-popped
     array-copy-out-popped
-    mul-hint
-    array-copy-out-hint
+    mul-run
+    array-copy-out-run
     run-requires
     number-requires
     refused-requires
@@ -603,10 +663,10 @@ walk-spec =
     array-copy-out-zone
     mul-zone-2
     array-copy-out-zone-2
+    mul-hint
+    array-copy-out-hint
     mul-hint-2
     array-copy-out-hint-2
-    mul-hint-3
-    array-copy-out-hint-3
     rule-requires-2
     part-of-requires
     array-set-from-stack-3

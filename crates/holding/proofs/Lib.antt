@@ -1,0 +1,2 @@
+-- The first valuation.
+pub mod First
