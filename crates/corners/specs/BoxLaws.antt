@@ -6,13 +6,13 @@ use Prim.Native.Nat.{ℕ, zero, suc, _+_, _-_, _≤_, _<_}
 use native.Mathlib.Omega.{arith}
 use lib.Dec.{ltb}
 use lib.IntN.{pos}
-use lib.ListN.{length, getD}
+use lib.ListN.{getD}
 use lib.Signed.{ltZ, _≤ℤ_, ≤ℤ-refl}
 use borrow.Author.Tests.{ltb-true, ltb-false}
 use Rattle.integer.specs.Order.{ltZ-false}
 use Rattle.expr.specs.Records.{blankRange}
 use Rattle.expr.specs.declared.range.Range.{Range}
-use Rattle.corners.specs.Boxes.{Points, Two, wideFrom}
+use Rattle.corners.specs.Boxes.{Points, wideFrom}
 
 -- ---- ranges of one number at most, place by place
 pub points-at : (k : ℕ) (rs : List Range) (j : ℕ) → Points k rs → j < k → getD rs j blankRange .high ≤ℤ getD rs j blankRange .low
@@ -70,12 +70,3 @@ wide-points rs n i p = points-all (wideFrom rs i n) rs (λ j h. by j (ltb j i) r
     by : (j : ℕ) (b : Bool) → ltb j i ≡ b → j < wideFrom rs i n → getD rs j blankRange .high ≤ℤ getD rs j blankRange .low
     by j true e h = points-at i rs j p (omega (arith, ltb-true))
     by j false e h = wide-between rs n i j (omega (arith, ltb-false)) h
-
--- the first and the second such range, if there is no third
-pub wide-two : (rs : List Range) (w t m n : ℕ) → Points w rs → t ≡ wideFrom rs (w + 1) m → length rs ≤ wideFrom rs (t + 1) n → Two w t rs
-wide-two rs w t m n p e l j h a b = by (ltb j w) refl (ltb j t) refl
-  where
-    by : (x : Bool) → ltb j w ≡ x → (y : Bool) → ltb j t ≡ y → getD rs j blankRange .high ≤ℤ getD rs j blankRange .low
-    by true q y r = points-at w rs j p (omega (arith, ltb-true))
-    by false q true r = wide-between rs m (w + 1) j (omega (arith, ltb-false)) (omega (arith, ltb-true))
-    by false q false r = wide-between rs n (t + 1) j (omega (arith, ltb-false)) (omega arith)

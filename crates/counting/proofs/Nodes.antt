@@ -4,7 +4,6 @@ use mathlib.Core.Path.{_≡_, refl, sym, ap, _∙_}
 use mathlib.Core.Bool.{Bool, true, false}
 use mathlib.Core.List.{List, map}
 use Prim.Native.Nat.{ℕ, _+_, _-_, _≤_, _<_, min}
-use native.Mathlib.Numerals.{add-one}
 use native.Mathlib.Omega.{arith}
 use lib.Dec.{eqb}
 use lib.IntN.{ℤ, pos, _+ℤ_}
@@ -16,8 +15,9 @@ use Rattle.expr.specs.declared.range.Range.{Range}
 use Rattle.corners.specs.Boxes.{lowOf, pointOf, Points}
 use Rattle.inequalities.specs.Flat.{exprsFrom, exprsIn}
 use Rattle.systems.specs.Boxes.{Narrows, Never}
-use Rattle.systems.specs.BoxLaws.{count-narrows, count-nothing, count-all, count-empty, count-place, count-listed}
-use Rattle.systems.specs.BoxLaws.{one-corner, points-set}
+use Rattle.picking.specs.AnyPlace.{count-any}
+use Rattle.picking.specs.Wides.{Wide, wides, wides-within, wides-put}
+use Rattle.systems.specs.BoxLaws.{count-narrows, count-nothing, count-all, count-empty, count-listed, one-corner}
 use Rattle.valuations.specs.SearchLaws.{total}
 use Rattle.valuations.specs.Valuations.{satisfies, count, width, widths}
 use Rattle.widths.specs.Cap.{CAP}
@@ -76,13 +76,14 @@ abbrev pub countAt : List Affine → List Range → ℕ → ℤ → ℕ
 countAt es cs w = λ (x : ℤ). count (set cs w (pointOf x)) es
 
 module _ (es : List Affine) (cs : List Range) (w : ℕ) (r : Range) (n : ℕ) where
-  pub count-begin : Points w cs → w < length cs → r ≡ getD cs w blankRange → n ≡ width r
+  pub count-begin : w < length cs → r ≡ getD cs w blankRange → n ≡ width r
       → min (0 + total (countAt es cs w) (r .low +ℤ pos 0) (n - 0)) CAP ≡ min (count cs es) CAP
-  count-begin p l e f = ap (λ (z : ℕ). min z CAP) (total-start (countAt es cs w) (r .low) n ∙ rw (f, e) (sym (count-place w cs es p l)))
+  count-begin l e f = ap (λ (z : ℕ). min z CAP) (total-start (countAt es cs w) (r .low) n ∙ rw (f, e) (sym (count-any w cs es l)))
 
--- one more place has one number
-pub points-next : (w : ℕ) (cs : List Range) (q : Range) (x : ℤ) → q ≡ pointOf x → Points w cs → Points (w + 1) (set cs w q)
-points-next w cs q x e p = rw (add-one, e) (points-set w cs x p)
+-- fewer ranges have several numbers where one is put in for one of them
+pub fewer-wide : (es : List Affine) (rs cs : List Range) (w : ℕ) (q : Range) (x : ℤ) → Narrows es rs cs → w < length cs → Wide w cs
+    → q ≡ pointOf x → wides (set cs w q) < wides rs
+fewer-wide es rs cs w q x h l g e = rw e (omega (arith, wides-put w cs x l g, wides-within cs rs (h .within)))
 
 -- the sum over what is left of a range (its name, where a local has that of `total`)
 abbrev pub total-of : (ℤ → ℕ) → ℤ → ℕ → ℕ

@@ -1,12 +1,12 @@
-// How many valuations of a box meet inequalities: what they leave of it is gone over number by number along the first range that has
-// several.
+// How many valuations of a box meet inequalities: what they leave of it is gone over number by number along the narrowest range that has
+// several numbers.
 use expr::PARAMETERS;
 use expr::Ranges;
 ghost use mathlib.Core.Path.{_≡_};
 ghost use mathlib.Core.Bool.{true};
-ghost use Prim.Native.Nat.{min, _+_, _-_, _≤_, _<_};
+ghost use Prim.Native.Nat.{min, _≤_};
 ghost use Rattle.expr.specs.Records.{rangeList};
-ghost use Rattle.corners.specs.Boxes.{Points, wideFrom};
+ghost use Rattle.corners.specs.Boxes.{Points, Two};
 ghost use Rattle.inequalities.specs.Flat.{exprsIn};
 ghost use Rattle.valuations.specs.Valuations.{count};
 
@@ -21,23 +21,20 @@ fn single(b: Ranges, flat: &[i32], n: usize) -> usize
     0
 }
 
-// Whether a box may be taken row by row under k inequalities: no range behind the one at t has several numbers.
-fn by_rows(b: Ranges, k: usize, t: usize) -> bool
-    ensures { λ r. ⌜ (r ≡ true → (k ≤ 25) × ((t < 4) × (4 ≤ wideFrom (b .list) (t + 1) (4 - (t + 1))))) ⌝ }
+// Whether a box may be taken row by row under k inequalities: no range but those at w and t has several numbers.
+fn by_rows(b: Ranges, k: usize, w: usize, t: usize) -> bool
+    ensures { λ r. ⌜ (r ≡ true → (k ≤ 25) × Two w t (b .list)) ⌝ }
 {
     if 25 < k {
         return false;
     }
-    if PARAMETERS <= t {
-        return false;
-    }
-    PARAMETERS <= corners::wide(b, t + 1)
+    picking::two(b, w, t)
 }
 
-// How many valuations of the box meet the inequalities; the ranges before `start` have one number at most. Below the first range that is
-// put in only those inequalities are asked that do not hold throughout what is left of the box, where there is room for them.
-fn count_from(b: Ranges, flat: &[i32], n: usize, start: usize) -> usize
-    requires { ⌜ (start ≤ 4) × Points start (b .list) ⌝ }
+// How many valuations of the box meet the inequalities. What they leave of it is gone over number by number along the range that has the
+// fewest, of those that have several; there only those inequalities are asked that do not hold throughout what is left of the box, where
+// there is room for them.
+fn count_from(b: Ranges, flat: &[i32], n: usize) -> usize
     ensures { λ r. ⌜ r ≡ min (count (b .list) (exprsIn (now (flat .entry)) n)) 18446744073709551615 ⌝ }
 {
     let c = systems::narrowed(b, flat, n);
@@ -50,12 +47,12 @@ fn count_from(b: Ranges, flat: &[i32], n: usize, start: usize) -> usize
     if k == 0 {
         return v;
     }
-    let w = corners::wide(c, start);
+    let w = picking::narrowest(c);
     if PARAMETERS <= w {
         return single(c, flat, n);
     }
-    let t = corners::wide(c, w + 1);
-    if by_rows(c, k, t) {
+    let t = picking::other(c, w);
+    if by_rows(c, k, w, t) {
         return rows::count_rows(c, &kept, k, w, t);
     }
     let range = c.list[w];
@@ -66,9 +63,9 @@ fn count_from(b: Ranges, flat: &[i32], n: usize, start: usize) -> usize
         let mut d = c;
         d.list[w] = widths::point(range, i);
         if 25 < k {
-            total = widths::plus(total, count_from(d, flat, n, w + 1));
+            total = widths::plus(total, count_from(d, flat, n));
         } else {
-            total = widths::plus(total, count_from(d, &kept, k, w + 1));
+            total = widths::plus(total, count_from(d, &kept, k));
         }
         i += 1;
     }
@@ -83,5 +80,5 @@ pub fn count(b: Ranges, flat: &[i32], n: usize) -> usize
     if systems::opposed(flat, m, 0) {
         return 0;
     }
-    count_from(b, flat, m, 0)
+    count_from(b, flat, m)
 }

@@ -18,6 +18,10 @@ noneIf t x m = cond t (set m x noneBound) m
 unfoldable pub delayedB : ℕ → List Bound → List Bound
 delayedB w m = noneIf (ltb 3 w) 20 (noneIf (ltb 2 w) 15 (noneIf (ltb 1 w) 10 (noneIf (ltb 0 w) 5 m)))
 
+-- entry x copied to y
+abbrev pub moveB : ℕ → ℕ → List Bound → List Bound
+moveB x y m = set m y (getD m x zeroBound)
+
 -- where clock r is reset, (r, j) takes (0, j) and (j, r) takes (j, 0), for another clock j that there is
 unfoldable pub resetPair : ℕ → ℕ → ℕ → List Bound → List Bound
 resetPair w r j m =

@@ -1,6 +1,6 @@
-// Delays (paper: waits) and resets, on a zone (paper: piece).
-mod each;
+// Delays (paper: waits) and resets, on the matrix of a zone (paper: piece) where it stands (crate cells).
 mod matrix;
+mod pairs;
 
-pub use each::delayed_zone;
-pub use each::resets_zone;
+pub use matrix::delayed;
+pub use matrix::resets;

@@ -1,82 +1,58 @@
-// Waits and resets on a zone's matrix, five rows of five: entry 5i + j bounds clock i - clock j.
-use expr::Bound;
+// Waits and resets on the matrix at a place.
+use crate::pairs::none_if;
+use crate::pairs::reset_pair;
 ghost use mathlib.Core.Path.{_≡_};
 ghost use Prim.Native.Nat.{_<_};
-ghost use Rattle.delay.specs.Delayed.{noneIf, delayedB, resetPair, resetB, resetIfB, resetsB};
+ghost use lib.ListN.{length};
+ghost use Rattle.cells.specs.Cells.{cellsIn, onMatrix};
+ghost use Rattle.delay.specs.Delayed.{delayedB, resetB, resetIfB, resetsB};
 
-// The matrix with none at x, if there is such a clock.
-fn none_if(m: [Bound; 25], there: bool, x: usize) -> [Bound; 25]
-    requires { ⌜ x < 25 ⌝ }
-    ensures { λ r. ⌜ r ≡ noneIf there x m ⌝ }
+// Makes the matrix at place p that after a wait: entries (i, 0), i ≥ 1, become none.
+pub fn delayed(cells: &mut [i32], marks: &mut [u8], p: usize, clocks: usize)
+    requires { ⌜ (length (now cells) ≡ 22500) × ((length (now marks) ≡ 2250) × (p < 90)) ⌝ }
+    ensures { λ _. ⌜ cellsIn (now (cells .exit)) (now (marks .exit))
+        ≡ onMatrix (cellsIn (now (cells .entry)) (now (marks .entry))) p (delayedB clocks) ⌝ }
 {
-    if there {
-        let mut n = m;
-        n[x] = Bound::NONE;
-        return n;
-    }
-    m
+    none_if(cells, marks, p, 0 < clocks, 5);
+    none_if(cells, marks, p, 1 < clocks, 10);
+    none_if(cells, marks, p, 2 < clocks, 15);
+    none_if(cells, marks, p, 3 < clocks, 20);
 }
 
-// The matrix after a wait: entries (i, 0), i ≥ 1, become none.
-pub(crate) fn delayed(m: [Bound; 25], clocks: usize) -> [Bound; 25]
-    ensures { λ r. ⌜ r ≡ delayedB clocks m ⌝ }
+// Makes the matrix at place p that where clock r is reset.
+fn reset(cells: &mut [i32], marks: &mut [u8], p: usize, clocks: usize, r: usize)
+    requires { ⌜ (length (now cells) ≡ 22500) × ((length (now marks) ≡ 2250) × ((p < 90) × (r < 5))) ⌝ }
+    ensures { λ _. ⌜ cellsIn (now (cells .exit)) (now (marks .exit))
+        ≡ onMatrix (cellsIn (now (cells .entry)) (now (marks .entry))) p (resetB clocks r) ⌝ }
 {
-    let one = none_if(m, 0 < clocks, 5);
-    let two = none_if(one, 1 < clocks, 10);
-    let three = none_if(two, 2 < clocks, 15);
-    none_if(three, 3 < clocks, 20)
+    reset_pair(cells, marks, p, clocks, r, 0);
+    reset_pair(cells, marks, p, clocks, r, 1);
+    reset_pair(cells, marks, p, clocks, r, 2);
+    reset_pair(cells, marks, p, clocks, r, 3);
+    reset_pair(cells, marks, p, clocks, r, 4);
 }
 
-// Where clock r is reset, (r, j) takes (0, j) and (j, r) takes (j, 0), for another clock j that there is.
-fn reset_pair(m: [Bound; 25], clocks: usize, r: usize, j: usize) -> [Bound; 25]
-    requires { ⌜ (r < 5) × (j < 5) ⌝ }
-    ensures { λ s. ⌜ s ≡ resetPair clocks r j m ⌝ }
-{
-    if clocks < j {
-        return m;
-    }
-    if j == r {
-        return m;
-    }
-    let mut n = m;
-    n[5 * r + j] = m[j];
-    let zero = n[5 * j];
-    n[5 * j + r] = zero;
-    n
-}
-
-// The matrix where clock r is reset.
-fn reset(m: [Bound; 25], clocks: usize, r: usize) -> [Bound; 25]
-    requires { ⌜ r < 5 ⌝ }
-    ensures { λ s. ⌜ s ≡ resetB clocks r m ⌝ }
-{
-    let zero = reset_pair(m, clocks, r, 0);
-    let one = reset_pair(zero, clocks, r, 1);
-    let two = reset_pair(one, clocks, r, 2);
-    let three = reset_pair(two, clocks, r, 3);
-    reset_pair(three, clocks, r, 4)
-}
-
-// The matrix where clock r is reset if its bit is set and there is such a clock.
-fn reset_if(m: [Bound; 25], clocks: usize, r: usize, bit: u8) -> [Bound; 25]
-    requires { ⌜ r < 5 ⌝ }
-    ensures { λ s. ⌜ s ≡ resetIfB clocks r bit m ⌝ }
+// The same if the clock's bit is set and there is such a clock.
+fn reset_if(cells: &mut [i32], marks: &mut [u8], p: usize, clocks: usize, r: usize, bit: u8)
+    requires { ⌜ (length (now cells) ≡ 22500) × ((length (now marks) ≡ 2250) × ((p < 90) × (r < 5))) ⌝ }
+    ensures { λ _. ⌜ cellsIn (now (cells .exit)) (now (marks .exit))
+        ≡ onMatrix (cellsIn (now (cells .entry)) (now (marks .entry))) p (resetIfB clocks r bit) ⌝ }
 {
     if bit == 1 {
-        if clocks < r {
-            return m;
+        if r <= clocks {
+            reset(cells, marks, p, clocks, r);
         }
-        return reset(m, clocks, r);
     }
-    m
 }
 
-// The matrix after the resets, in rising order: bit i - 1 for clock i.
-pub(crate) fn resets(m: [Bound; 25], clocks: usize, bits: u8) -> [Bound; 25]
-    ensures { λ s. ⌜ s ≡ resetsB clocks bits m ⌝ }
+// Makes the matrix at place p that after the resets, in rising order: bit i - 1 for clock i.
+pub fn resets(cells: &mut [i32], marks: &mut [u8], p: usize, clocks: usize, bits: u8)
+    requires { ⌜ (length (now cells) ≡ 22500) × ((length (now marks) ≡ 2250) × (p < 90)) ⌝ }
+    ensures { λ _. ⌜ cellsIn (now (cells .exit)) (now (marks .exit))
+        ≡ onMatrix (cellsIn (now (cells .entry)) (now (marks .entry))) p (resetsB clocks bits) ⌝ }
 {
-    let one = reset_if(m, clocks, 1, bits % 2);
-    let two = reset_if(one, clocks, 2, bits / 2 % 2);
-    let three = reset_if(two, clocks, 3, bits / 4 % 2);
-    reset_if(three, clocks, 4, bits / 8 % 2)
+    reset_if(cells, marks, p, clocks, 1, bits % 2);
+    reset_if(cells, marks, p, clocks, 2, bits / 2 % 2);
+    reset_if(cells, marks, p, clocks, 3, bits / 4 % 2);
+    reset_if(cells, marks, p, clocks, 4, bits / 8 % 2);
 }

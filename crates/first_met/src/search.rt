@@ -19,7 +19,7 @@ pub struct Solution {
 }
 
 impl Solution {
-    const NOTHING: Solution = Solution {
+    pub const NOTHING: Solution = Solution {
         found: false,
         valuation: Valuation::ZERO,
     };

@@ -3,7 +3,7 @@ use mathlib.Core.Path.{_≡_, refl, sym, ap, subst, _∙_}
 use mathlib.Core.Bool.{Bool, true, false, cond, _&&_, true≢false}
 use mathlib.Core.List.{List, [], _∷_, _++_, map}
 use mathlib.Core.Option.{none}
-use Prim.Native.Nat.{ℕ, zero, suc, _+_, _*_, _≤_, _<_}
+use Prim.Native.Nat.{ℕ, zero, suc, _+_, _*_, _≤_, _<_, min}
 use native.Mathlib.Omega.{arith}
 use borrow.Author.Tests.{eq-eqb, lt-ltb}
 use lib.Dec.{ltb, eqb}
@@ -13,7 +13,8 @@ use lib.Signed.{leZ, _≤ℤ_, _<ℤ_}
 use Rattle.integer.specs.Bools.{and-left, and-right}
 use Rattle.integer.specs.Order.{leZ-true}
 use Rattle.integer.specs.Split.{split, split-all}
-use Rattle.constrain.specs.Rules.{entryC, sumC, tighterC, voidTest, tightTest}
+use Rattle.constrain.specs.RuleLaws.{readC}
+use Rattle.constrain.specs.Rules.{insideC, entryC, sumC, tighterC, voidTest, tightTest}
 use Rattle.constrain.specs.declared.rule.Rule.{Rule}
 use Rattle.expr.specs.Affine.{Affine, value, dot}
 use Rattle.expr.specs.Ranges.{Inside}
@@ -42,6 +43,11 @@ use Rattle.zones.specs.Settled.{Verdict, isNone, neverC, oppositeC, onC, settle
 use Rattle.zones.specs.declared.hint.Hint.{Hint}
 use Rattle.zones.specs.declared.zone.Zone.{Zone}
 use Rattle.idle.specs.Idle.{Fails, Idle}
+
+-- what is read inside a matrix
+pub read-in : (m : List Bound) (k : ℕ) → k < 25 → readC m k ≡ getD m k noBound
+unfolding insideC
+read-in m k h = let few : min k 24 ≡ k = omega arith in rw (lt-ltb k 25 h, few) refl
 
 -- ---- the last of some inequalities
 not-true : (b : Bool) → (b ≡ true → ⊥) → b ≡ false

@@ -4,10 +4,11 @@ use expr::Bound;
 use expr::Test;
 use steps::Step;
 use zones::Hint;
-use zones::Zone;
 ghost use mathlib.Core.Path.{_≡_};
 ghost use mathlib.Core.Bool.{true};
-ghost use Prim.Native.Nat.{ℕ};
+ghost use Prim.Native.Nat.{ℕ, _<_};
+ghost use lib.ListN.{length, getD};
+ghost use Rattle.cells.specs.Cells.{cellsIn, noCell, zoneOf};
 ghost use Rattle.expr.specs.declared.range.Ranges.{Ranges};
 ghost use Rattle.zones.specs.Hinted.{Hinted};
 ghost use Rattle.idle.specs.Idle.{Fails, Idle};
@@ -24,9 +25,12 @@ fn fails(hint: Hint, test: Test) -> bool
     }
 }
 
-// Whether a step is seen to leave a zone as it is: a guard that neither cuts nor tightens it.
-pub fn idle(hint: Hint, step: Step, zone: Zone) -> bool
-    ensures { λ r. ⌜ (r ≡ true → (b : Ranges) → Hinted b zone hint → (w : ℕ) → Idle b w step zone) ⌝ }
+// Whether a step is seen to leave the zone at place p as it is: a guard that neither cuts nor tightens it.
+pub fn idle(hint: Hint, step: Step, cells: &[i32], marks: &[u8], p: usize) -> bool
+    requires { ⌜ (length (now marks) ≡ 2250) × (p < 90) ⌝ }
+    ensures { λ r. ⌜ (r ≡ true → (n : ℕ) (b : Ranges)
+        → Hinted b (zoneOf n (getD (cellsIn (now (cells .entry)) (now (marks .entry))) p noCell))
+        hint → (w : ℕ) → Idle b w step (zoneOf n (getD (cellsIn (now (cells .entry)) (now (marks .entry))) p noCell))) ⌝ }
 {
     let guard = step.guard;
     if step.kind == 1 {
@@ -35,9 +39,9 @@ pub fn idle(hint: Hint, step: Step, zone: Zone) -> bool
                 let left = guard.left as usize;
                 let right = guard.right as usize;
                 let bound = guard.bound;
-                let back = zone.bounds[5 * right + left];
+                let back = cells::bound_at(cells, marks, p, 5 * right + left);
                 if fails(hint, bound.sum(back).tighter(Bound::ZERO)) {
-                    let there = zone.bounds[5 * left + right];
+                    let there = cells::bound_at(cells, marks, p, 5 * left + right);
                     return fails(hint, bound.tighter(there));
                 }
             }

@@ -22,7 +22,7 @@ use Rattle.expr.specs.declared.number.Expr.{Expr}
 use Rattle.expr.specs.declared.range.Range.{Range}
 use Rattle.narrowing.specs.Cut.{Within, Cut, Part}
 use Rattle.intervals.specs.Interval.{EMPTY, interval, Tame}
-use Rattle.narrowing.specs.Best.{best, bestSum, bestOf, best-most, bestSum-most}
+use Rattle.narrowing.specs.Best.{best, endOf, bestSum, bestOf, best-most, bestSum-most}
 use Rattle.inequalities.specs.Sizes.{Sized, SizedTo}
 use Rattle.intervals.specs.IntervalLaws.{In-EMPTY, interval-exact}
 
@@ -32,15 +32,22 @@ pub record Most (a : ℤ) (r : Range) (x : ℤ) : Type 0 where
   pub is : x ≡ best a r
   pub size : Sized x
 
--- a product at the end that gives the most, held as its bits
-pub most-is : (a : ℤ) (r : Range) (t : Bool) (x y : ℤ) → y ≡ cond t (r .high) (r .low) → leZ (pos 0) a ≡ t → x ≡ a *ℤ y → Sized x
+pub end-high : (a : ℤ) (r : Range) (x : ℤ) → x ≡ r .high → leZ (pos 0) a ≡ true → x ≡ endOf a r
+end-high a r x e h = e ∙ rw h refl
+
+pub end-low : (a : ℤ) (r : Range) (x : ℤ) → x ≡ r .low → leZ (pos 0) a ≡ false → x ≡ endOf a r
+end-low a r x e h = e ∙ rw h refl
+
+-- the product at the end that gives the most, held as its bits
+pub most-is : (a : ℤ) (r : Range) (x y : ℤ) → y ≡ endOf a r → x ≡ a *ℤ y → Sized x
     → (toZ w64 (ofZ w64 x) ≡ best a r) × Sized (toZ w64 (ofZ w64 x))
-most-is a r true x y h k e s =
+most-is a r x y h e s =
     let f : SFits w64 x = size-fits w64 x (omega arith) in
-    rw (toZ-ofZ w64 x f) (e ∙ rw (h, k) refl, s)
-most-is a r false x y h k e s =
-    let f : SFits w64 x = size-fits w64 x (omega arith) in
-    rw (toZ-ofZ w64 x f) (e ∙ rw (h, k) refl, s)
+    rw (toZ-ofZ w64 x f) (e ∙ ap (λ (z : ℤ). a *ℤ z) h ∙ by (leZ (pos 0) a), s)
+  where
+    by : (t : Bool) → a *ℤ cond t (r .high) (r .low) ≡ cond t (a *ℤ r .high) (a *ℤ r .low)
+    by true = refl
+    by false = refl
 
 -- ---- the constant and the products, one after another
 -- what the products from place i on add, at most

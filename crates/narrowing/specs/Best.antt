@@ -14,6 +14,10 @@ use Rattle.expr.specs.declared.range.Range.{Range}
 abbrev pub best : ℤ → Range → ℤ
 best c r = cond (leZ (pos 0) c) (c *ℤ r .high) (c *ℤ r .low)
 
+-- the end of a range at which it is that
+abbrev pub endOf : ℤ → Range → ℤ
+endOf c r = cond (leZ (pos 0) c) (r .high) (r .low)
+
 -- the most that a sum of them can be
 unfoldable pub bestSum : List ℤ → List Range → ℤ
 bestSum [] rs = pos 0

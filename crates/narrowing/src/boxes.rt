@@ -6,19 +6,26 @@ use expr::Ranges;
 ghost use mathlib.Core.Path.{_≡_};
 ghost use Rattle.expr.specs.Records.{affine};
 ghost use Rattle.intervals.specs.Interval.{interval};
-ghost use Rattle.narrowing.specs.Best.{best, bestOf};
+ghost use Rattle.narrowing.specs.Best.{best, bestOf, endOf};
 ghost use Rattle.inequalities.specs.Sizes.{Sized, SizedTo};
 ghost use Rattle.narrowing.specs.Cut.{Cut, Part};
+
+// The end of r at which coefficient a times it is the most.
+fn end(a: i32, r: Range) -> i16
+    ensures { λ x. ⌜ x ≡ endOf a r ⌝ }
+{
+    if 0 <= a {
+        return r.high;
+    }
+    r.low
+}
 
 // The most that coefficient a times a number of r can be.
 fn most(a: i32, r: Range) -> i64
     ensures { λ x. ⌜ x ≡ best a r ⌝ }
     ensures small { λ x. ⌜ Sized x ⌝ }
 {
-    if 0 <= a {
-        return inequalities::term(a, r.high);
-    }
-    inequalities::term(a, r.low)
+    inequalities::term(a, end(a, r))
 }
 
 // The most that e can be in the box.

@@ -14,15 +14,15 @@ use borrow.Author.Tests.{eqb-true, eqb-false}
 use Rattle.expr.specs.Affine.{Affine, dot, value}
 use Rattle.expr.specs.Records.{blankRange}
 use Rattle.expr.specs.declared.range.Range.{Range}
-use Rattle.corners.specs.Boxes.{lowOf, pointOf, Points, Alone, Two}
-use Rattle.corners.specs.BoxLaws.{points-all}
+use Rattle.corners.specs.Boxes.{lowOf, pointOf, Alone, Two}
 use Rattle.inequalities.specs.Flat.{exprAt, exprsFrom, exprsIn}
 use Rattle.intervals.specs.Interval.{interval}
-use Rattle.systems.specs.BoxLaws.{one-or-none, point-width, total-same, count-place}
+use Rattle.systems.specs.BoxLaws.{one-or-none, point-width, total-same}
+use Rattle.picking.specs.AnyPlace.{count-any}
 use Rattle.valuations.specs.SearchLaws.{total}
 use Rattle.valuations.specs.Valuations.{count, width, widths}
 use Rattle.rows.specs.LastLaws.{later-out, apart-dot, count-last}
-use Rattle.rows.specs.Lines.{LineOf, noLine, rowFrom}
+use Rattle.rows.specs.Lines.{LineOf, rowFrom}
 use Rattle.rows.specs.Parts.{partOf}
 use Rattle.rows.specs.declared.lines.Line.{Line}
 
@@ -37,23 +37,23 @@ value-put e u w x h =
     ∙ ap (λ (z : ℤ). dot (e .coefs) (set u w (pos 0)) +ℤ (getD (e .coefs) w (pos 0) *ℤ z)) (getD-set-same u w x (pos 0) h))
     ∙ later-out (e .constant) (dot (e .coefs) (set u w (pos 0))) (getD (e .coefs) w (pos 0) *ℤ x))
 
-module _ (flat : List ℤ) (l : List Line) (u : List ℤ) (w t : ℕ) (x : ℤ) (h : w < length u) where
-  line-value : (k : ℕ) → LineOf (exprAt flat k) (set u w (pos 0)) w t (getD l k noLine)
-      → getD l k noLine .constant +ℤ (getD l k noLine .first *ℤ x) ≡ value (exprAt flat k) (set u w x)
+module _ (flat : List ℤ) (l : ℕ → Line) (u : List ℤ) (w t : ℕ) (x : ℤ) (h : w < length u) where
+  line-value : (k : ℕ) → LineOf (exprAt flat k) (set u w (pos 0)) w t (l k)
+      → l k .constant +ℤ (l k .first *ℤ x) ≡ value (exprAt flat k) (set u w x)
   line-value k q =
-      ap (λ (z : ℤ). z +ℤ (getD l k noLine .first *ℤ x)) (q .constant)
+      ap (λ (z : ℤ). z +ℤ (l k .first *ℤ x)) (q .constant)
       ∙ ap (λ (z : ℤ). value (exprAt flat k) (set u w (pos 0)) +ℤ (z *ℤ x)) (q .first)
       ∙ value-put (exprAt flat k) u w x h
 
-  pub row-part : (n k : ℕ) (r : Range) → ((j : ℕ) → j < k + n → LineOf (exprAt flat j) (set u w (pos 0)) w t (getD l j noLine))
+  pub row-part : (n k : ℕ) (r : Range) → ((j : ℕ) → j < k + n → LineOf (exprAt flat j) (set u w (pos 0)) w t (l j))
       → rowFrom l k n x r ≡ partOf (exprsFrom flat k n) (set u w x) t r
   unfolding rowFrom partOf exprsFrom
   row-part zero k r q = refl
   row-part (suc n) k r q =
       let e = q k (omega arith) in
-      row-part n (suc k) (interval r (getD l k noLine .constant +ℤ (getD l k noLine .first *ℤ x)) (getD l k noLine .second))
+      row-part n (suc k) (interval r (l k .constant +ℤ (l k .first *ℤ x)) (l k .second))
       (λ j g. q j (omega arith))
-      ∙ ap (λ (z : ℤ). partOf (exprsFrom flat (suc k) n) (set u w x) t (interval r z (getD l k noLine .second))) (line-value k e)
+      ∙ ap (λ (z : ℤ). partOf (exprsFrom flat (suc k) n) (set u w x) t (interval r z (l k .second))) (line-value k e)
       ∙ ap (λ (z : ℤ). partOf (exprsFrom flat (suc k) n) (set u w x) t (interval r (value (exprAt flat k) (set u w x)) z)) (e .second)
 
 -- ---- widths
@@ -94,70 +94,68 @@ low-set (r ∷ rs) zero x = refl
 low-set (r ∷ rs) (suc w) x = ap (λ (v : List ℤ). r .low ∷ v) (low-set rs w x)
 
 -- ---- the count of a row
-module _ (w t : ℕ) (rs : List Range) (two : Two w t rs) (some : 0 < widths rs) (lt : w < t) (l : t < length rs) where
-  pub two-points : Points w rs
-  two-points = points-all w rs (λ j g. two j (omega arith) (λ e. omega arith) (λ e. omega arith))
+module _ (w t : ℕ) (rs : List Range) (two : Two w t rs) (some : 0 < widths rs) (ne : w ≡ t → ⊥) (lw : w < length rs) (l : t < length rs)
+  where
+    module _ (x : ℤ) where
+      abbrev put : List Range
+      put = set rs w (pointOf x)
 
-  module _ (x : ℤ) where
-    abbrev put : List Range
-    put = set rs w (pointOf x)
+      at-place : (j : ℕ) → (eqb j w ≡ true → pointOf x ≡ getD put j blankRange) × (eqb j w ≡ false → getD rs j blankRange ≡ getD put j
+          blankRange)
+      at-place j = (
+        λ e. let q : j ≡ w = eqb-true j w e in
+            rw q (sym (getD-set-same rs w (pointOf x) blankRange (omega arith))),
+        λ e. sym (getD-set-other rs w j (pointOf x) blankRange (eqb-false j w e)),
+      )
 
-    at-place : (j : ℕ) → (eqb j w ≡ true → pointOf x ≡ getD put j blankRange) × (eqb j w ≡ false → getD rs j blankRange ≡ getD put j
-        blankRange)
-    at-place j = (
-      λ e. let q : j ≡ w = eqb-true j w e in
-          rw q (sym (getD-set-same rs w (pointOf x) blankRange (omega arith))),
-      λ e. sym (getD-set-other rs w j (pointOf x) blankRange (eqb-false j w e)),
-    )
+      alone : Alone t put
+      alone j h e = by (eqb j w) refl
+        where
+          by : (b : Bool) → eqb j w ≡ b → getD put j blankRange .high ≤ℤ getD put j blankRange .low
+          by true q = rw (sym (at-place j .0 q)) (≤ℤ-refl x)
+          by false q = rw (sym (at-place j .1 q)) (two j (rw (length-set rs w (pointOf x)) at h) (eqb-false j w q) e)
 
-    alone : Alone t put
-    alone j h e = by (eqb j w) refl
-      where
-        by : (b : Bool) → eqb j w ≡ b → getD put j blankRange .high ≤ℤ getD put j blankRange .low
-        by true q = rw (sym (at-place j .0 q)) (≤ℤ-refl x)
-        by false q = rw (sym (at-place j .1 q)) (two j (rw (length-set rs w (pointOf x)) at h) (eqb-false j w q) e)
+      ones : (j : ℕ) → j < length put → (j ≡ t → ⊥) → width (getD put j blankRange) ≡ 1
+      ones j h e = by (eqb j w) refl
+        where
+          long : j < length rs
+          long = rw (length-set rs w (pointOf x)) at h
 
-    ones : (j : ℕ) → j < length put → (j ≡ t → ⊥) → width (getD put j blankRange) ≡ 1
-    ones j h e = by (eqb j w) refl
-      where
-        long : j < length rs
-        long = rw (length-set rs w (pointOf x)) at h
+          one : (width (getD rs j blankRange) ≡ 0) ⊎ (width (getD rs j blankRange) ≡ 1) → width (getD rs j blankRange) ≡ 1
+          one (inl z) = absurd (omega (arith, none-empty rs j long some))
+          one (inr z) = z
 
-        one : (width (getD rs j blankRange) ≡ 0) ⊎ (width (getD rs j blankRange) ≡ 1) → width (getD rs j blankRange) ≡ 1
-        one (inl z) = absurd (omega (arith, none-empty rs j long some))
-        one (inr z) = z
+          by : (b : Bool) → eqb j w ≡ b → width (getD put j blankRange) ≡ 1
+          by true q = rw (sym (at-place j .0 q)) (point-width x)
+          by false q =
+              rw (sym (at-place j .1 q))
+              (one (one-or-none (getD rs j blankRange) (two j long (eqb-false j w q) e)
+              (leZ (getD rs j blankRange .low) (getD rs j blankRange .high)) refl))
 
-        by : (b : Bool) → eqb j w ≡ b → width (getD put j blankRange) ≡ 1
-        by true q = rw (sym (at-place j .0 q)) (point-width x)
-        by false q =
-            rw (sym (at-place j .1 q))
-            (one (one-or-none (getD rs j blankRange) (two j long (eqb-false j w q) e)
-            (leZ (getD rs j blankRange .low) (getD rs j blankRange .high)) refl))
+      pub row-count : (es : List Affine)
+          → count (set rs w (pointOf x)) es ≡ width (partOf es (set (set (map lowOf rs) t (pos 0)) w x) t (getD rs t blankRange))
+      row-count es =
+          let g : t < length put = rw (length-set rs w (pointOf x)) l in
+          let other : (t ≡ w) → ⊥ = λ e. ne (sym e) in
+          count-last t put es alone g
+          ∙ but-one t put (partOf es (set (map lowOf put) t (pos 0)) t (getD put t blankRange)) ones g
+          ∙ ap (λ (v : List ℤ). width (partOf es (set v t (pos 0)) t (getD put t blankRange))) (low-set rs w x)
+          ∙ ap (λ (v : List ℤ). width (partOf es v t (getD put t blankRange)))
+          (set-comm (map lowOf rs) w t x (pos 0) ne)
+          ∙ ap (λ (r : Range). width (partOf es (set (set (map lowOf rs) t (pos 0)) w x) t r))
+          (getD-set-other rs w t (pointOf x) blankRange other)
 
-    pub row-count : (es : List Affine)
-        → count (set rs w (pointOf x)) es ≡ width (partOf es (set (set (map lowOf rs) t (pos 0)) w x) t (getD rs t blankRange))
-    row-count es =
-        let g : t < length put = rw (length-set rs w (pointOf x)) l in
-        let other : (t ≡ w) → ⊥ = λ e. omega arith in
-        count-last t put es alone g
-        ∙ but-one t put (partOf es (set (map lowOf put) t (pos 0)) t (getD put t blankRange)) ones g
-        ∙ ap (λ (v : List ℤ). width (partOf es (set v t (pos 0)) t (getD put t blankRange))) (low-set rs w x)
-        ∙ ap (λ (v : List ℤ). width (partOf es v t (getD put t blankRange)))
-        (set-comm (map lowOf rs) w t x (pos 0) (λ e. other (sym e)))
-        ∙ ap (λ (r : Range). width (partOf es (set (set (map lowOf rs) t (pos 0)) w x) t r))
-        (getD-set-other rs w t (pointOf x) blankRange other)
-
-  -- all rows
-  pub rows-counted : (flat : List ℤ) (n : ℕ) (ls : List Line)
-      → ((j : ℕ) → j < n → LineOf (exprAt flat j) (set (set (map lowOf rs) t (pos 0)) w (pos 0)) w t (getD ls j noLine))
-      → total (λ (x : ℤ). width (rowFrom ls 0 n x (getD rs t blankRange))) (getD rs w blankRange .low) (width (getD rs w blankRange))
-      ≡ count rs (exprsIn flat n)
-  rows-counted flat n ls h =
-      let long : w < length (set (map lowOf rs) t (pos 0)) =
-      rw (length-set (map lowOf rs) t (pos 0), length-map rs lowOf) (omega arith) in
-      total-same (λ (x : ℤ). width (rowFrom ls 0 n x (getD rs t blankRange))) (λ (x : ℤ). count (set rs w (pointOf x)) (exprsIn flat n))
-      (width (getD rs w blankRange)) (getD rs w blankRange .low)
-      (λ y i j. ap width (row-part flat ls (set (map lowOf rs) t (pos 0)) w t y long n 0 (getD rs t blankRange) (λ k g. h k (omega
-      arith)))
-      ∙ sym (row-count y (exprsIn flat n)))
-      ∙ sym (count-place w rs (exprsIn flat n) two-points (omega arith))
+    -- all rows
+    pub rows-counted : (flat : List ℤ) (n : ℕ) (ls : ℕ → Line)
+        → ((j : ℕ) → j < n → LineOf (exprAt flat j) (set (set (map lowOf rs) t (pos 0)) w (pos 0)) w t (ls j))
+        → total (λ (x : ℤ). width (rowFrom ls 0 n x (getD rs t blankRange))) (getD rs w blankRange .low) (width (getD rs w blankRange))
+        ≡ count rs (exprsIn flat n)
+    rows-counted flat n ls h =
+        let long : w < length (set (map lowOf rs) t (pos 0)) =
+        rw (length-set (map lowOf rs) t (pos 0), length-map rs lowOf) (omega arith) in
+        total-same (λ (x : ℤ). width (rowFrom ls 0 n x (getD rs t blankRange))) (λ (x : ℤ). count (set rs w (pointOf x)) (exprsIn flat n))
+        (width (getD rs w blankRange)) (getD rs w blankRange .low)
+        (λ y i j. ap width (row-part flat ls (set (map lowOf rs) t (pos 0)) w t y long n 0 (getD rs t blankRange) (λ k g. h k (omega
+        arith)))
+        ∙ sym (row-count y (exprsIn flat n)))
+        ∙ sym (count-any w rs (exprsIn flat n) lw)

@@ -1,64 +1,41 @@
 // Inequalities with all parameters put in but two.
-use expr::Expr;
 use expr::Range;
 use expr::Valuation;
 ghost use mathlib.Core.Path.{_≡_};
-ghost use Prim.Native.Nat.{ℕ, _≤_, _<_};
-ghost use lib.IntN.{_+ℤ_, _*ℤ_};
-ghost use lib.ListN.{getD};
-ghost use Rattle.expr.specs.Records.{affine};
+ghost use Prim.Native.Nat.{ℕ, _*_, _≤_, _<_};
+ghost use lib.IntN.{pos, _+ℤ_, _*ℤ_};
+ghost use lib.ListN.{length, getD};
 ghost use Rattle.inequalities.specs.Flat.{exprAt};
 ghost use Rattle.inequalities.specs.Sizes.{SizedTo};
 ghost use Rattle.intervals.specs.Interval.{interval};
-ghost use Rattle.rows.specs.Lines.{LineOf, noLine, rowFrom};
+ghost use Rattle.rows.specs.Lines.{ValueOf, lineAt, rowFrom};
 
 // constant + first · x + second · y ≥ 0.
-pub(crate) struct Line {
-    pub constant: i64,
-    pub first: i32,
-    pub second: i32,
+struct Line {
+    constant: i64,
+    first: i32,
+    second: i32,
 }
 
-// Lines in order.
-pub(crate) struct Lines {
-    pub list: [Line; 25],
+// The constants of lines, in order.
+pub(crate) struct Constants {
+    pub numbers: [i64; 25],
 }
 
-impl Lines {
-    // 0 ≥ 0, everywhere.
-    const BLANK: Lines = Lines {
-        list: [Line {
-            constant: 0,
-            first: 0,
-            second: 0,
-        }; 25],
-    };
+impl Constants {
+    const ZERO: Constants = Constants { numbers: [0; 25] };
 }
 
-// The line of e, the valuation having 0 for the parameters at w and t.
-fn put_in(v: Valuation, e: Expr, w: usize, t: usize) -> Line
-    requires { ⌜ (w < 4) × (t < 4) ⌝ }
-    ensures { λ r. ⌜ LineOf (affine e) (v .numbers) w t r ⌝ }
+// The values of the first n inequalities of a flat list.
+pub(crate) fn all_put_in(v: Valuation, flat: &[i32], n: usize) -> Constants
+    requires { ⌜ n ≤ 25 ⌝ }
+    ensures { λ r. ⌜ ((k : ℕ) → k < n → ValueOf (exprAt (now (flat .entry)) k) (v .numbers) (getD (r .numbers) k (pos 0))) ⌝ }
 {
-    let constant = inequalities::value_at(v, e);
-    let first = e.coefs[w];
-    let second = e.coefs[t];
-    Line {
-        constant,
-        first,
-        second,
-    }
-}
-
-// The lines of the first n inequalities of a flat list.
-pub(crate) fn all_put_in(v: Valuation, flat: &[i32], n: usize, w: usize, t: usize) -> Lines
-    requires { ⌜ (w < 4) × ((t < 4) × (n ≤ 25)) ⌝ }
-    ensures { λ r. ⌜ ((k : ℕ) → k < n → LineOf (exprAt (now (flat .entry)) k) (v .numbers) w t (getD (r .list) k noLine)) ⌝ }
-{
-    let mut l = Lines::BLANK;
+    let mut l = Constants::ZERO;
     let mut k = 0;
     while k < n {
-        l.list[k] = put_in(v, inequalities::inequality(flat, k), w, t);
+        let x = inequalities::value_at(v, inequalities::inequality(flat, k));
+        l.numbers[k] = x;
         k += 1;
     }
     l
@@ -88,15 +65,32 @@ fn held(q: Line, x: i16, r: Range) -> Range
     intervals::interval(r, c, numbers::wide(a))
 }
 
-// The part of s where the first n lines hold at x.
-pub(crate) fn row(l: Lines, n: usize, x: i16, s: Range) -> Range
-    requires { ⌜ (n ≤ 25) × ((k : ℕ) → k < n → SizedTo 4 (getD (l .list) k noLine .constant)) ⌝ }
-    ensures { λ r. ⌜ r ≡ rowFrom (l .list) 0 n x s ⌝ }
+// The part of s where the first n inequalities of a flat list hold at x, their constants having all but the parameters at w and t put in.
+pub(crate) fn row(
+    constants: &[i64],
+    flat: &[i32],
+    n: usize,
+    w: usize,
+    t: usize,
+    x: i16,
+    s: Range,
+) -> Range
+    requires { ⌜ (w < 4) × (t < 4) ⌝ }
+    requires long { ⌜ (n ≤ length (now constants)) × (5 * n ≤ length (now flat)) ⌝ }
+    requires sized { ⌜ ((k : ℕ) → k < n → SizedTo 4 (getD (now constants) k (pos 0))) ⌝ }
+    ensures { λ r. ⌜ r ≡ rowFrom (lineAt (now (constants .entry)) (now (flat .entry)) w t) 0 n x s ⌝ }
 {
     let mut r = s;
     let mut k = 0;
     while k < n {
-        let q = l.list[k];
+        let constant = constants[k];
+        let first = flat[5 * k + 1 + w];
+        let second = flat[5 * k + 1 + t];
+        let q = Line {
+            constant,
+            first,
+            second,
+        };
         r = held(q, x, r);
         k += 1;
     }

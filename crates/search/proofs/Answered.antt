@@ -11,23 +11,31 @@ use lib.ListN.{length}
 use Rattle.integer.specs.Apart.{apart}
 use Rattle.expr.specs.Affine.{Affine}
 use Rattle.expr.specs.Ranges.{Inside}
-use Rattle.expr.specs.Records.{PARAMETERS, placesFrom, blankRange, zeroValuation}
+use Rattle.expr.specs.Records.{PARAMETERS, placesFrom, blankRange}
 use Rattle.expr.specs.declared.range.Range.{Range}
 use Rattle.systems.specs.BoxLaws.{first-listed}
 use Rattle.valuations.specs.SearchLaws.{first-none}
 use Rattle.inequalities.specs.Flat.{exprsIn}
-use Rattle.first_met.specs.Solutions.{solutionOf}
+use Rattle.halving.specs.Halved.{Some}
 use Rattle.search.specs.Answers.{isSome, Glanced}
 use Rattle.valuations.specs.Valuations.{satisfies, first}
 use Rattle.first_met.specs.declared.search.Solution.{Solution}
 
 -- what was found, or not
-pub found-is : (rs : List Range) (es : List Affine) (s : Solution) → s ≡ solutionOf (first rs es) → s .found ≡ isSome (first rs es)
-found-is rs es s e = ap (λ (z : Solution). z .found) e ∙ by (first rs es)
+pub some-is : (rs : List Range) (es : List Affine) (s : Solution) → Some rs es s → s .found ≡ isSome (first rs es)
+some-is rs es s h = by (s .found) refl (first rs es) refl
   where
-    by : (o : Option (List ℤ)) → solutionOf o .found ≡ isSome o
-    by none = refl
-    by (some v) = refl
+    by : (b : Bool) → s .found ≡ b → (o : Option (List ℤ)) → first rs es ≡ o → b ≡ isSome o
+    by true e none f =
+        let a = h .yes e in
+        let c = first-none rs es f (s .valuation .numbers) (a .0) in
+        let d = a .1 in
+        apart cc
+    by true e (some v) f = refl
+    by false e none f = refl
+    by false e (some v) f =
+        let a = h .no e in
+        apart cc
 
 module _ (rs : List Range) (l : List ℤ) (n m : ℕ) (e : m ≡ min n (length l)) (h : length rs ≡ PARAMETERS) where
   -- a valuation inside the ranges that meets the inequalities
@@ -44,10 +52,6 @@ module _ (rs : List Range) (l : List ℤ) (n m : ℕ) (e : m ≡ min n (length l
   -- nothing is there
   pub some-none : first rs (exprsIn l m) ≡ none → false ≡ isSome (first (placesFrom blankRange rs 0 PARAMETERS) (exprsIn l n))
   some-none q = ap isSome (sym q ∙ first-listed rs l n m e h)
-
-  pub nothing-is : first rs (exprsIn l m) ≡ none
-      → record { found = false; valuation = zeroValuation } ≡ solutionOf (first (placesFrom blankRange rs 0 PARAMETERS) (exprsIn l n))
-  nothing-is q = ap solutionOf (sym q ∙ first-listed rs l n m e h)
 
 -- ---- what is seen at a glance
 pub seen-yes : (s : Bool) → s ≡ true → Glanced s 1

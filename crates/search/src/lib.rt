@@ -9,7 +9,6 @@ ghost use mathlib.Core.Option.{none};
 ghost use Rattle.expr.specs.Ranges.{Inside};
 ghost use Rattle.expr.specs.Records.{rangeList};
 ghost use Rattle.inequalities.specs.Flat.{exprsIn};
-ghost use Rattle.first_met.specs.Solutions.{solutionOf};
 ghost use Rattle.search.specs.Answers.{isSome, Glanced};
 ghost use Rattle.valuations.specs.Valuations.{satisfies, first};
 pub use first_met::Solution;
@@ -57,18 +56,17 @@ pub fn glance(b: Ranges, guess: Valuation, flat: &[i32], n: usize) -> usize
     2
 }
 
-// The first valuation of b that meets them, where it is not likely that there is one: the last inequality is held against the others
-// before a search.
+// Whether some valuation of b meets them, and one that does, where it is not likely that there is one: the last inequality is held against
+// the others before a search by halves.
 pub fn hunt(b: Ranges, flat: &[i32], n: usize) -> Solution
-    ensures { λ r. ⌜ r ≡ solutionOf (first (rangeList b) (exprsIn (now (flat .entry)) n)) ⌝ }
+    ensures { λ r. ⌜ r .found ≡ isSome (first (rangeList b) (exprsIn (now (flat .entry)) n)) ⌝ }
+    ensures one { λ r. ⌜ (r .found ≡ true → Inside (r .valuation .numbers) (rangeList b)
+        × (satisfies (exprsIn (now (flat .entry)) n) (r .valuation .numbers) ≡ true)) ⌝ }
 {
     if clashes::clashes(b, flat, numbers::at_most(n, flat.len())) {
-        return Solution {
-            found: false,
-            valuation: Valuation::ZERO,
-        };
+        return Solution::NOTHING;
     }
-    first(b, flat, n)
+    halving::some(b, flat, n)
 }
 
 // Whether some valuation of b meets them; the guess is tried before a search.

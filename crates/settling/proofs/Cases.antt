@@ -9,16 +9,12 @@ use native.Mathlib.Numerals.{add-one}
 use native.Mathlib.Omega.{arith}
 use lib.Dec.{ltb, eqb}
 use lib.IntN.{ℤ}
-use Rattle.expr.specs.Affine.{Affine}
 use Rattle.expr.specs.Records.{rangeList}
 use Rattle.inequalities.specs.Flat.{exprsIn}
-use Rattle.first_met.specs.Solutions.{solutionOf}
 use Rattle.search.specs.Answers.{isSome, Glanced}
 use Rattle.valuations.specs.Valuations.{first}
 use Rattle.expr.specs.declared.number.Expr.{Expr}
-use Rattle.expr.specs.declared.range.Range.{Range}
 use Rattle.expr.specs.declared.range.Ranges.{Ranges}
-use Rattle.first_met.specs.declared.search.Solution.{Solution}
 use Rattle.zones.specs.System.{putIn}
 use Rattle.zones.specs.Settled.{oppositeC, isNone, neverF, onF, onLeaves}
 
@@ -45,13 +41,6 @@ glance-is b l m n k e seen q h g few = by seen g few ∙ never-is b l m n k e (i
     by zero g f = ap not (sym (g .no refl))
     by (suc zero) g f = ap not (sym (g .yes refl))
     by (suc (suc r)) g f = absurd (omega arith)
-
-pub found-some : (rs : List Range) (es : List Affine) (s : Solution) → s ≡ solutionOf (first rs es) → s .found ≡ isSome (first rs es)
-found-some rs es s e = ap (λ (z : Solution). z .found) e ∙ by (first rs es)
-  where
-    by : (o : Option (List ℤ)) → solutionOf o .found ≡ isSome o
-    by option.none = refl
-    by (option.some v) = refl
 
 -- e is asked, and then its opposite x of the list m that this left
 module _ (b : Ranges) (l : List ℤ) (n : ℕ) (e : Expr) (r : Bool) (hr : r ≡ neverF b l n e) where

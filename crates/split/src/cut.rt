@@ -31,7 +31,7 @@ fn ended(out: Counted, p: Part) -> Counted
 }
 
 // The zone before the first test.
-pub fn start(zone: Zone) -> Part
+fn start(zone: Zone) -> Part
     ensures { λ r. ⌜ r ≡ startC zone ⌝ }
 {
     Part {
@@ -79,7 +79,7 @@ fn cut_zone(b: Ranges, r: Rule, zone: Zone, out: Counted) -> Counted
 }
 
 // The rule of a guard for a zone's matrix.
-pub fn rule(clocks: usize, g: Guard, zone: Zone) -> Rule
+fn rule(clocks: usize, g: Guard, zone: Zone) -> Rule
     ensures { λ r. ⌜ r ≡ ruleC clocks g zone ⌝ }
 {
     let old = zone.bounds;

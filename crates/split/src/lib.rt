@@ -4,8 +4,4 @@ mod list;
 mod tests;
 
 pub use cut::cut_one;
-pub use cut::rule;
-pub use cut::start;
 pub use list::Counted;
-pub use tests::Stop;
-pub use tests::run;

@@ -12,14 +12,14 @@ ghost use Rattle.split.specs.Trees.{Live, Ran};
 
 // Where a part stops; what is known of its zone then; and a valuation: where it splits, the zone's guess may lie in one of the two parts
 // and this one in the other.
-pub struct Stop {
+pub(crate) struct Stop {
     pub part: Part,
     pub hint: Hint,
     pub witness: Valuation,
 }
 
 // The part where it stops, whatever the ranges are that the hint was made of; an entry past the clocks asks nothing.
-pub fn run(hint: Hint, r: Rule, p: Part) -> Stop
+pub(crate) fn run(hint: Hint, r: Rule, p: Part) -> Stop
     requires { ⌜ Live p × Trusted (p .zone) hint ⌝ }
     ensures { λ q. ⌜ ((b : Ranges) → Hinted b (p .zone) hint → Ran b r p (q .part)) ⌝ }
     ensures same { λ q. ⌜ q .part .zone ≡ withBounds (p .zone) (q .part .zone .bounds) ⌝ }

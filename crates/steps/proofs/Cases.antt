@@ -10,14 +10,13 @@ use lib.Dec.{ltb}
 use lib.IntN.{pos}
 use lib.ListN.{length, getD, take, drop, set, length-take, drop-of-length-le}
 use lib.Seq.{drop-cons, getD-take}
-use Rattle.delay.specs.Delayed.{delayedZone, resetsZone}
+use Rattle.delay.specs.Delayed.{delayedB, resetsB}
+use Rattle.expr.specs.declared.bound.Bound.{Bound}
 use Rattle.guards.specs.declared.Guard.{Guard}
-use Rattle.parts.specs.declared.part.Part.{Part}
-use Rattle.split.specs.Trees.{startC}
-use Rattle.steps.specs.Steps.{changedC, keptC, asksC, partC, guardStep, withStepC, withGuardsC}
+use Rattle.steps.specs.Steps.{asksC, guardStep, withStepC, withGuardsC}
+use Rattle.steps.specs.Taken.{changedB}
 use Rattle.steps.specs.declared.step.Step.{Step}
 use Rattle.steps.specs.declared.step.Steps.{Steps}
-use Rattle.zones.specs.declared.zone.Zone.{Zone}
 
 module _ (st : Step) where
   pub asks-right : st .kind ≡ 1 → st .guard .left < 5 → ltb (st .guard .right) 5 ≡ asksC st
@@ -32,26 +31,25 @@ module _ (st : Step) where
   unfolding asksC
   asks-not h = rw (ne-eqb (st .kind) 1 h) refl
 
-  module _ (w : ℕ) (z : Zone) where
-    pub changed-delay : st .kind < 1 → delayedZone w z ≡ changedC st w z
-    unfolding changedC
-    changed-delay h = rw (lt-ltb (st .kind) 1 h) refl
+  module _ (w : ℕ) where
+    pub changed-delay : st .kind < 1 → delayedB w ≡ changedB st w
+    unfolding changedB
+    changed-delay h = λ i m. by m i
+      where
+        by : (m : List Bound) → delayedB w m ≡ cond (ltb (st .kind) 1) (delayedB w m) (cond (ltb (st .kind) 2) m (resetsB w (st .bits) m))
+        by m = rw (lt-ltb (st .kind) 1 h) refl
 
-    pub changed-not : 1 ≤ st .kind → st .kind < 2 → z ≡ changedC st w z
-    unfolding changedC
-    changed-not h g = rw (le-ltb (st .kind) 1 h, lt-ltb (st .kind) 2 g) refl
+    pub changed-not : (m : List Bound) → 1 ≤ st .kind → st .kind < 2 → changedB st w m ≡ m
+    unfolding changedB
+    changed-not m h g = rw (le-ltb (st .kind) 1 h, lt-ltb (st .kind) 2 g) refl
 
-    pub changed-resets : 1 ≤ st .kind → 2 ≤ st .kind → resetsZone w (st .bits) z ≡ changedC st w z
-    unfolding changedC
-    changed-resets h g = rw (le-ltb (st .kind) 1 h, le-ltb (st .kind) 2 g) refl
-
-    pub part-asks : (t : Bool) → t ≡ asksC st → t ≡ true → startC z ≡ partC st w z
-    unfolding partC
-    part-asks t e h = rw (sym e ∙ h) refl
-
-    pub part-kept : (t : Bool) → t ≡ asksC st → t ≡ false → (y : Zone) → y ≡ changedC st w z → keptC y ≡ partC st w z
-    unfolding partC
-    part-kept t e h y q = rw (sym e ∙ h) (ap keptC q)
+    pub changed-resets : 1 ≤ st .kind → 2 ≤ st .kind → resetsB w (st .bits) ≡ changedB st w
+    unfolding changedB
+    changed-resets h g = λ i m. by m i
+      where
+        by : (m : List Bound)
+            → resetsB w (st .bits) m ≡ cond (ltb (st .kind) 1) (delayedB w m) (cond (ltb (st .kind) 2) m (resetsB w (st .bits) m))
+        by m = rw (le-ltb (st .kind) 1 h, le-ltb (st .kind) 2 g) refl
 
 module _ (ss : Steps) (st : Step) where
   pub with-room : ss .count < 20 → record { count = ss .count + 1; list = set (ss .list) (ss .count) st } ≡ withStepC ss st

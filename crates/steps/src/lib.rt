@@ -4,6 +4,6 @@ mod step;
 
 pub use step::Step;
 pub use step::Steps;
-pub use step::part_of;
+pub use step::taken;
 pub use step::with_guards;
 pub use step::with_step;

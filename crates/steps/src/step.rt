@@ -1,11 +1,12 @@
 // A step, lists of steps, and what a step makes of one zone before its tests.
-use expr::Expr;
 use guards::Guard;
-use parts::Part;
-use zones::Zone;
+use running::Task;
 ghost use mathlib.Core.Path.{_≡_};
-ghost use lib.ListN.{take};
-ghost use Rattle.steps.specs.Steps.{changedC, keptC, asksC, partC, withStepC, withGuardsC};
+ghost use Prim.Native.Nat.{_<_};
+ghost use lib.ListN.{length, take};
+ghost use Rattle.cells.specs.Cells.{cellsIn, onMatrix};
+ghost use Rattle.steps.specs.Steps.{asksC, withStepC, withGuardsC};
+ghost use Rattle.steps.specs.Taken.{changedB, taskC, takenC};
 
 // A step: a wait (0), a guard (1), or the resets of a transition (2), with which its move is made: the visit is then the one given.
 pub struct Step {
@@ -77,30 +78,20 @@ pub fn with_guards(steps: Steps, count: usize, guards: [Guard; 6]) -> Steps
     more
 }
 
-// The zone after a wait or resets; a guard is put to it later.
-fn changed(step: Step, clocks: usize, zone: Zone) -> Zone
-    ensures { λ z. ⌜ z ≡ changedC step clocks zone ⌝ }
+// Makes the matrix at place p that after a wait or resets; a guard is put to it later.
+fn changed(cells: &mut [i32], marks: &mut [u8], p: usize, clocks: usize, step: Step)
+    requires { ⌜ (length (now cells) ≡ 22500) × ((length (now marks) ≡ 2250) × (p < 90)) ⌝ }
+    ensures { λ _. ⌜ cellsIn (now (cells .exit)) (now (marks .exit))
+        ≡ onMatrix (cellsIn (now (cells .entry)) (now (marks .entry))) p (changedB step clocks) ⌝ }
 {
     if step.kind < 1 {
-        return delay::delayed_zone(zone, clocks);
+        delay::delayed(cells, marks, p, clocks);
+        return;
     }
     if step.kind < 2 {
-        return zone;
+        return;
     }
-    delay::resets_zone(zone, clocks, step.bits)
-}
-
-// A part that is kept.
-fn kept(zone: Zone) -> Part
-    ensures { λ p. ⌜ p ≡ keptC zone ⌝ }
-{
-    Part {
-        phase: 27,
-        halt: 2,
-        tests: 0,
-        test: Expr::ZERO,
-        zone,
-    }
+    delay::resets(cells, marks, p, clocks, step.bits);
 }
 
 // Whether a step is a guard of clocks that there can be.
@@ -116,12 +107,27 @@ fn asks(step: Step) -> bool
     false
 }
 
-// What a step makes of a zone: for a guard the part before the first test, else one that is kept. A guard without such a clock leaves it.
-pub fn part_of(step: Step, clocks: usize, zone: Zone) -> Part
-    ensures { λ p. ⌜ p ≡ partC step clocks zone ⌝ }
+// What a step makes of a zone, but for its numbers: for a guard the part before the first test, else one that is kept. A guard without
+// such a clock leaves it.
+fn task_of(step: Step) -> Task
+    ensures { λ t. ⌜ t ≡ taskC step ⌝ }
 {
     if asks(step) {
-        return split::start(zone);
+        return Task::START;
     }
-    kept(changed(step, clocks, zone))
+    Task::KEPT
+}
+
+// Takes the zone at place p up: it is copied to place 89, where a guard finds its matrix, and to place 64, where it becomes the part that a
+// step makes of it.
+pub fn taken(cells: &mut [i32], marks: &mut [u8], p: usize, clocks: usize, step: Step) -> Task
+    requires { ⌜ (length (now cells) ≡ 22500) × ((length (now marks) ≡ 2250) × (p < 64)) ⌝ }
+    ensures { λ t. ⌜ t ≡ taskC step ⌝ }
+    ensures placed { λ _. ⌜ cellsIn (now (cells .exit)) (now (marks .exit))
+        ≡ takenC (cellsIn (now (cells .entry)) (now (marks .entry))) p clocks step ⌝ }
+{
+    cells::copy(cells, marks, p, 89);
+    cells::copy(cells, marks, p, 64);
+    changed(cells, marks, 64, clocks, step);
+    task_of(step)
 }

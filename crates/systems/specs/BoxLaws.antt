@@ -89,7 +89,7 @@ within-reach l n k v true e g h = satisfies-at l (min n (length l)) 0 k v h (ome
 within-reach l n k v false e g h = past-value l (0 + k) v (omega (arith, ltb-false))
 
 -- inequalities past the end of the list do not count
-clamped : (l : List ℤ) (n : ℕ) (v : List ℤ) → satisfies (exprsIn l n) v ≡ satisfies (exprsIn l (min n (length l))) v
+pub clamped : (l : List ℤ) (n : ℕ) (v : List ℤ) → satisfies (exprsIn l n) v ≡ satisfies (exprsIn l (min n (length l))) v
 clamped l n v =
     same-test (satisfies (exprsIn l n) v) (satisfies (exprsIn l (min n (length l))) v)
     (λ h. satisfies-all l (min n (length l)) 0 v (λ k g. satisfies-at l n 0 k v h (omega arith)))

@@ -20,20 +20,20 @@ pub fn meets(v: Valuation, flat: &[i32], n: usize) -> bool
     true
 }
 
-// What the first n inequalities leave of the box, no solution lost; a box that an inequality emptied is not cut again.
+// What the first n inequalities leave of the box, no solution lost: the last is tried first, and a box that an inequality emptied is not
+// cut again.
 pub fn narrowed(b: Ranges, flat: &[i32], n: usize) -> Ranges
     ensures { λ c. ⌜ Narrows (exprsIn (now (flat .entry)) n) (b .list) (c .list) ⌝ }
 {
-    let m = numbers::at_most(n, flat.len());
     let mut c = b;
-    let mut k = 0;
-    while k < m {
+    let mut k = numbers::at_most(n, flat.len());
+    while 0 < k {
+        k -= 1;
         c = narrowing::cut(c, inequalities::inequality(flat, k));
         let r = c.list[0];
         if r.high < r.low {
             return c;
         }
-        k += 1;
     }
     c
 }

@@ -273,18 +273,3 @@ module _ (b : Ranges) (list : List Zone) (hints : List Hint) (spare : List Zone)
               getD-set-other spares (s .kept) x (getD hints (s .kept) noHint) noHint other,
             )
             (n .spared x g i (less-than x (s .kept) m other))
-
-    pub known-listed-late : s .kept < s .i → Known b (set list (s .kept) z) (set hints (s .kept) h) spare spares stack waits (listedC s)
-    known-listed-late late =
-        record {
-          long = length-set list (s .kept) z ∙ n .long;
-          hints-long = length-set hints (s .kept) h ∙ n .hints-long;
-          spare-long = n .spare-long;
-          spares-long = n .spares-long;
-          stack-long = n .stack-long;
-          waits-long = n .waits-long;
-          listed = listed-more;
-          spared = λ x g i m. n .spared x g i (omega arith);
-          ahead = ahead-less;
-          waiting = λ x g. n .waiting x (omega arith);
-        }

@@ -17,7 +17,7 @@ use Rattle.idle.specs.Idle.{Idle}
 use Rattle.parts.specs.Parts.{withBounds, yesC, noC}
 use Rattle.passing.specs.Laws.{steps-stick}
 use Rattle.passing.specs.Machine.{Machine, noStep, machine-starts, machine-ends, ends-fit, pending-spare, pending-list}
-use Rattle.passing.specs.Machine.{turn-stepped, turn-loaded, turn-passed, turn-dropped, turn-listed, turn-listed-late}
+use Rattle.passing.specs.Machine.{turn-stepped, turn-loaded, turn-passed, turn-dropped, turn-listed}
 use Rattle.passing.specs.Machine.{turn-split, split-room, less-split, refused-is, number-dropped, number-listed}
 use Rattle.passing.specs.Machine.{left, less-stepped, less-loaded, less-passed, less-ended, less-pushed}
 use Rattle.passing.specs.State.{begunC, pushedC, listedC, droppedC, loadedC, passedC, steppedC, numberC, refusedZ}
@@ -38,7 +38,7 @@ use Rattle.steps.specs.declared.step.Steps.{Steps}
 use Rattle.windows_route.specs.Fewer.{fewer-yes, fewer-no}
 use Rattle.windows_route.specs.Known.{Known, noHint, known-starts, known-again}
 use Rattle.windows_route.specs.Known.{known-stepped, known-dropped, known-passed, known-loaded}
-use Rattle.windows_route.specs.Known.{known-pushed, known-listed, known-listed-late, hinted-bounds, hinted-part}
+use Rattle.windows_route.specs.Known.{known-pushed, known-listed, hinted-bounds, hinted-part}
 use Rattle.systems.specs.Boxes.{Narrows}
 use Rattle.expr.specs.Records.{rangeList}
 use Rattle.zones.specs.Fits.{Fewer, hinted-fewer}
@@ -285,14 +285,6 @@ module _ {s : Sheet} {end : ℕ} {here : Location} {steps : Steps} {list spare :
         (keep w _ _ _ _ stack waits r (listedC p)
         (turn-listed _ _ _ _ list spare stack r p (w .machine) inside (t .busy) q told f (room-listed f))
         (known-listed (s .ranges) list hints spare spares stack waits p (w .known) (q .zone) h end-hinted (room-listed f)))
-
-    pub walking-listed-late : q .halt ≡ 2 → p .kept < p .i → (p′ : Pass) → p′ ≡ listedC p
-        → Walking s end here steps (set list (p .kept) (q .zone)) spare (set hints (p .kept) h) spares stack waits r p′ k
-    walking-listed-late f late p′ e =
-        rw e
-        (keep w _ _ _ _ stack waits r (listedC p)
-        (turn-listed-late _ _ _ _ list spare stack r p (w .machine) inside (t .busy) q told f (room-listed f) late)
-        (known-listed-late (s .ranges) list hints spare spares stack waits p (w .known) (q .zone) h end-hinted (room-listed f) late))
 
   pub room-split : q .halt ≡ 3 → p .depth < 25
   room-split e = split-room _ _ _ _ list spare stack r p (w .machine) inside (t .busy) q told e

@@ -19,13 +19,19 @@ unfolding putFrom
 put-length [] l p = refl
 put-length (x ∷ xs) l p = put-length xs (set l p x) (suc p) ∙ length-set l p x
 
-put-before : (xs l : List ℤ) (p i : ℕ) → i < p → getD (putFrom l p xs) i (pos 0) ≡ getD l i (pos 0)
+pub put-before : (xs l : List ℤ) (p i : ℕ) → i < p → getD (putFrom l p xs) i (pos 0) ≡ getD l i (pos 0)
 unfolding putFrom
 put-before [] l p i h = refl
 put-before (x ∷ xs) l p i h =
     put-before xs (set l p x) (suc p) i (omega arith) ∙ getD-set-other l p i x (pos 0) (λ e. omega arith)
 
-put-in : (xs l : List ℤ) (p : ℕ) → p + length xs ≤ length l → placesFrom (pos 0) (putFrom l p xs) p (length xs) ≡ xs
+pub put-after : (xs l : List ℤ) (p i : ℕ) → p + length xs ≤ i → getD (putFrom l p xs) i (pos 0) ≡ getD l i (pos 0)
+unfolding putFrom
+put-after [] l p i h = refl
+put-after (x ∷ xs) l p i h =
+    put-after xs (set l p x) (suc p) i (omega arith) ∙ getD-set-other l p i x (pos 0) (λ e. omega arith)
+
+pub put-in : (xs l : List ℤ) (p : ℕ) → p + length xs ≤ length l → placesFrom (pos 0) (putFrom l p xs) p (length xs) ≡ xs
 unfolding putFrom
 put-in [] l p h = refl
 put-in (x ∷ xs) l p h =

@@ -1,6 +1,7 @@
 -- Nothing meets the last inequality and another, or it is searched.
 use lib.ListN.{length-map}
-use Rattle.search.proofs.Answered.{nothing-is}
+use Rattle.integer.specs.Apart.{apart}
+use Rattle.search.proofs.Answered.{some-none, some-is}
 use borrow.Author.Needs.{needs}
 use Rattle.search.proofs.hunt.Statement.{statement}
 use Rattle.search.proofs.hunt.Tie as tie
@@ -14,16 +15,17 @@ clashes-requires c κs = search needs
 returns : tie.Need-returns
 returns c =
     let s = c .before .before .before in
-    let m = c .before .before .at-most in
-    nothing-is (s .args .b .list) (s .args .flat .now) (s .args .n) (m .result) (m .ensures)
-    (simp length-map at (s .good .0 .1 .1 .0 .1 .0 .1))
-    (c .before .clashes .ensures (c .if1 .taken))
+    let m = c .before .before .at-most in (
+      some-none (s .args .b .list) (s .args .flat .now) (s .args .n) (m .result) (m .ensures)
+          (simp length-map at (s .good .0 .1 .1 .0 .1 .0 .1)) (c .before .clashes .ensures (c .if1 .taken)),
+      λ e. apart cc,
+    )
 
-first-requires : tie.Need-first-requires
-first-requires c κs = search needs
+some-requires : tie.Need-some-requires
+some-requires c κs = search needs
 
 returns-2 : tie.Need-returns-2
-returns-2 c = c .first .ensures
+returns-2 c = (some-is _ _ _ (c .some .ensures), c .some .ensures .yes)
 
 pub hunt-spec : {M : Type 1} → statement M
-hunt-spec = tie.close (tie.spec at-most-requires clashes-requires returns first-requires returns-2)
+hunt-spec = tie.close (tie.spec at-most-requires clashes-requires returns some-requires returns-2)

@@ -1,5 +1,5 @@
 -- What is seen at a glance, or found by a search.
-use Rattle.search.proofs.Answered.{glance-is, found-is}
+use Rattle.search.proofs.Answered.{glance-is}
 use borrow.Author.Needs.{needs}
 use Rattle.search.proofs.some_meets.Statement.{statement}
 use Rattle.search.proofs.some_meets.Tie as tie
@@ -14,7 +14,7 @@ hunt-requires : tie.Need-hunt-requires
 hunt-requires c κs = search needs
 
 returns-2 : tie.Need-returns-2
-returns-2 c = found-is _ _ _ (c .hunt .ensures)
+returns-2 c = c .hunt .ensures .0
 
 pub some-meets-spec : {M : Type 1} → statement M
 some-meets-spec = tie.close (tie.spec glance-requires returns hunt-requires returns-2)

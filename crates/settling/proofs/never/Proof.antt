@@ -1,7 +1,7 @@
 -- The inequality is written; then it is seen at a glance, a nogood says it, or it is searched with the others.
 use mathlib.Core.Path.{_∙_}
 use Rattle.zones.specs.Fits.{refuted-never}
-use Rattle.settling.proofs.Cases.{never-is, glance-is, found-some}
+use Rattle.settling.proofs.Cases.{never-is, glance-is}
 use borrow.Author.Needs.{needs}
 use Rattle.settling.proofs.never.Statement.{statement}
 use Rattle.settling.proofs.never.Tie as tie
@@ -59,7 +59,7 @@ returns-3 c =
     let a = put .before .before .args in (
       never-is (a .h .ranges) (a .flat .now) _ (a .n) _ (a .e) _ (asked .before .before .before .before .before .before .before .before
           .at-most .ensures)
-          (put .put .ensures) (found-some _ _ _ (asked .hunt .ensures)),
+          (put .put .ensures) (asked .hunt .ensures .0),
       put .put .ensures,
     )
 

@@ -1,28 +1,30 @@
--- The measure is how many places are left from `start` on. The loop's invariant: what is counted so far, with the count of what is left of
--- the range, is the count of all, up to the largest usize.
+-- The measure is how many ranges have several numbers. The loop's invariant: what is counted so far, with the count of what is left of the
+-- range, is the count of all, up to the largest usize.
 use mathlib.Core.Logic.{⊎-elim}
 use mathlib.Core.Path.{_≡_, refl, _∙_}
 use Prim.Native.Nat.{ℕ, _+_, _-_, _<_, _≤_, min}
 use native.Mathlib.Omega.{arith}
-use lib.IntN.{pos, _+ℤ_}
-use lib.ListN.{length, getD, length-map}
+use lib.IntN.{ℤ, pos, _+ℤ_}
+use lib.ListN.{length, getD, set, length-map}
 use borrow.Author.Needs.{needs}
 use Rattle.expr.specs.Records.{PARAMETERS, blankRange}
-use Rattle.corners.specs.Boxes.{Points}
-use Rattle.corners.specs.BoxLaws.{wide-low, wide-high, wide-points, wide-two}
+use Rattle.expr.specs.declared.range.Range.{Range}
+use Rattle.corners.specs.Boxes.{pointOf}
 use Rattle.inequalities.specs.Flat.{exprsIn}
-use Rattle.systems.specs.BoxLaws.{narrows-long, points-within}
+use Rattle.picking.specs.Wides.{wides}
+use Rattle.systems.specs.BoxLaws.{narrows-long}
 use Rattle.valuations.specs.Valuations.{count, width}
 use Rattle.widths.specs.Cap.{CAP}
 use Rattle.sifting.specs.Sifting.{count-sifted}
 use Rattle.counting.proofs.Nodes.{total-of, countAt, count-emptied, count-sifted-out, count-kept, count-ended, count-begin}
-use Rattle.counting.proofs.Nodes.{count-more, count-done, count-small, some-width, points-next}
+use Rattle.counting.proofs.Nodes.{count-more, count-done, count-small, some-width, fewer-wide}
 use borrow.Fn.Kinds.{In}
 use borrow.Fn.PlainCycle.{Measures, is, falls, and}
 use Rattle.counting.proofs.counted.count_from.Reads as count-from
 use Rattle.counting.proofs.counted.count_from.Kinds as count-from-kinds
 use Rattle.counting.proofs.counted.+count_from.Lts-count_from as count-from-lts
-use Rattle.corners.proofs.wide.Reads as wide-reads
+use Rattle.picking.proofs.narrowest.Reads as narrowest-reads
+use Rattle.picking.proofs.other.Reads as other-reads
 use Rattle.counting.proofs.counted.by_rows.Reads as by-rows-reads
 use Rattle.counting.proofs.counted.single.Reads as single-reads
 use Rattle.sifting.proofs.sifted.Reads as sifted-reads
@@ -36,7 +38,7 @@ use Rattle.counting.proofs.counted.+count_from.{statement}
 use Rattle.counting.proofs.counted.+count_from.Tie.{close}
 
 abbrev μ-count-from : Measures 1 count-from-kinds.ps ℕ
-μ-count-from κs a = PARAMETERS - a .1 .1 .1 .0
+μ-count-from κs a = wides (a .0 .list)
 
 -- what the function is given at the measure t, and what a call of it asks below t
 abbrev at-t : ℕ → In 1 count-from-kinds.ps
@@ -53,10 +55,12 @@ claims t = (
   volume-reads.Learnt,
   sifted-reads.Asked,
   sifted-reads.Learnt,
-  wide-reads.Asked,
-  wide-reads.Learnt,
+  narrowest-reads.Asked,
+  narrowest-reads.Learnt,
   single-reads.Asked,
   single-reads.Learnt,
+  other-reads.Asked,
+  other-reads.Learnt,
   by-rows-reads.Asked,
   by-rows-reads.Learnt,
   count-rows-reads.Asked,
@@ -72,35 +76,28 @@ claims t = (
 )
 
 abbrev Inv-loop : count-from-lts.InvT-loop
-Inv-loop flat n start c v kept k w t range m total₀ i₀ total i =
+Inv-loop flat n c v kept k w t range m total₀ i₀ total i =
     (i ≤ m) × (m ≤ 65536) × (m ≡ width range) × (total ≤ CAP)
     × (min (total + total-of (countAt (exprsIn flat n) (c .list) w) (range .low +ℤ pos i) (m - i)) CAP ≡ min
     (count (c .list) (exprsIn flat n)) CAP)
 
 abbrev μ-loop : count-from-lts.MeasureT-loop
-μ-loop flat n start c v kept k w t range m total₀ i₀ total i = m - i
+μ-loop flat n c v kept k w t range m total₀ i₀ total i = m - i
 
 -- the narrowed box has all its ranges
 long : (t : ℕ) (c : count-from-lts.After-narrowed (claims t) (at-t t) count-from.Post Inv-loop μ-loop) → length (c .narrowed .result
     .list) ≡ PARAMETERS
 long t c = narrows-long _ _ _ PARAMETERS (c .narrowed .ensures) (simp length-map at (c .before .good .0 .1 .1 .0 .1 .0 .1))
 
--- the place that is put in lies behind the start, and the ranges before it have one number at most
-low : (t : ℕ) (c : count-from-lts.After-wide (claims t) (at-t t) count-from.Post Inv-loop μ-loop) → c .before .before .before
-    .before .before .before .before .before .args .start ≤ c .wide .result
-low t c =
-    let s = c .before .before .before .before .before .before .before .before in
-    rw (c .wide .ensures) (wide-low _ (PARAMETERS - s .args .start) (s .args .start))
-
-points : (t : ℕ) (c : count-from-lts.After-wide (claims t) (at-t t) count-from.Post Inv-loop μ-loop)
-    → Points (c .wide .result) (c .before .before .before .before .before .before .before .narrowed .result .list)
-points t c =
+-- fewer ranges have several numbers where one is put in for the narrowest
+fewer : (t : ℕ) (c : count-from-lts.After-narrowest (claims t) (at-t t) count-from.Post Inv-loop μ-loop) (q : Range) (x : ℤ)
+    → c .narrowest .result < PARAMETERS → q ≡ pointOf x
+    → let narrowed = c .before .before .before .before .before .before .before in
+    wides (set (narrowed .narrowed .result .list) (c .narrowest .result) q) < wides (narrowed .before .args .b .list)
+fewer t c q x h e =
     let narrowed = c .before .before .before .before .before .before .before in
-    let s = narrowed .before in
-    rw (c .wide .ensures)
-    (wide-points (narrowed .narrowed .result .list) (PARAMETERS - s .args .start) (s .args .start)
-    (points-within (s .args .start) (s .args .b .list) (narrowed .narrowed .result .list) (narrowed .narrowed .ensures .within)
-    (s .pre .1 .1)))
+    fewer-wide _ _ (narrowed .narrowed .result .list) (c .narrowest .result) q x (narrowed .narrowed .ensures)
+    (omega (arith, long t narrowed)) (c .narrowest .ensures .0 h) e
 
 narrowed-requires : (t : ℕ) → count-from-lts.Need-narrowed-requires (claims t) (at-t t) count-from.Post Inv-loop μ-loop
 narrowed-requires t c κs = search needs
@@ -124,27 +121,18 @@ returns-2 t c =
     count-sifted-out _ _ _ (volume .before .narrowed .ensures) _ (sifted .sifted .result) _ (volume .volume .ensures) (c .if2 .taken)
     (sifted .sifted .ensures)
 
-wide-requires : (t : ℕ) → count-from-lts.Need-wide-requires (claims t) (at-t t) count-from.Post Inv-loop μ-loop
-wide-requires t c κs = search needs
+narrowest-requires : (t : ℕ) → count-from-lts.Need-narrowest-requires (claims t) (at-t t) count-from.Post Inv-loop μ-loop
+narrowest-requires t c κs = search needs
 
 single-requires : (t : ℕ) → count-from-lts.Need-single-requires (claims t) (at-t t) count-from.Post Inv-loop μ-loop
-single-requires t c κs =
-    let wide = c .before in
-    let s = wide .before .before .before .before .before .before .before .before in
-    let high = wide-high (wide .before .before .before .before .before .before .before .narrowed .result .list) (PARAMETERS - s
-    .args .start) (s .args .start) in
-    let w : wide .wide .result ≡ PARAMETERS = omega (arith, c .if3 .taken, wide .wide .ensures, high, s .pre .1 .0) in
-    rw w at (points t wide)
+single-requires t c κs = c .before .narrowest .ensures .1 (c .if3 .taken)
 
 returns-3 : (t : ℕ) → count-from-lts.Need-returns-3 (claims t) (at-t t) count-from.Post Inv-loop μ-loop
 returns-3 t c = count-ended _ _ _ (c .before .before .before .before .before .before .before .before .before .narrowed .ensures) _
     (c .single .ensures)
 
-add-wide : (t : ℕ) → count-from-lts.Need-add-wide (claims t) (at-t t) count-from.Post Inv-loop μ-loop
-add-wide t c = search needs
-
-wide-requires-2 : (t : ℕ) → count-from-lts.Need-wide-requires-2 (claims t) (at-t t) count-from.Post Inv-loop μ-loop
-wide-requires-2 t c κs = search needs
+other-requires : (t : ℕ) → count-from-lts.Need-other-requires (claims t) (at-t t) count-from.Post Inv-loop μ-loop
+other-requires t c κs = search needs
 
 by-rows-requires : (t : ℕ) → count-from-lts.Need-by-rows-requires (claims t) (at-t t) count-from.Post Inv-loop μ-loop
 by-rows-requires t c κs = search needs
@@ -152,25 +140,25 @@ by-rows-requires t c κs = search needs
 slice-aggregate-count-rows : (t : ℕ) → count-from-lts.Need-slice-aggregate-count-rows (claims t) (at-t t) count-from.Post Inv-loop μ-loop
 slice-aggregate-count-rows t c = search needs
 
+-- `kept` has all its places
+room : (t : ℕ) (c : count-from-lts.After-sifted (claims t) (at-t t) count-from.Post Inv-loop μ-loop) → length (c .sifted .last .0) ≡ 125
+room t c = search needs
+
 count-rows-requires : (t : ℕ) → count-from-lts.Need-count-rows-requires (claims t) (at-t t) count-from.Post Inv-loop μ-loop
 count-rows-requires t c κs =
-    let wide2 = c .before .before .before in
-    let wide = wide2 .before .before in
-    let narrowed = wide .before .before .before .before .before .before .before in
-    let w = wide .wide .result in
-    let few = c .before .before .by-rows .ensures (c .before .if4 .taken) in
-    let above = wide-low (narrowed .narrowed .result .list) (PARAMETERS - (w + 1)) (w + 1) in (
-      (omega (arith, above, wide2 .wide2 .ensures), few .1 .0),
+    let other = c .before .before .before in
+    let narrowest = other .before .before in
+    let narrowed = narrowest .before .before .before .before .before .before .before in
+    let few = c .before .before .by-rows .ensures (c .before .if4 .taken) in (
       (
-        few .0,
+        (omega (arith, other .before .if3 .left), (other .other .ensures .0, other .other .ensures .1)),
         (
-          wide-two (narrowed .narrowed .result .list) w (wide2 .wide2 .result) (PARAMETERS - (w + 1))
-              (PARAMETERS - (wide2 .wide2 .result + 1)) (points t wide)
-              (wide2 .wide2 .ensures) (omega (arith, long t narrowed, few .1 .1)),
-          some-width _ _ (wide .before .before .before .before .before .before .volume .ensures) (wide .before .before .before
+          few .1,
+          some-width _ _ (narrowest .before .before .before .before .before .before .volume .ensures) (narrowest .before .before .before
               .before .before .if1 .left),
         ),
       ),
+      (few .0, omega (arith, few .0, room t (narrowest .before .before .before))),
     )
 
 returns-4 : (t : ℕ) → count-from-lts.Need-returns-4 (claims t) (at-t t) count-from.Post Inv-loop μ-loop
@@ -193,37 +181,32 @@ width-requires t c κs = search needs
 
 loop-holds : (t : ℕ) → count-from-lts.Need-loop-holds (claims t) (at-t t) count-from.Post Inv-loop μ-loop
 loop-holds t c =
-    let wide = c .before .before .before .before .before .before in
-    let narrowed = wide .before .before .before .before .before .before .before in (
+    let narrowest = c .before .before .before .before .before .before in
+    let narrowed = narrowest .before .before .before .before .before .before .before in (
       omega arith,
       c .width .ensures .1,
       c .width .ensures .0,
       omega arith,
-      count-begin _ (narrowed .narrowed .result .list) (wide .wide .result) _ _ (points t wide) (omega (arith, long t narrowed)) refl
+      count-begin _ (narrowed .narrowed .result .list) (narrowest .narrowest .result) _ _ (omega (arith, long t narrowed)) refl
           (c .width .ensures .0),
     )
 
 point-requires : (t : ℕ) → count-from-lts.Need-point-requires (claims t) (at-t t) count-from.Post Inv-loop μ-loop
 point-requires t c κs = omega arith
 
-mul-t32 : (t : ℕ) → count-from-lts.Need-mul-t32 (claims t) (at-t t) count-from.Post Inv-loop μ-loop
-mul-t32 t c = search needs
+mul-t31 : (t : ℕ) → count-from-lts.Need-mul-t31 (claims t) (at-t t) count-from.Post Inv-loop μ-loop
+mul-t31 t c = search needs
 
 element-set-from-d : (t : ℕ) → count-from-lts.Need-element-set-from-d (claims t) (at-t t) count-from.Post Inv-loop μ-loop
 element-set-from-d t c = search needs
 
-add-count-from : (t : ℕ) → count-from-lts.Need-add-count-from (claims t) (at-t t) count-from.Post Inv-loop μ-loop
-add-count-from t c = search needs
-
 count-from-requires : (t : ℕ) → count-from-lts.Need-count-from-requires (claims t) (at-t t) count-from.Post Inv-loop μ-loop
 count-from-requires t c κs =
     let point = c .before in
-    let wide = point .before .before .before .before .before .before .before .before .before in
-    let s = wide .before .before .before .before .before .before .before .before in
-    let few = point .before .before .before .before .before .before .before .before .if3 .left in (
-      omega (arith, s .pre .0, low t wide, few),
-      (omega (arith, few), points-next (wide .wide .result) _ (point .point .result) _ (point .point .ensures) (points t wide)),
-    )
+    let narrowest = point .before .before .before .before .before .before .before .before .before in
+    let s = narrowest .before .before .before .before .before .before .before .before in
+    let few = point .before .before .before .before .before .before .before .before .if3 .left in
+    (omega (arith, s .pre .0, fewer t narrowest (point .point .result) _ (omega (arith, few)) (point .point .ensures)), tt)
 
 plus-requires : (t : ℕ) → count-from-lts.Need-plus-requires (claims t) (at-t t) count-from.Post Inv-loop μ-loop
 plus-requires t c κs = search needs
@@ -231,18 +214,13 @@ plus-requires t c κs = search needs
 slice-aggregate-count-from : (t : ℕ) → count-from-lts.Need-slice-aggregate-count-from (claims t) (at-t t) count-from.Post Inv-loop μ-loop
 slice-aggregate-count-from t c = search needs
 
-add-count-from-2 : (t : ℕ) → count-from-lts.Need-add-count-from-2 (claims t) (at-t t) count-from.Post Inv-loop μ-loop
-add-count-from-2 t c = search needs
-
 count-from-requires-2 : (t : ℕ) → count-from-lts.Need-count-from-requires-2 (claims t) (at-t t) count-from.Post Inv-loop μ-loop
 count-from-requires-2 t c κs =
     let point = c .before .before in
-    let wide = point .before .before .before .before .before .before .before .before .before in
-    let s = wide .before .before .before .before .before .before .before .before in
-    let few = point .before .before .before .before .before .before .before .before .if3 .left in (
-      omega (arith, s .pre .0, low t wide, few),
-      (omega (arith, few), points-next (wide .wide .result) _ (point .point .result) _ (point .point .ensures) (points t wide)),
-    )
+    let narrowest = point .before .before .before .before .before .before .before .before .before in
+    let s = narrowest .before .before .before .before .before .before .before .before in
+    let few = point .before .before .before .before .before .before .before .before .if3 .left in
+    (omega (arith, s .pre .0, fewer t narrowest (point .point .result) _ (omega (arith, few)) (point .point .ensures)), tt)
 
 plus-requires-2 : (t : ℕ) → count-from-lts.Need-plus-requires-2 (claims t) (at-t t) count-from.Post Inv-loop μ-loop
 plus-requires-2 t c κs = search needs
@@ -258,11 +236,11 @@ loop-again t c =
     let point = c .before in
     let loop = point .before .before in
     let counted = loop .before in
-    let wide = counted .before .before .before .before .before .before in
-    let sifted = wide .before .before .before in
-    let narrowed = wide .before .before .before .before .before .before .before in
+    let narrowest = counted .before .before .before .before .before .before in
+    let sifted = narrowest .before .before .before in
+    let narrowed = narrowest .before .before .before .before .before .before .before in
     let cs = narrowed .narrowed .result .list in
-    let w = wide .wide .result in
+    let w = narrowest .narrowest .result in
     let range = getD cs w blankRange in
     let i = loop .loop in
     let inside : i .i < counted .width .result = point .before .loop-test .taken in
@@ -293,12 +271,12 @@ returns-5 : (t : ℕ) → count-from-lts.Need-returns-5 (claims t) (at-t t) coun
 returns-5 t c =
     let loop = c .before in
     let width = loop .before in
-    let wide = width .before .before .before .before .before .before in
-    let narrowed = wide .before .before .before .before .before .before .before in
+    let narrowest = width .before .before .before .before .before .before in
+    let narrowed = narrowest .before .before .before .before .before .before .before in
     let cs = narrowed .narrowed .result .list in
-    let range = getD cs (wide .wide .result) blankRange in
+    let range = getD cs (narrowest .narrowest .result) blankRange in
     count-ended _ _ _ (narrowed .narrowed .ensures) _
-    (count-done _ cs (wide .wide .result) range (width .width .result) (loop .loop .i) (loop .loop .total) (omega arith)
+    (count-done _ cs (narrowest .narrowest .result) range (width .width .result) (loop .loop .i) (loop .loop .total) (omega arith)
     (loop .loop .inv .3) (loop .loop .inv .4))
 
 pub +count-from-spec : {M : Type 1} → statement M
@@ -316,11 +294,10 @@ pub +count-from-spec : {M : Type 1} → statement M
     (slice-aggregate-sifted t)
     (sifted-requires t)
     (returns-2 t)
-    (wide-requires t)
+    (narrowest-requires t)
     (single-requires t)
     (returns-3 t)
-    (add-wide t)
-    (wide-requires-2 t)
+    (other-requires t)
     (by-rows-requires t)
     (slice-aggregate-count-rows t)
     (count-rows-requires t)
@@ -330,13 +307,11 @@ pub +count-from-spec : {M : Type 1} → statement M
     (width-requires t)
     (loop-holds t)
     (point-requires t)
-    (mul-t32 t)
+    (mul-t31 t)
     (element-set-from-d t)
-    (add-count-from t)
     (count-from-requires t)
     (plus-requires t)
     (slice-aggregate-count-from t)
-    (add-count-from-2 t)
     (count-from-requires-2 t)
     (plus-requires-2 t)
     (add-i t)

@@ -24,7 +24,7 @@ returns c =
     (simp length-map at (s .good .0 .1 .1 .0 .1 .0 .1)) (c .before .opposed .ensures (c .if1 .taken))
 
 count-from-requires : tie.Need-count-from-requires
-count-from-requires c κs = (omega arith, tt)
+count-from-requires c κs = search needs
 
 returns-2 : tie.Need-returns-2
 returns-2 c =

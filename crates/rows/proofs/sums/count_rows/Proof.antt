@@ -1,149 +1,58 @@
--- The loop's invariant: what is counted so far, with the rows that are left, is the sum of all rows.
-use mathlib.Core.Path.{_≡_, ap, subst, _∙_}
-use mathlib.Core.List.{List}
-use Prim.Native.Nat.{ℕ, _+_, _-_, _*_, _≤_}
-use native.Mathlib.Omega.{arith}
-use lib.IntN.{ℤ, pos, _+ℤ_}
-use lib.ListN.{length, getD, set, length-map}
-use mir.Syntax.{w16}
-use mir.Val.{SFits}
-use mir.ValLaws.{toZ-ofZ}
-use Rattle.expr.specs.Records.{PARAMETERS, blankRange}
-use Rattle.inequalities.specs.Flat.{exprAt}
-use Rattle.valuations.specs.Totals.{total-start}
-use Rattle.valuations.specs.Valuations.{width}
-use Rattle.rows.specs.Lines.{LineOf, noLine}
-use Rattle.rows.specs.RowLaws.{rows-counted}
-use Rattle.rows.proofs.Steps.{rowWidth, sum-of, sum-turn, sum-done}
+-- The two places may be exchanged.
+use mathlib.Core.Path.{sym}
 use borrow.Author.Needs.{needs}
 use Rattle.rows.proofs.sums.count_rows.Statement.{statement}
 use Rattle.rows.proofs.sums.count_rows.Tie as tie
 
-abbrev Inv-loop : tie.InvT-loop
-Inv-loop flat n w t l range s m total₀ i₀ total i =
-    (i ≤ m) × (m ≤ 65536) × (m ≡ width range) × (total ≤ i * 65536)
-    × (total + sum-of (rowWidth (l .list) n s) (range .low +ℤ pos i) (m - i) ≡ sum-of (rowWidth (l .list) n s) (range .low) m)
+mul-x : tie.Need-mul-x
+mul-x c = search needs
 
-abbrev μ-loop : tie.MeasureT-loop
-μ-loop flat n w t l range s m total₀ i₀ total i = m - i
+element-copy-out-x : tie.Need-element-copy-out-x
+element-copy-out-x c = search needs
 
-corner-requires : tie.Need-corner-requires Inv-loop μ-loop
-corner-requires c κs = search needs
+mul-y : tie.Need-mul-y
+mul-y c = search needs
 
-mul-v : tie.Need-mul-v Inv-loop μ-loop
-mul-v c = search needs
+element-copy-out-y : tie.Need-element-copy-out-y
+element-copy-out-y c = search needs
 
-element-set-of-v : tie.Need-element-set-of-v Inv-loop μ-loop
-element-set-of-v c = search needs
-
-mul-v-2 : tie.Need-mul-v-2 Inv-loop μ-loop
-mul-v-2 c = search needs
-
-element-set-of-v-2 : tie.Need-element-set-of-v-2 Inv-loop μ-loop
-element-set-of-v-2 c = search needs
-
-all-put-in-requires : tie.Need-all-put-in-requires Inv-loop μ-loop
-all-put-in-requires c κs = search needs
-
-mul-range : tie.Need-mul-range Inv-loop μ-loop
-mul-range c = search needs
-
-element-copy-out-range : tie.Need-element-copy-out-range Inv-loop μ-loop
-element-copy-out-range c = search needs
-
-mul-s : tie.Need-mul-s Inv-loop μ-loop
-mul-s c = search needs
-
-element-copy-out-s : tie.Need-element-copy-out-s Inv-loop μ-loop
-element-copy-out-s c = search needs
-
-width-requires : tie.Need-width-requires Inv-loop μ-loop
+width-requires : tie.Need-width-requires
 width-requires c κs = search needs
 
-loop-holds : tie.Need-loop-holds Inv-loop μ-loop
-loop-holds c =
-    (omega arith, c .width .ensures .1, c .width .ensures .0, omega arith, total-start _ _ _)
-
-point-requires : tie.Need-point-requires Inv-loop μ-loop
-point-requires c κs = search needs
-
-row-requires : tie.Need-row-requires Inv-loop μ-loop
-row-requires c κs =
-    let lines = c .before .before .before .before .before .before .before in
-    (lines .before .before .pre .1 .0, λ k h. lines .all-put-in .ensures k h .size)
-
-width-requires-2 : tie.Need-width-requires-2 Inv-loop μ-loop
+width-requires-2 : tie.Need-width-requires-2
 width-requires-2 c κs = search needs
 
-add-total : tie.Need-add-total Inv-loop μ-loop
-add-total c =
-    let loop = c .before .before .before .before .before .loop in
-    omega (arith, loop .inv .3, loop .inv .1, c .width2 .ensures .1)
-
-add-i : tie.Need-add-i Inv-loop μ-loop
-add-i c = search needs
-
-loop-less : tie.Need-loop-less Inv-loop μ-loop
-loop-less c = search needs
-
-loop-again : tie.Need-loop-again Inv-loop μ-loop
-loop-again c =
-    let point = c .before .before .before in
-    let loop = point .before .before .loop in
-    let a = point .before .before .before .before .before .before .before .before .args in
-    let f : SFits w16 (point .point .result .low) = record { sfits = c .before .before .struct-told .given .0 .1 } in (
-      omega arith,
-      loop .inv .1,
-      loop .inv .2,
-      omega (arith, loop .inv .3, c .width2 .ensures .1),
-      sum-turn _ _ _ (getD (a .t1 .list) (a .w) blankRange) _ (loop .i) (loop .total) _ _ _ (omega arith) (toZ-ofZ w16 _ f) (point
-          .point .ensures) (c .before .row .ensures)
-          (c .width2 .ensures .0) (loop .inv .4),
+along-requires : tie.Need-along-requires
+along-requires c κs =
+    let s = c .before .before .before .before .before in
+    let p = s .pre .0 in (
+      (
+        (p .0 .1 .0, (p .0 .0, λ e. p .0 .1 .1 (sym e))),
+        (λ j h a b. p .1 .0 j h b a, p .1 .1),
+      ),
+      s .pre .1,
     )
 
-returns : tie.Need-returns Inv-loop μ-loop
-returns c =
-    let loop = c .before .loop in
-    let lines = c .before .before .before .before .before in
-    let start = lines .before .before in
-    let a = start .args in
-    let l : length (a .t1 .list) ≡ PARAMETERS = simp length-map at (start .good .0 .1 .1 .0 .1 .0 .1) in
-    let m = c .before .before .width .result in
-    let low = getD (a .t1 .list) (a .w) blankRange .low in
-    let f = rowWidth (lines .all-put-in .result .list) (a .n) (getD (a .t1 .list) (a .t) blankRange) in
-    let all = sum-done f low m (loop .i) (loop .total) (sum-of f low m) (omega arith) (loop .inv .4) in (
-      all ∙ ap (λ (k : ℕ). sum-of f low k) (loop .inv .2)
-          ∙ rows-counted (a .w) (a .t) (a .t1 .list) (start .pre .1 .1 .0) (start .pre .1 .1 .1) (start .pre .0 .0)
-          (omega (arith, start .pre .0 .1))
-          (a .flat .now) (a .n) (lines .all-put-in .result .list)
-          (λ j h. subst (λ (u : List ℤ). LineOf (exprAt (a .flat .now) j) (set (set u (a .t) (pos 0)) (a .w) (pos 0)) (a .w) (a .t)
-          (getD (lines .all-put-in .result .list) j noLine)) (lines .before .corner .ensures) (lines .all-put-in .ensures j h)),
-      omega (arith, loop .inv .0, loop .inv .1, loop .inv .3),
-    )
+returns : tie.Need-returns
+returns c = search needs
+
+along-requires-2 : tie.Need-along-requires-2
+along-requires-2 c κs = search needs
+
+returns-2 : tie.Need-returns-2
+returns-2 c = search needs
 
 pub count-rows-spec : {M : Type 1} → statement M
 count-rows-spec =
     tie.close
     (tie.spec
-    Inv-loop
-    μ-loop
-    corner-requires
-    mul-v
-    element-set-of-v
-    mul-v-2
-    element-set-of-v-2
-    all-put-in-requires
-    mul-range
-    element-copy-out-range
-    mul-s
-    element-copy-out-s
+    mul-x
+    element-copy-out-x
+    mul-y
+    element-copy-out-y
     width-requires
-    loop-holds
-    point-requires
-    row-requires
     width-requires-2
-    add-total
-    add-i
-    loop-less
-    loop-again
-    returns)
+    along-requires
+    returns
+    along-requires-2
+    returns-2)

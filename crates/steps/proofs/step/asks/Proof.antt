@@ -9,7 +9,8 @@ returns c = let a = c .before .before .before .before .before .before .args in a
     .if1 .taken) (c .before .if2 .taken)
 
 returns-2 : tie.Need-returns-2
-returns-2 c = let a = c .before .before .before .before .before .args in asks-left (a .step) (c .before .before .if1 .taken) (c .if2 .left)
+returns-2 c = let a = c .before .before .before .before .before .args in asks-left (a .step) (c .before .before .if1 .taken) (c .if2
+    .left)
 
 returns-3 : tie.Need-returns-3
 returns-3 c = let a = c .before .before .before .args in asks-not (a .step) (c .if1 .left)

@@ -12,16 +12,19 @@ use Rattle.systems.proofs.boxes.narrowed.Statement.{statement}
 use Rattle.systems.proofs.boxes.narrowed.Tie as tie
 
 abbrev Inv-loop : tie.InvT-loop
-Inv-loop flat n m c₀ k₀ c k = (k ≤ m) × Narrows (exprsIn flat n) (c₀ .list) (c .list)
+Inv-loop flat n c₀ k₀ c k = (k ≤ n) × Narrows (exprsIn flat n) (c₀ .list) (c .list)
 
 abbrev μ-loop : tie.MeasureT-loop
-μ-loop flat n m c₀ k₀ c k = m - k
+μ-loop flat n c₀ k₀ c k = k
 
 at-most-requires : tie.Need-at-most-requires Inv-loop μ-loop
 at-most-requires c κs = search needs
 
 loop-holds : tie.Need-loop-holds Inv-loop μ-loop
-loop-holds c = (omega arith, narrows-refl _ _)
+loop-holds c = (omega (arith, c .at-most .ensures), narrows-refl _ _)
+
+sub-k : tie.Need-sub-k Inv-loop μ-loop
+sub-k c = search needs
 
 inequality-requires : tie.Need-inequality-requires Inv-loop μ-loop
 inequality-requires c κs = search needs
@@ -37,12 +40,8 @@ returns c =
     let cut = c .before .before .before .before in
     let at = cut .before in
     let loop = at .before .before .loop in
-    let m = at .before .before .before .at-most .ensures in
-    narrows-cut _ _ (loop .k) _ _ _ (omega (arith, m)) (loop .inv .1)
+    narrows-cut _ _ (loop .k - 1) _ _ _ (omega (arith, loop .inv .0)) (loop .inv .1)
     (subst (λ (e : Affine). Cut e (loop .c .list) (cut .cut .result .list)) (at .inequality .ensures) (cut .cut .ensures))
-
-add-k : tie.Need-add-k Inv-loop μ-loop
-add-k c = search needs
 
 loop-less : tie.Need-loop-less Inv-loop μ-loop
 loop-less c = search needs
@@ -51,10 +50,9 @@ loop-again : tie.Need-loop-again Inv-loop μ-loop
 loop-again c =
     let cut = c .before .before .before .before in
     let at = cut .before in
-    let loop = at .before .before .loop in
-    let m = at .before .before .before .at-most .ensures in (
-      omega arith,
-      narrows-cut _ _ (loop .k) _ _ _ (omega (arith, m)) (loop .inv .1)
+    let loop = at .before .before .loop in (
+      omega (arith, loop .inv .0),
+      narrows-cut _ _ (loop .k - 1) _ _ _ (omega (arith, loop .inv .0)) (loop .inv .1)
           (subst (λ (e : Affine). Cut e (loop .c .list) (cut .cut .result .list)) (at .inequality .ensures) (cut .cut .ensures)),
     )
 
@@ -69,11 +67,11 @@ narrowed-spec =
     μ-loop
     at-most-requires
     loop-holds
+    sub-k
     inequality-requires
     cut-requires
     element-copy-out-r
     returns
-    add-k
     loop-less
     loop-again
     returns-2)

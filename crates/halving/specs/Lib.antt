@@ -1,0 +1,2 @@
+-- What is read first: Halved (what the search answers, and the laws of its steps).
+pub mod Halved

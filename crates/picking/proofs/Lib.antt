@@ -1,0 +1,2 @@
+-- Steps are the turns of the loops.
+pub mod Steps
