@@ -1,16 +1,16 @@
 -- What writing and copying numbers makes of cells.
 use mathlib.Core.Path.{_≡_, refl, sym, ap, subst, _∙_}
-use mathlib.Core.Bool.{Bool, true, false, cond}
+use mathlib.Core.Bool.{Bool, true, false}
 use mathlib.Core.List.{List, [], _∷_, map}
 use mathlib.Core.Logic.{_≢_}
-use Prim.Native.Nat.{ℕ, zero, suc, _+_, _*_, _%_, _≤_, _<_, min}
+use Prim.Native.Nat.{ℕ, zero, suc, _+_, _-_, _*_, _%_, _≤_, _<_, min}
 use native.Mathlib.Numerals.{add-one}
 use native.Mathlib.Omega.{arith}
 use borrow.Author.Tests.{eqb-true, eqb-false, ltb-true, ltb-false, lt-ltb, le-ltb}
 use lib.Dec.{ltb, eqb}
 use lib.IntN.{ℤ, pos}
-use lib.ListN.{length, getD, set, drop, take, length-set}
-use lib.Seq.{getD-set-same, getD-set-other, ext-getD}
+use lib.ListN.{length, getD, set, drop, take, length-set, length-drop}
+use lib.Seq.{getD-set-same, getD-set-other, getD-drop, ext-getD, take-all}
 use Rattle.expr.specs.Records.{PARAMETERS, placesFrom, four, affine, exprOf, noExpr, noBound, zeroBound}
 use Rattle.expr.specs.RecordLaws.{places-same}
 use Rattle.constrain.specs.RuleLaws.{readC}
@@ -19,15 +19,14 @@ use Rattle.expr.specs.Affine.{Affine}
 use Rattle.expr.specs.declared.bound.Bound.{Bound}
 use Rattle.expr.specs.declared.number.Expr.{Expr}
 use Rattle.inequalities.specs.Flat.{exprAt, exprsFrom}
-use Rattle.zones.specs.Put.{put-length, put-before, put-after, put-in}
+use Rattle.zones.specs.Put.{put-before, put-after, put-in}
 use Rattle.zones.specs.System.{putFrom}
 use Rattle.cells.specs.Cells.{Cell, noCell, rowAt, rowsFrom, boundOn, boundsFrom, cellAt, cellsFrom, cellsIn, PLACES}
-use Rattle.cells.specs.Cells.{withMatrix, withIneq, putBound, putIneq, markBy, markOf, zoneOf}
-use Rattle.zones.specs.declared.zone.Zone.{Zone}
+use Rattle.cells.specs.Cells.{withMatrix, withIneq, putBound, putIneq, markBy, markOf}
 use Rattle.cells.specs.Copies.{Copying}
 
 -- ---- lists that are made place by place
-rows-length : (l : List ℤ) (n r : ℕ) → length (rowsFrom l r n) ≡ n
+pub rows-length : (l : List ℤ) (n r : ℕ) → length (rowsFrom l r n) ≡ n
 unfolding rowsFrom
 rows-length l zero r = refl
 rows-length l (suc n) r = ap suc (rows-length l n (suc r))
@@ -114,7 +113,7 @@ row-same l l′ r s h =
     at : (i x y : ℕ) → i < 5 → x ≡ 5 * s + i → y ≡ 5 * r + i → getD l′ x (pos 0) ≡ getD l y (pos 0)
     at i x y g e f = rw (e, f) (h i g)
 
-rows-same : (l l′ : List ℤ) (n r s : ℕ) → ((i : ℕ) → i < 5 * n → getD l′ (5 * s + i) (pos 0) ≡ getD l (5 * r + i) (pos 0))
+pub rows-same : (l l′ : List ℤ) (n r s : ℕ) → ((i : ℕ) → i < 5 * n → getD l′ (5 * s + i) (pos 0) ≡ getD l (5 * r + i) (pos 0))
     → rowsFrom l′ s n ≡ rowsFrom l r n
 unfolding rowsFrom
 rows-same l l′ zero r s h = refl
@@ -213,16 +212,51 @@ unfolding rowAt
 row-is l r e long h = ap (λ (xs : List ℤ). record { constant = e .constant; coefs = xs }) (sym (all-coefs e long)) ∙ ap exprOf h
 
 -- rows as expressions of any number of parameters
-rows-affine : (l : List ℤ) (n r : ℕ) → map affine (rowsFrom l r n) ≡ exprsFrom l r n
+pub row-affine : (l : List ℤ) (r : ℕ) → affine (rowAt l r) ≡ exprAt l r
+unfolding rowAt exprAt
+row-affine l r = refl
+
+pub rows-affine : (l : List ℤ) (n r : ℕ) → map affine (rowsFrom l r n) ≡ exprsFrom l r n
 unfolding rowsFrom rowAt exprsFrom exprAt
 rows-affine l zero r = refl
 rows-affine l (suc n) r = ap (λ (es : List Affine). exprAt l r ∷ es) (rows-affine l n (suc r))
 
-rows-taken : (l : List ℤ) (n m r : ℕ) → n ≤ m → take n (rowsFrom l r m) ≡ rowsFrom l r n
+pub rows-taken : (l : List ℤ) (n m r : ℕ) → n ≤ m → take n (rowsFrom l r m) ≡ rowsFrom l r n
 unfolding rowsFrom
 rows-taken l zero m r h = refl
 rows-taken l (suc n) zero r h = absurd (omega arith)
 rows-taken l (suc n) (suc m) r h = ap (λ (es : List Expr). rowAt l r ∷ es) (rows-taken l n m (suc r) (omega arith))
+
+rows-least : (l : List ℤ) (k n r : ℕ) → take k (rowsFrom l r n) ≡ rowsFrom l r (min k n)
+unfolding rowsFrom
+rows-least l zero n r =
+    let e : zero ≡ min zero n = omega arith in
+    ap (rowsFrom l r) e
+rows-least l (suc k) zero r =
+    let e : zero ≡ min (suc k) zero = omega arith in
+    ap (rowsFrom l r) e
+rows-least l (suc k) (suc n) r =
+    let e : suc (min k n) ≡ min (suc k) (suc n) = omega arith in
+    ap (λ (es : List Expr). rowAt l r ∷ es) (rows-least l k n (suc r)) ∙ ap (rowsFrom l r) e
+
+-- the part of a list of numbers from place p on
+abbrev pub partFrom : List ℤ → ℕ → List ℤ
+partFrom l p = take (length l - 250 * p) (drop (250 * p) l)
+
+-- the first k inequalities of a place, 24 at most, are the first in that part
+pub rows-part : (l : List ℤ) (p k n : ℕ) → n ≡ min k 24 → exprsFrom (partFrom l p) 0 n ≡ map affine (take k (rowsFrom l (50 * p) 24))
+rows-part l p k n e =
+    sym (rows-affine (partFrom l p) n 0)
+    ∙ ap (map affine) (rows-same l (partFrom l p) n (50 * p) 0 at ∙ ap (rowsFrom l (50 * p)) e ∙ sym (rows-least l k 24 (50 * p)))
+  where
+    rest : partFrom l p ≡ drop (250 * p) l
+    rest = take-all (length l - 250 * p) (drop (250 * p) l) (let a = length-drop (250 * p) l in omega arith)
+
+    at : (i : ℕ) → i < 5 * n → getD (partFrom l p) (5 * 0 + i) (pos 0) ≡ getD l (5 * (50 * p) + i) (pos 0)
+    at i g =
+        let a : 5 * 0 + i ≡ i = omega arith in
+        let b : 5 * (50 * p) + i ≡ 250 * p + i = omega arith in
+        rw (a, b, rest) (getD-drop (250 * p) l i (pos 0))
 
 -- the first n inequalities of a place, in a list of their own
 pub rows-copied : (l l′ : List ℤ) (m : List ℕ) (p n : ℕ) → p < PLACES → n ≤ 24
@@ -443,89 +477,3 @@ filling-turn l at n i now x f h most e =
     by j g false s =
         let o = eqb-false j i s in
         getD-set-other now i j x (pos 0) o ∙ f .same j (less j g o)
-
--- a zone read from a place, inequalities and entries up to i
-pub record Reading (l : List ℤ) (m : List ℕ) (p n i : ℕ) (z : Zone) : Type 0 where
-  pub count : z .count ≡ n
-  pub few : i ≤ 24
-  pub ineqs-long : length (z .ineqs) ≡ 24
-  pub bounds-long : length (z .bounds) ≡ 25
-  pub ineqs : (j : ℕ) → j < i → getD (z .ineqs) j noExpr ≡ rowAt l (50 * p + j)
-  pub bounds : (j : ℕ) → j < i → getD (z .bounds) j noBound ≡ readC (getD (cellsIn l m) p noCell .bounds) j
-
-module _ {A : Type 0} (d : A) (xs : List A) (i : ℕ) (a : A) (f : ℕ → A) (room : i < length xs) (here : a ≡ f i)
-    (rest : (j : ℕ) → j < i → getD xs j d ≡ f j) where
-  pub one-more : (j : ℕ) → j < i + 1 → getD (set xs i a) j d ≡ f j
-  one-more j g = by (eqb j i) refl
-    where
-      less : (j : ℕ) → j < i + 1 → (j ≡ i → ⊥) → j < i
-      less j g o = omega (arith, o)
-
-      by : (t : Bool) → eqb j i ≡ t → getD (set xs i a) j d ≡ f j
-      by true s =
-          let same = eqb-true j i s in
-          rw same (getD-set-same xs i a d room ∙ here)
-      by false s = let o = eqb-false j i s in getD-set-other xs i j a d o ∙ rest j (less j g o)
-
-pub reading-turn : (l : List ℤ) (m : List ℕ) (p n i : ℕ) (z : Zone) (e : Expr) (b : Bound) → Reading l m p n i z → i < 24
-    → length (e .coefs) ≡ PARAMETERS → affine e ≡ exprAt l (50 * p + i) → b ≡ readC (getD (cellsIn l m) p noCell .bounds) i
-    → Reading l m p n (i + 1) (record { count = z .count; ineqs = set (z .ineqs) i e; bounds = set (z .bounds) i b })
-reading-turn l m p n i z e b r h four he hb =
-    record {
-      count = r .count;
-      few = omega arith;
-      ineqs-long = length-set (z .ineqs) i e ∙ r .ineqs-long;
-      bounds-long = length-set (z .bounds) i b ∙ r .bounds-long;
-      ineqs = one-more noExpr (z .ineqs) i e (λ (j : ℕ). rowAt l (50 * p + j)) (omega (arith, r .ineqs-long)) (row-is l (50 * p + i) e
-          four
-          he) (r .ineqs);
-      bounds = one-more noBound (z .bounds) i b (readC (getD (cellsIn l m) p noCell .bounds)) (omega (arith, r .bounds-long)) hb (r
-          .bounds);
-    }
-
-pub reading-ends : (l : List ℤ) (m : List ℕ) (p n i : ℕ) (z : Zone) (b : Bound) → p < PLACES → Reading l m p n i z → (i < 24 → ⊥)
-    → b ≡ readC (getD (cellsIn l m) p noCell .bounds) 24
-    → record { count = z .count; ineqs = z .ineqs; bounds = set (z .bounds) 24 b } ≡ zoneOf n (getD (cellsIn l m) p noCell)
-unfolding cellAt insideC
-reading-ends l m p n i z b h r over hb =
-    λ k. record { count = r .count k; ineqs = same-ineqs k; bounds = same-bounds k }
-  where
-    cell : Cell
-    cell = getD (cellsIn l m) p noCell
-
-    all : i ≡ 24
-    all = omega (arith, r .few, over)
-
-    rows : cell .ineqs ≡ rowsFrom l (50 * p) 24
-    rows = ap (λ (c : Cell). c .ineqs) (cells-at l m p h)
-
-    entries : cell .bounds ≡ boundsFrom l m (50 * p + 25) (25 * p) 25
-    entries = ap (λ (c : Cell). c .bounds) (cells-at l m p h)
-
-    same-ineqs : z .ineqs ≡ cell .ineqs
-    same-ineqs =
-        ext-getD noExpr (z .ineqs) (rowsFrom l (50 * p) 24) (r .ineqs-long ∙ sym (rows-length l 24 (50 * p)))
-        (λ j g.
-        let few : j < 24 = omega (arith, r .ineqs-long) in
-        r .ineqs j (omega (arith, all)) ∙ sym (rows-at l 24 (50 * p) j few))
-        ∙ sym rows
-
-    full : length (set (z .bounds) 24 b) ≡ 25
-    full = length-set (z .bounds) 24 b ∙ r .bounds-long
-
-    long : length (cell .bounds) ≡ 25
-    long = ap length entries ∙ bounds-length l m 25 (50 * p + 25) (25 * p)
-
-    inside : (j : ℕ) → j < 25 → readC (cell .bounds) j ≡ getD (cell .bounds) j noBound
-    inside j g =
-        let few : min j 24 ≡ j = omega arith in
-        rw (lt-ltb j 25 g, few) refl
-
-    same-bounds : set (z .bounds) 24 b ≡ cell .bounds
-    same-bounds =
-        ext-getD noBound (set (z .bounds) 24 b) (cell .bounds) (full ∙ sym long)
-        (λ j g.
-        let few : j < 25 = omega (arith, full) in
-        one-more noBound (z .bounds) 24 b (readC (cell .bounds)) (omega (arith, r .bounds-long)) hb
-        (λ x y. r .bounds x (omega (arith, all))) j (omega arith)
-        ∙ inside j few)

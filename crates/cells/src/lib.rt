@@ -13,7 +13,6 @@ pub use entries::put_bound;
 pub use lines::Rows;
 pub use lines::put_row;
 pub use lines::rows_at;
-pub use lines::zone_at;
 
 // How many places there are.
 pub const PLACES: usize = 90;

@@ -1,8 +1,6 @@
 // Rows: inequalities of a place.
-use crate::entries::bound_at;
 use expr::Expr;
 use expr::PARAMETERS;
-use zones::Zone;
 ghost use mathlib.Core.Path.{_≡_};
 ghost use mathlib.Core.List.{_∷_, map};
 ghost use Prim.Native.Nat.{_+_, _*_, _<_, _≤_};
@@ -10,7 +8,7 @@ ghost use lib.ListN.{length, getD, take};
 ghost use Rattle.expr.specs.Records.{four, affine};
 ghost use Rattle.inequalities.specs.Flat.{exprsIn};
 ghost use Rattle.zones.specs.System.{putFrom};
-ghost use Rattle.cells.specs.Cells.{cellsIn, noCell, putIneq, zoneOf};
+ghost use Rattle.cells.specs.Cells.{cellsIn, noCell, putIneq};
 
 // The first inequalities of a place in a list of their own, with room for one more.
 pub struct Rows {
@@ -58,21 +56,4 @@ pub fn rows_at(cells: &[i32], marks: &[u8], p: usize, n: usize) -> Rows
         i += 1;
     }
     Rows { numbers }
-}
-
-// The zone at place p, with n inequalities.
-pub fn zone_at(cells: &[i32], marks: &[u8], p: usize, n: usize) -> Zone
-    requires { ⌜ (length (now marks) ≡ 2250) × (p < 90) ⌝ }
-    ensures { λ z. ⌜ z ≡ zoneOf n (getD (cellsIn (now (cells .entry)) (now (marks .entry))) p noCell) ⌝ }
-{
-    let mut z = Zone::BLANK;
-    z.count = n;
-    let mut i = 0;
-    while i < 24 {
-        z.ineqs[i] = inequalities::inequality(cells, 50 * p + i);
-        z.bounds[i] = bound_at(cells, marks, p, i);
-        i += 1;
-    }
-    z.bounds[24] = bound_at(cells, marks, p, 24);
-    z
 }

@@ -9,10 +9,10 @@ use lib.IntN.{pos}
 use lib.ListN.{getD}
 use lib.Signed.{ltZ, _≤ℤ_, ≤ℤ-refl}
 use borrow.Author.Tests.{ltb-true, ltb-false}
-use Rattle.integer.specs.Order.{ltZ-false}
+use Rattle.integer.specs.Order.{ltZ-true, ltZ-false}
 use Rattle.expr.specs.Records.{blankRange}
 use Rattle.expr.specs.declared.range.Range.{Range}
-use Rattle.corners.specs.Boxes.{Points, wideFrom}
+use Rattle.corners.specs.Boxes.{Points, Wide, wideFrom}
 
 -- ---- ranges of one number at most, place by place
 pub points-at : (k : ℕ) (rs : List Range) (j : ℕ) → Points k rs → j < k → getD rs j blankRange .high ≤ℤ getD rs j blankRange .low
@@ -44,6 +44,17 @@ wide-high rs (suc n) i = by (ltZ (getD rs i blankRange .low) (getD rs i blankRan
     by : (b : Bool) → wideFrom rs (suc i) n ≤ suc i + n → cond b i (wideFrom rs (suc i) n) ≤ i + suc n
     by true h = omega arith
     by false h = omega arith
+
+-- it has several numbers
+pub wide-there : (rs : List Range) (n i : ℕ) → wideFrom rs i n < i + n → Wide (wideFrom rs i n) rs
+unfolding wideFrom
+wide-there rs zero i h = absurd (omega arith)
+wide-there rs (suc n) i h = by (ltZ (getD rs i blankRange .low) (getD rs i blankRange .high)) refl h (wide-there rs n (suc i))
+  where
+    by : (b : Bool) → ltZ (getD rs i blankRange .low) (getD rs i blankRange .high) ≡ b → cond b i (wideFrom rs (suc i) n) < i + suc n
+        → (wideFrom rs (suc i) n < suc i + n → Wide (wideFrom rs (suc i) n) rs) → Wide (cond b i (wideFrom rs (suc i) n)) rs
+    by true e k ih = ltZ-true e
+    by false e k ih = ih (omega arith)
 
 -- the ranges between have one number at most
 pub wide-between : (rs : List Range) (n i j : ℕ) → i ≤ j → j < wideFrom rs i n

@@ -6,7 +6,7 @@ use Prim.Native.Nat.{ℕ, zero, suc, _<_}
 use mathlib.Core.Path.{_≡_}
 use lib.IntN.{ℤ, pos, _+ℤ_}
 use lib.ListN.{length, getD}
-use lib.Signed.{ltZ, _≤ℤ_}
+use lib.Signed.{ltZ, _≤ℤ_, _<ℤ_}
 use Rattle.expr.specs.Records.{blankRange}
 use Rattle.expr.specs.declared.range.Range.{Range}
 
@@ -31,6 +31,10 @@ abbrev pub Points : ℕ → List Range → Type 0
 Points zero rs = Unit
 Points (suc k) [] = Unit
 Points (suc k) (r ∷ rs) = (r .high ≤ℤ r .low) × Points k rs
+
+-- the range at w has several numbers
+abbrev pub Wide : ℕ → List Range → Type 0
+Wide w rs = getD rs w blankRange .low <ℤ getD rs w blankRange .high
 
 -- no range but the one at w has several numbers
 abbrev pub Alone : ℕ → List Range → Type 0

@@ -12,11 +12,11 @@ use borrow.Author.Tests.{eqb-true, eqb-false}
 use Rattle.expr.specs.Affine.{Affine}
 use Rattle.expr.specs.Records.{PARAMETERS, placesFrom, blankRange}
 use Rattle.expr.specs.declared.range.Range.{Range}
-use Rattle.corners.specs.Boxes.{lowOf, pointOf, Points}
+use Rattle.corners.specs.Boxes.{lowOf, pointOf, Points, Wide}
 use Rattle.inequalities.specs.Flat.{exprsFrom, exprsIn}
 use Rattle.systems.specs.Boxes.{Narrows, Never}
 use Rattle.picking.specs.AnyPlace.{count-any}
-use Rattle.picking.specs.Wides.{Wide, wides, wides-within, wides-put}
+use Rattle.picking.specs.Wides.{wides, wides-within, wides-put}
 use Rattle.systems.specs.BoxLaws.{count-narrows, count-nothing, count-all, count-empty, count-listed, one-corner}
 use Rattle.valuations.specs.SearchLaws.{total}
 use Rattle.valuations.specs.Valuations.{satisfies, count, width, widths}

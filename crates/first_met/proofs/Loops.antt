@@ -1,4 +1,4 @@
--- The loop over a range's members: the first of what is left from i on is the first of all.
+-- The members of a range, from the i-th on: the first of all is the first of these, or of those behind it.
 use mathlib.Core.Path.{_≡_, refl, sym, _∙_}
 use mathlib.Core.List.{List}
 use mathlib.Core.Option.{Option, none}
@@ -24,17 +24,3 @@ module _ (g : ℤ → Option (List ℤ)) (x : ℤ) where
       → firstOver g (x +ℤ pos i) (n - i) ≡ orElse (g (x +ℤ pos i)) (firstOver g (x +ℤ pos (i + 1)) (n - (i + 1)))
   unfolding firstOver
   first-turn n i h = rw (left n i h, next x i) refl
-
-  -- nothing at i: the rest is what is left
-  pub first-next : (n i : ℕ) (w : Option (List ℤ)) → i < n → g (x +ℤ pos i) ≡ none → firstOver g (x +ℤ pos i) (n - i) ≡ w
-      → firstOver g (x +ℤ pos (i + 1)) (n - (i + 1)) ≡ w
-  first-next n i w h e k =
-      let t : firstOver g (x +ℤ pos i) (n - i) ≡ firstOver g (x +ℤ pos (i + 1)) (n - (i + 1)) = rw (first-turn n i h, e) refl in
-      sym t ∙ k
-
-  pub first-done : (n i : ℕ) (w : Option (List ℤ)) → n ≤ i → firstOver g (x +ℤ pos i) (n - i) ≡ w → none ≡ w
-  unfolding firstOver
-  first-done n i w h k =
-      let e : n - i ≡ 0 = omega arith in
-      let s : firstOver g (x +ℤ pos i) (n - i) ≡ none = rw e refl in
-      sym s ∙ k

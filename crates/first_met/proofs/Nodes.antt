@@ -6,9 +6,12 @@ use mathlib.Core.List.{List, map}
 use mathlib.Core.Option.{Option, none, some}
 use Prim.Native.Nat.{ℕ, _+_, _-_, _≤_, _<_}
 use native.Mathlib.Numerals.{add-one}
+use native.Mathlib.Omega.{arith}
 use lib.IntN.{ℤ, pos, _+ℤ_}
 use lib.ListN.{length, getD, set, length-map}
+use lib.Signed.{_≤ℤ_, _<ℤ_}
 use Rattle.integer.specs.Apart.{apart}
+use Rattle.integer.specs.Split.{split, split-all}
 use Rattle.expr.specs.Affine.{Affine}
 use Rattle.expr.specs.Ranges.{Inside}
 use Rattle.expr.specs.Records.{PARAMETERS, four, blankRange}
@@ -18,11 +21,13 @@ use Rattle.corners.specs.Boxes.{lowOf, pointOf, Points}
 use Rattle.systems.specs.Boxes.{Narrows, Never}
 use Rattle.systems.specs.BoxLaws.{first-narrows, first-nothing, first-place, corner-inside}
 use Rattle.systems.specs.BoxLaws.{corner-first, one-corner, points-set, places-all}
-use Rattle.valuations.specs.SearchLaws.{firstOver, orElse}
+use Rattle.valuations.specs.SearchLaws.{firstOver, orElse, width-suc}
 use Rattle.valuations.specs.Valuations.{satisfies, first, width}
 use Rattle.first_met.specs.Solutions.{solutionOf}
 use Rattle.first_met.specs.declared.search.Solution.{Solution}
-use Rattle.first_met.proofs.Loops.{first-start, first-turn, first-next}
+use Rattle.widths.specs.Halves.{lowerOf, upperOf}
+use Rattle.first_met.specs.Halves.{first-parts}
+use Rattle.first_met.proofs.Loops.{first-start, first-turn}
 
 pub not-yes : (b : Bool) → not b ≡ true → b ≡ false
 not-yes true h = sym h
@@ -88,14 +93,60 @@ module _ (es : List Affine) (cs : List Range) (w : ℕ) (r : Range) (n : ℕ) wh
         stop none rest e = apart cc
         stop (some u) rest e = refl
 
-    pub first-later : s .found ≡ false → firstOver (firstAt es cs w) (r .low +ℤ pos (i + 1)) (n - (i + 1)) ≡ first cs es
-    first-later g =
-        first-next (firstAt es cs w) (r .low) n i (first cs es) h
-        (nothing (firstAt es cs w (r .low +ℤ pos i)) (ap (λ (z : Solution). z .found) (sym at-member) ∙ g)) k
-      where
-        nothing : (o : Option (List ℤ)) → solutionOf o .found ≡ false → o ≡ none
-        nothing none e = refl
-        nothing (some v) e = apart cc
+-- the range that is put in has several numbers, so that its lowest is one
+pub several : (r : Range) → r .low <ℤ r .high → 1 < width r
+several r h =
+    omega (
+      arith,
+      width-suc (r .low) (r .high) (weak (r .low) (r .high) h),
+      width-suc (r .low +ℤ pos 1) (r .high) (next (r .low) (r .high) h),
+    )
+  where
+    weak : (l h : ℤ) → l <ℤ h → l ≤ℤ h
+    weak l h = rw (split l, split h) (simp split-all (omega arith))
+
+    next : (l h : ℤ) → l <ℤ h → (l +ℤ pos 1) ≤ℤ h
+    next l h = rw (split l, split h) (simp split-all (omega arith))
+
+-- ---- a box in two parts
+module _ (es : List Affine) (rs cs : List Range) (h : Narrows es rs cs) (w n : ℕ) (few : 0 < n) (more : n < width (getD cs w blankRange))
+    (l : w < length cs) (p : Points w cs) (s : Solution)
+    (e : s ≡ solutionOf (first (set cs w (lowerOf (getD cs w blankRange) n)) es)) where
+  parts : first rs es
+      ≡ orElse (first (set cs w (lowerOf (getD cs w blankRange) n)) es) (first (set cs w (upperOf (getD cs w blankRange) n)) es)
+  parts = first-narrows es rs cs h ∙ first-parts es cs w n (getD cs w blankRange) refl few more l p
+
+  -- the lower part has one
+  pub first-lower : s .found ≡ true → s ≡ solutionOf (first rs es)
+  first-lower g =
+      by (first (set cs w (lowerOf (getD cs w blankRange) n)) es) (first (set cs w (upperOf (getD cs w blankRange) n)) es) e
+      (ap (λ (z : Solution). z .found) (sym e) ∙ g)
+      ∙ ap solutionOf (sym parts)
+    where
+      by : (o t : Option (List ℤ)) → s ≡ solutionOf o → solutionOf o .found ≡ true → s ≡ solutionOf (orElse o t)
+      by none t q k = apart cc
+      by (some u) t q k = q
+
+  -- it has none
+  pub first-upper : (t : Solution) → s .found ≡ false → t ≡ solutionOf (first (set cs w (upperOf (getD cs w blankRange) n)) es)
+      → t ≡ solutionOf (first rs es)
+  first-upper t g f =
+      by (first (set cs w (lowerOf (getD cs w blankRange) n)) es) (first (set cs w (upperOf (getD cs w blankRange) n)) es) f
+      (ap (λ (z : Solution). z .found) (sym e) ∙ g)
+      ∙ ap solutionOf (sym parts)
+    where
+      by : (o u : Option (List ℤ)) → t ≡ solutionOf u → solutionOf o .found ≡ false → t ≡ solutionOf (orElse o u)
+      by none u q k = q
+      by (some v) u q k = apart cc
+
+-- what is first where that range is at its lowest is first of all
+pub first-lowest : (es : List Affine) (cs ds : List Range) (w : ℕ) (q : Range) (s : Solution) → Points w cs → w < length cs
+    → 0 < width (getD cs w blankRange) → q ≡ pointOf (getD cs w blankRange .low +ℤ pos 0) → Narrows es (set cs w q) ds
+    → (s .found ≡ true → s ≡ solutionOf (first ds es)) → s .found ≡ true → s ≡ solutionOf (first cs es)
+first-lowest es cs ds w q s p l h e n k g =
+    let r = getD cs w blankRange in
+    first-found es cs w r (width r) 0 h s q e (k g ∙ ap solutionOf (sym (first-narrows es (set cs w q) ds n)))
+    (first-begin es cs w r (width r) p l refl refl) g
 
 pub corner-long : (u : List ℤ) (cs : List Range) → u ≡ map lowOf cs → length cs ≡ PARAMETERS → length u ≡ PARAMETERS
 corner-long u cs e l = ap length e ∙ length-map cs lowOf ∙ l

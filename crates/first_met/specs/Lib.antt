@@ -1,2 +1,3 @@
--- Solutions is what the code answers.
+-- Solutions is what the code answers; Halves, why a box may be searched part by part.
 pub mod Solutions
+pub mod Halves

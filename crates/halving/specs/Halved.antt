@@ -8,9 +8,9 @@ use Prim.Native.Nat.{ℕ, zero, suc, _+_, _-_, _≤_, _<_, min}
 use native.Mathlib.Omega.{arith}
 use lib.IntN.{ℤ, pos, _+ℤ_}
 use lib.ListN.{length, getD, set}
-use lib.Signed.{leZ, _≤ℤ_, _<ℤ_, ≤ℤ-refl}
+use lib.Signed.{leZ, _≤ℤ_, _<ℤ_}
 use Rattle.integer.specs.Apart.{apart}
-use Rattle.integer.specs.Order.{leZ-true, leZ-false, ≤ℤ-trans}
+use Rattle.integer.specs.Order.{leZ-true, leZ-false}
 use Rattle.integer.specs.Split.{split, split-all}
 use Rattle.expr.specs.Affine.{Affine}
 use Rattle.expr.specs.Ranges.{In, Inside}
@@ -25,9 +25,9 @@ use Rattle.narrowing.specs.Cut.{Within}
 use Rattle.systems.specs.Boxes.{Narrows}
 use Rattle.systems.specs.BoxLaws.{first-narrows, first-listed, first-nothing, within-inside, within-set}
 use Rattle.systems.specs.BoxLaws.{corner-inside, one-corner, places-all, clamped}
-use Rattle.valuations.specs.SearchLaws.{first-none, width-in, width-suc}
+use Rattle.valuations.specs.SearchLaws.{first-none, width-suc}
 use Rattle.valuations.specs.Valuations.{satisfies, first, width}
-use Rattle.widths.specs.Halves.{lowerOf, upperOf, lower-in, upper-in, halves-in, width-lower, width-upper}
+use Rattle.widths.specs.Halves.{lowerOf, upperOf, lower-in, upper-in, halves-in}
 
 -- whether a valuation of the ranges meets the inequalities, and where one does, such a valuation
 pub record Some (rs : List Range) (es : List Affine) (s : Solution) : Type 0 where
@@ -38,49 +38,6 @@ pub record Some (rs : List Range) (es : List Affine) (s : Solution) : Type 0 whe
 pub record Widest (w : ℕ) (rs : List Range) : Type 0 where
   pub place : w < PARAMETERS
   pub widest : (j : ℕ) → j < PARAMETERS → width (getD rs j blankRange) ≤ width (getD rs w blankRange)
-
--- how many numbers the ranges have together
-unfoldable pub numbersOf : List Range → ℕ
-numbersOf [] = 0
-numbersOf (r ∷ rs) = width r + numbersOf rs
-
--- ---- they get fewer
-less-by-places : (l m : ℤ) (a b : ℕ) → l ≤ℤ m → (m +ℤ pos a) <ℤ (l +ℤ pos b) → a < b
-less-by-places l m a b = rw (split l, split m) (simp split-all (omega arith))
-
-last-member : (r : Range) (k : ℕ) → width r ≡ suc k → In (r .low +ℤ pos k) r
-last-member r k e = width-in r (r .low +ℤ pos k) .1 (up (r .low) k, rw e (under (r .low) k))
-  where
-    up : (l : ℤ) (k : ℕ) → l ≤ℤ (l +ℤ pos k)
-    up l k = rw (split l) (simp split-all (omega arith))
-
-    under : (l : ℤ) (k : ℕ) → (l +ℤ pos k) <ℤ (l +ℤ pos (suc k))
-    under l k = rw (split l) (simp split-all (omega arith))
-
-width-within : (s r : Range) → ((x : ℤ) → In x s → In x r) → width s ≤ width r
-width-within s r h = by (width s) refl
-  where
-    by : (n : ℕ) → width s ≡ n → n ≤ width r
-    by zero e = omega arith
-    by (suc k) e =
-        let i = h (s .low +ℤ pos k) (last-member s k e) in
-        let low : In (s .low) s =
-        record { least = ≤ℤ-refl (s .low); most = ≤ℤ-trans (last-member s k e .least) (last-member s k e .most) } in
-        less-by-places (r .low) (s .low) k (width r) (h (s .low) low .least) (width-in r (s .low +ℤ pos k) .0 i .1)
-
-pub numbers-within : (ss rs : List Range) → Within ss rs → numbersOf ss ≤ numbersOf rs
-unfolding numbersOf
-numbers-within [] [] h = omega arith
-numbers-within [] (r ∷ rs) h = absurd h
-numbers-within (s ∷ ss) [] h = absurd h
-numbers-within (s ∷ ss) (r ∷ rs) h = omega (arith, width-within s r (h .0), numbers-within ss rs (h .1))
-
-numbers-set : (w : ℕ) (rs : List Range) (s : Range) → w < length rs → width s < width (getD rs w blankRange)
-    → numbersOf (set rs w s) < numbersOf rs
-unfolding numbersOf
-numbers-set w [] s h k = absurd (omega arith)
-numbers-set zero (r ∷ rs) s h k = omega arith
-numbers-set (suc w) (r ∷ rs) s h k = omega (arith, numbers-set w rs s (omega arith) k)
 
 -- ---- in one of the halves
 inside-split : (w : ℕ) (v : List ℤ) (cs : List Range) (a b : Range)
@@ -187,17 +144,6 @@ module _ (es : List Affine) (rs cs : List Range) (h : Narrows es rs cs) where
             → satisfies es v ≡ false
         by v e (inl i) = first-none (set cs w (lowerOf r n)) es (k .no f) v i
         by v e (inr i) = first-none (set cs w (upperOf r n)) es (g .no e) v i
-
-    -- both halves have fewer numbers
-    pub fewer-lower : w < length cs → numbersOf (set cs w (lowerOf r n)) < numbersOf rs
-    fewer-lower l =
-        omega
-        (arith, numbers-set w cs (lowerOf r n) l (rw (sym at-w, width-lower r n few) more), numbers-within cs rs (h .within))
-
-    pub fewer-upper : w < length cs → numbersOf (set cs w (upperOf r n)) < numbersOf rs
-    fewer-upper l =
-        let u : width (upperOf r n) < width r = omega (arith, width-upper r n (omega arith)) in
-        omega (arith, numbers-set w cs (upperOf r n) l (rw (sym at-w) u), numbers-within cs rs (h .within))
 
 -- ---- over the list that contracts have
 pub some-listed : (rs : List Range) (l : List ℤ) (n m : ℕ) (s : Solution) → m ≡ min n (length l) → length rs ≡ PARAMETERS

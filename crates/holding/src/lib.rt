@@ -1,21 +1,12 @@
-// What a zone (paper: piece) holds of the valuations (paper: settings) of ranges: how many, and the first.
+// What a zone (paper: piece) holds of the valuations (paper: settings) of ranges: the first.
 use expr::Ranges;
 use expr::Valuation;
 use zones::Zone;
 ghost use mathlib.Core.Path.{_≡_};
-ghost use Prim.Native.Nat.{min};
 ghost use mathlib.Core.List.{map};
 ghost use lib.ListN.{take};
 ghost use Rattle.expr.specs.Records.{affine, rangeList, valuationOf};
-ghost use Rattle.valuations.specs.Valuations.{first, numbersIn, count};
-
-// How many valuations of the ranges a zone holds, those that meet all its inequalities; 2^64 - 1 if there are more.
-pub fn held(b: Ranges, zone: Zone) -> usize
-    ensures { λ n. ⌜ n ≡ min (count (rangeList b) (map affine (take (zone .count) (zone .ineqs)))) 18446744073709551615 ⌝ }
-{
-    let list = zones::flat_of(zone);
-    counting::count(b, &list.numbers, list.count)
-}
+ghost use Rattle.valuations.specs.Valuations.{first, numbersIn};
 
 // The first valuation of the ranges that a zone holds, comparing parameter 1, then 2 and so on, smaller first; zeros if it holds none.
 pub fn first_held(b: Ranges, zone: Zone) -> Valuation

@@ -16,7 +16,11 @@ use Rattle.zones.specs.declared.zone.Zone.{Zone}
 abbrev pub Fails : Hint → Test → Type 0
 Fails h t = (b : Ranges) (z : Zone) → Hinted b z h → settledC b z t .kind ≡ 0
 
--- what the step makes of the zone is the zone, listed with some count of tests
-pub record Idle (b : Ranges) (w : ℕ) (st : Step) (z : Zone) : Type 0 where
+-- what the step makes of zone z is zone y, listed with some count of tests
+pub record Leaves (b : Ranges) (w : ℕ) (st : Step) (z y : Zone) : Type 0 where
   pub tests : ℕ
-  pub same : (out : Counted) → passOne b w st z out ≡ listC z tests out
+  pub same : (out : Counted) → passOne b w st z out ≡ listC y tests out
+
+-- .. the zone as it is
+abbrev pub Idle : Ranges → ℕ → Step → Zone → Type 0
+Idle b w st z = Leaves b w st z z

@@ -7,15 +7,18 @@ use Prim.Native.Nat.{ℕ, zero, suc, _+_, _-_, _*_, _≤_, _<_}
 use native.Mathlib.Numerals.{add-one}
 use native.Mathlib.Omega.{arith}
 use lib.Dec.{ltb, eqb}
+use lib.IntN.{ℤ}
 use lib.ListN.{length, getD, set, take, drop, length-take, length-set, drop-of-length-le}
 use lib.Seq.{drop-cons, getD-take, getD-set-same, getD-set-other}
 use borrow.Author.Tests.{lt-ltb, le-ltb, ltb-true, ltb-false, eqb-true, eqb-false}
 use Rattle.expr.specs.Records.{rangeList}
 use Rattle.expr.specs.declared.range.Ranges.{Ranges}
+use Rattle.cells.specs.Cells.{rowsFrom}
 use Rattle.siblings.specs.Siblings.{Siblings, firstOf}
 use Rattle.valuations.specs.Valuations.{count}
 use Rattle.zones.specs.declared.zone.Zone.{Zone}
 use Rattle.kept.specs.Stacks.{heldIn, noItem, noZone, heldBy, heldOn, topOf, topIf, topBy, joinOf, pushOf, passOf, stepOf}
+use Rattle.kept.specs.Stacks.{zonesIn, zones-at}
 use Rattle.kept.specs.declared.stack.Item.{Item}
 use Rattle.kept.specs.declared.stack.Stack.{Stack}
 use Rattle.kept.specs.declared.stack.Top.{Top}
@@ -52,7 +55,7 @@ pub record Stacked (zs : List Zone) (c n : ℕ) (s : Stack) : Type 0 where
   pub sum : (b : Ranges) → heldOn b zs (s .list) (s .count) + heldIn b (drop (s .next) (take c zs)) ≡ heldIn b (take c zs)
 
 kept-cons : (b : Ranges) (l : List Zone) (z : Zone) (rest : List Zone) → l ≡ z ∷ rest
-    → heldIn b l ≡ count (rangeList b) (firstOf z (z .count)) + heldIn b rest
+    → heldIn b l ≡ count (rangeList b) (firstOf (z .ineqs) (z .count)) + heldIn b rest
 unfolding heldIn
 kept-cons b l z rest h = rw h refl
 
@@ -98,7 +101,7 @@ module _ (zs : List Zone) (c n : ℕ) (e : n ≡ length (take c zs)) (room : n �
         let i : s .next < c = omega (arith, length-take c zs) in
         let rest = kept-cons b (drop (s .next) (take c zs)) (getD (take c zs) (s .next) noZone) (drop (suc (s .next)) (take c zs))
         (drop-cons (take c zs) (s .next) noZone (omega arith)) in
-        let same : count (rangeList b) (firstOf (getD (take c zs) (s .next) noZone) (getD (take c zs) (s .next) noZone .count))
+        let same : count (rangeList b) (firstOf (getD (take c zs) (s .next) noZone .ineqs) (getD (take c zs) (s .next) noZone .count))
         ≡ heldBy b zs item = rw (getD-take c zs (s .next) noZone i, q) refl in
         let more = on-set b zs (s .list) (s .count) item (omega (arith, h .long)) in
         rw (add-one (s .next), add-one (s .count)) (omega (arith, h .sum b, rest, same, more));
@@ -114,14 +117,14 @@ module _ (zs : List Zone) (c n : ℕ) (e : n ≡ length (take c zs)) (room : n �
   -- the two on top, where a split has made them of one
   module _ (two : 2 ≤ s .count) (a d : Item) (ea : getD (s .list) (s .count - 2) noItem ≡ a) (ed : getD (s .list) (s .count - 1)
       noItem ≡ d)
-      (same : a .count ≡ d .count) (sib : Siblings (getD zs (a .at) noZone) (getD zs (d .at) noZone) (a .count)) where
+      (same : a .count ≡ d .count) (sib : Siblings (getD zs (a .at) noZone .ineqs) (getD zs (d .at) noZone .ineqs) (a .count)) where
     abbrev item : Item
     item = record { at = a .at; count = a .count - 1 }
 
     -- what the two hold is what the one does
     two-held : (b : Ranges) → heldBy b zs a + heldBy b zs d ≡ heldBy b zs item
     two-held b =
-        ap (λ (m : ℕ). heldBy b zs a + count (rangeList b) (firstOf (getD zs (d .at) noZone) m)) (sym same) ∙ sib .sum (rangeList b)
+        ap (λ (m : ℕ). heldBy b zs a + count (rangeList b) (firstOf (getD zs (d .at) noZone .ineqs) m)) (sym same) ∙ sib .sum (rangeList b)
 
     on-two : (b : Ranges) → heldOn b zs (s .list) (s .count) ≡ heldOn b zs (s .list) (s .count - 2) + heldBy b zs a + heldBy b zs d
     on-two b =
@@ -189,24 +192,24 @@ leftOf n s = 2 * (n + 1 - s .next) + s .count
 -- ---- a step
 module _ (zs : List Zone) (c n : ℕ) (e : n ≡ length (take c zs)) (room : n ≤ 32) (s : Stack) (h : Stacked zs c n s) (go : s .next ≤
     n) where
-  step-joined : Siblings (getD zs (topOf s .below) noZone) (getD zs (topOf s .top) noZone) (topOf s .level) → Stacked zs c n (joinOf
-      s (topOf s))
+  step-joined : Siblings (getD zs (topOf s .below) noZone .ineqs) (getD zs (topOf s .top) noZone .ineqs) (topOf s .level)
+      → Stacked zs c n (joinOf s (topOf s))
   step-joined sib = by (ltb (s .count) 2) refl
     where
       one : (a d : Item) → (x : Bool) → eqb (a .count) (d .count) ≡ x
-          → Siblings (getD zs (topIf x a d .below) noZone)
-          (getD zs (topIf x a d .top) noZone)
+          → Siblings (getD zs (topIf x a d .below) noZone .ineqs)
+          (getD zs (topIf x a d .top) noZone .ineqs)
           (topIf x a d .level)
           → (topBy a d ≡ record { below = a .at; top = d .at; level = a .count }) × ((a .count ≡ d .count) × Siblings (getD zs (a
-          .at) noZone)
-          (getD zs (d .at) noZone) (a .count))
+          .at) noZone .ineqs)
+          (getD zs (d .at) noZone .ineqs) (a .count))
       one a d true q k = (rw q refl, (eqb-true (a .count) (d .count) q, k))
       one a d false q k = absurd (omega (arith, k .some))
 
       by : (x : Bool) → ltb (s .count) 2 ≡ x → Stacked zs c n (joinOf s (topOf s))
       by true q = absurd (none (rw (top-none s (ltb-true (s .count) 2 q)) at sib))
         where
-          none : Siblings (getD zs 0 noZone) (getD zs 0 noZone) 0 → ⊥
+          none : Siblings (getD zs 0 noZone .ineqs) (getD zs 0 noZone .ineqs) 0 → ⊥
           none k = omega (arith, k .some)
       by false q =
           let two = ltb-false (s .count) 2 q in
@@ -216,7 +219,7 @@ module _ (zs : List Zone) (c n : ℕ) (e : n ≡ length (take c zs)) (room : n �
           rw (le-ltb (s .count) 2 two, top-two s two, k .0) (joined zs c n e room s h go two a d refl refl (k .1 .0) (k .1 .1))
 
   pub step-keeps : (t : Top) (x : Bool) (m : ℕ) → t ≡ topOf s
-      → (x ≡ true → Siblings (getD zs (t .below) noZone) (getD zs (t .top) noZone) (t .level)) → (s .next < n → m ≡ getD zs (s
+      → (x ≡ true → Siblings (getD zs (t .below) noZone .ineqs) (getD zs (t .top) noZone .ineqs) (t .level)) → (s .next < n → m ≡ getD zs (s
       .next) noZone .count)
       → Stacked zs c n (stepOf s t x n m)
   unfolding stepOf
@@ -232,7 +235,8 @@ module _ (zs : List Zone) (c n : ℕ) (e : n ≡ length (take c zs)) (room : n �
       by false r = rw r (passed zs c n e room s h go (ltb-false (s .next) n r))
 
   -- each step leaves less to do
-  two-on-top : (t : Top) → t ≡ topOf s → Siblings (getD zs (t .below) noZone) (getD zs (t .top) noZone) (t .level) → 2 ≤ s .count
+  two-on-top : (t : Top) → t ≡ topOf s → Siblings (getD zs (t .below) noZone .ineqs) (getD zs (t .top) noZone .ineqs) (t .level)
+      → 2 ≤ s .count
   two-on-top t q k = by (ltb (s .count) 2) refl
     where
       by : (x : Bool) → ltb (s .count) 2 ≡ x → 2 ≤ s .count
@@ -242,7 +246,7 @@ module _ (zs : List Zone) (c n : ℕ) (e : n ≡ length (take c zs)) (room : n �
       by false r = ltb-false (s .count) 2 r
 
   pub step-less : (t : Top) (x : Bool) (m : ℕ) → t ≡ topOf s
-      → (x ≡ true → Siblings (getD zs (t .below) noZone) (getD zs (t .top) noZone) (t .level))
+      → (x ≡ true → Siblings (getD zs (t .below) noZone .ineqs) (getD zs (t .top) noZone .ineqs) (t .level))
       → leftOf n (stepOf s t x n m) < leftOf n s
   unfolding stepOf
   step-less t true m q sib =
@@ -278,3 +282,8 @@ stacked-end zs c n s e h g b =
     let l : length (take c zs) ≤ s .next = omega arith in
     let a = kept-none b (drop (s .next) (take c zs)) (drop-of-length-le (take c zs) l) in
     omega (arith, h .sum b, a)
+
+-- ---- zones in a list of numbers
+pub sib-at : (l : List ℤ) (ns : List ℕ) (p q n : ℕ) → p < 32 → q < 32 → Siblings (rowsFrom l (50 * p) 24) (rowsFrom l (50 * q) 24) n
+    → Siblings (getD (zonesIn l ns) p noZone .ineqs) (getD (zonesIn l ns) q noZone .ineqs) n
+sib-at l ns p q n hp hq h = rw (zones-at l ns p hp, zones-at l ns q hq) h

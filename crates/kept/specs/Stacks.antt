@@ -1,9 +1,13 @@
 -- A stack of zones: what they hold together, and a step of it.
+use mathlib.Core.Path.{_≡_, refl, ap, _∙_}
 use mathlib.Core.Bool.{Bool, cond}
 use mathlib.Core.List.{List, [], _∷_}
-use Prim.Native.Nat.{ℕ, zero, suc, _+_, _-_}
+use Prim.Native.Nat.{ℕ, zero, suc, _+_, _-_, _*_, _<_}
+use native.Mathlib.Omega.{arith}
 use lib.Dec.{ltb, eqb}
-use lib.ListN.{getD, set}
+use lib.IntN.{ℤ}
+use lib.ListN.{length, getD, set}
+use Rattle.cells.specs.Cells.{rowsFrom}
 use Rattle.expr.specs.Records.{rangeList}
 use Rattle.expr.specs.declared.range.Ranges.{Ranges}
 use Rattle.siblings.specs.Siblings.{firstOf}
@@ -16,7 +20,7 @@ use Rattle.kept.specs.declared.stack.Top.{Top}
 -- how many valuations of the ranges zones hold, each by itself
 unfoldable pub heldIn : Ranges → List Zone → ℕ
 heldIn b [] = 0
-heldIn b (z ∷ zs) = count (rangeList b) (firstOf z (z .count)) + heldIn b zs
+heldIn b (z ∷ zs) = count (rangeList b) (firstOf (z .ineqs) (z .count)) + heldIn b zs
 
 -- what is read past an end
 abbrev pub noItem : Item
@@ -27,11 +31,37 @@ noZone = record { count = 0; ineqs = []; bounds = [] }
 
 -- how many valuations of the ranges an item holds, and the first k items
 abbrev pub heldBy : Ranges → List Zone → Item → ℕ
-heldBy b zs q = count (rangeList b) (firstOf (getD zs (q .at) noZone) (q .count))
+heldBy b zs q = count (rangeList b) (firstOf (getD zs (q .at) noZone .ineqs) (q .count))
 
 unfoldable pub heldOn : Ranges → List Zone → List Item → ℕ → ℕ
 heldOn b zs l zero = 0
 heldOn b zs l (suc k) = heldOn b zs l k + heldBy b zs (getD l k noItem)
+
+-- the inequalities of the zone at place p of a list of numbers, of which so many count
+abbrev pub zoneAt : List ℤ → List ℕ → ℕ → Zone
+zoneAt l ns p = record { count = getD ns p 0; ineqs = rowsFrom l (50 * p) 24; bounds = [] }
+
+unfoldable pub zonesFrom : List ℤ → List ℕ → ℕ → ℕ → List Zone
+zonesFrom l ns p zero = []
+zonesFrom l ns p (suc n) = zoneAt l ns p ∷ zonesFrom l ns (suc p) n
+
+-- those of the first 32 places
+abbrev pub zonesIn : List ℤ → List ℕ → List Zone
+zonesIn l ns = zonesFrom l ns 0 32
+
+pub zones-long : (l : List ℤ) (ns : List ℕ) (n p : ℕ) → length (zonesFrom l ns p n) ≡ n
+unfolding zonesFrom
+zones-long l ns zero p = refl
+zones-long l ns (suc n) p = ap suc (zones-long l ns n (suc p))
+
+zones-from : (l : List ℤ) (ns : List ℕ) (n p x : ℕ) → x < n → getD (zonesFrom l ns p n) x noZone ≡ zoneAt l ns (p + x)
+unfolding zonesFrom
+zones-from l ns zero p x h = absurd (omega arith)
+zones-from l ns (suc n) p zero h = ap (zoneAt l ns) (omega arith)
+zones-from l ns (suc n) p (suc x) h = zones-from l ns n (suc p) x (omega arith) ∙ ap (zoneAt l ns) (omega arith)
+
+pub zones-at : (l : List ℤ) (ns : List ℕ) (x : ℕ) → x < 32 → getD (zonesIn l ns) x noZone ≡ zoneAt l ns x
+zones-at l ns x h = zones-from l ns 32 0 x h ∙ ap (zoneAt l ns) (omega arith)
 
 -- nothing on top
 abbrev pub noTop : Top

@@ -1,10 +1,9 @@
 // A stack of zones, each given by its place in a list and how many of its inequalities count.
-use zones::Zones;
 ghost use mathlib.Core.Path.{_≡_};
 ghost use Prim.Native.Nat.{ℕ, _≤_, _<_};
-ghost use lib.ListN.{getD, take};
+ghost use lib.ListN.{length, getD, take};
 ghost use Rattle.expr.specs.declared.range.Ranges.{Ranges};
-ghost use Rattle.kept.specs.Stacks.{heldIn, noItem, heldOn, topOf, stepOf};
+ghost use Rattle.kept.specs.Stacks.{heldIn, noItem, heldOn, topOf, stepOf, zonesIn};
 
 // The first `count` inequalities of the zone at place `at`.
 pub(crate) struct Item {
@@ -93,23 +92,20 @@ fn step(s: Stack, t: Top, joined: bool, n: usize, count: usize) -> Stack
     r
 }
 
-// The zones with whole splits undone.
-pub(crate) fn stacked(zones: Zones) -> Stack
+// The first n zones with whole splits undone, 32 at most.
+pub(crate) fn stacked(cells: &[i32], counts: &[usize], n: usize) -> Stack
+    requires { ⌜ (length (now cells) ≡ 22500) × (length (now counts) ≡ 90) ⌝ }
     ensures { λ s. ⌜ (s .count ≤ 32) × ((k : ℕ) → k < s .count → getD (s .list) k noItem .at < 32) ⌝ }
-    ensures same { λ s. ⌜ ((b : Ranges) → heldOn b (zones .list) (s .list) (s .count) ≡ heldIn b (take (zones .count) (zones .list))) ⌝ }
+    ensures same { λ s. ⌜ ((b : Ranges) → heldOn b (zonesIn (now (cells .entry)) (now (counts .entry))) (s .list) (s .count)
+        ≡ heldIn b (take n (zonesIn (now (cells .entry)) (now (counts .entry))))) ⌝ }
 {
-    let n = numbers::at_most(zones.count, 32);
+    let m = numbers::at_most(n, 32);
     let mut s = Stack::EMPTY;
-    while s.next <= n {
+    while s.next <= m {
         let t = highest(s);
-        let below = t.below;
-        let top = t.top;
-        let y = zones.list[below];
-        let z = zones.list[top];
-        let joined = siblings::siblings(y, z, t.level);
-        let next = numbers::at_most(s.next, 31);
-        let x = zones.list[next];
-        s = step(s, t, joined, n, x.count);
+        let joined = siblings::siblings(cells, t.below, t.top, t.level);
+        let next = s.next;
+        s = step(s, t, joined, m, counts[next]);
     }
     s
 }

@@ -82,3 +82,34 @@ pub fn cut(b: Ranges, e: Expr) -> Ranges
     }
     c
 }
+
+// The same part of r where the coefficient is above 0, so that it is cut from below; else all of r.
+fn raised(a: i32, s: i64, r: Range) -> Range
+    requires { ⌜ SizedTo 4 s ⌝ }
+    ensures { λ x. ⌜ Part a s r x ⌝ }
+{
+    if a <= 0 {
+        return r;
+    }
+    part(a, s, r)
+}
+
+// The box with its ranges cut from below alone, where e ≥ 0 fails, the other parameters being at their best.
+pub fn raise(b: Ranges, e: Expr) -> Ranges
+    ensures { λ c. ⌜ Cut (affine e) (b .list) (c .list) ⌝ }
+{
+    let m = best(b, e);
+    if m < 0 {
+        return Ranges {
+            list: [Range { low: 1, high: 0 }; PARAMETERS],
+        };
+    }
+    let mut c = b;
+    let mut i = 0;
+    while i < PARAMETERS {
+        let r = b.list[i];
+        c.list[i] = raised(e.coefs[i], m, r);
+        i += 1;
+    }
+    c
+}

@@ -3,3 +3,4 @@ mod boxes;
 
 pub use boxes::best;
 pub use boxes::cut;
+pub use boxes::raise;

@@ -6,5 +6,6 @@ pub use part::Part;
 pub use part::Turn;
 pub use part::after;
 pub use part::no_part;
+pub use part::tests_in;
 pub use part::turned;
 pub use part::yes_part;

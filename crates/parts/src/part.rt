@@ -123,7 +123,7 @@ fn answered(r: Rule, p: Part, yes: bool) -> Part
 }
 
 // How many tests a test is: an answer that comes without asking is none.
-fn tests_in(test: Test) -> usize
+pub fn tests_in(test: Test) -> usize
     ensures { λ n. ⌜ n ≡ testsIn test ⌝ }
 {
     let asked = test.asked;

@@ -70,7 +70,7 @@ none-plain v = refl
 
 -- ---- a step that asks nothing
 module _ (b : Ranges) (w : ℕ) (st : Step) (quiet : asksC st ≡ false) where
-  one-kept : (z : Zone) (out : Counted) → passOne b w st z out ≡ listC (changedC st w z) 0 out
+  pub one-kept : (z : Zone) (out : Counted) → passOne b w st z out ≡ listC (changedC st w z) 0 out
   unfolding partC meant endedC
   one-kept z out = rw quiet refl
 
@@ -86,7 +86,7 @@ module _ (b : Ranges) (w : ℕ) (st : Step) (quiet : asksC st ≡ false) where
       ∙ ap (plain v) (append-assoc k (changedC st w z ∷ []) (map (changedC st w) l))
 
 -- ---- a guard
-is-start : (b : Ranges) (w : ℕ) (st : Step) → asksC st ≡ true → (z : Zone) → partC st w z ≡ startC z
+pub is-start : (b : Ranges) (w : ℕ) (st : Step) → asksC st ≡ true → (z : Zone) → partC st w z ≡ startC z
 unfolding partC
 is-start b w st a z = rw a refl
 

@@ -352,11 +352,11 @@ module _ (b : Ranges) (w : ℕ) (ss : List Step) (whole : Zones) (list spare : L
               (add-one (s .i))
               ∙ ap (λ (o : Counted). stepsAll b w (drop (suc (s .j)) ss) (done st (o .zones))) first-worth
 
-    -- a zone is taken up, and listed where it stands: the step leaves it as it is
-    module _ (idle : s .depth ≤ 0) (more : s .i < s .n) (there : s .i ≡ s .kept) (z : Zone) (hz : z ≡ getD list (s .i) noZone) (t : ℕ)
-        (leaves : (out : Counted) → passOne b w st z out ≡ listC z t out) where
+    -- a zone is taken up, and what the step makes of it is listed where it stands
+    module _ (idle : s .depth ≤ 0) (more : s .i < s .n) (there : s .i ≡ s .kept) (z : Zone) (hz : z ≡ getD list (s .i) noZone) (y : Zone)
+        (t : ℕ) (leaves : (out : Counted) → passOne b w st z out ≡ listC y t out) where
       abbrev passed : Counted
-      passed = listC z t (m .out)
+      passed = listC y t (m .out)
 
       room-here : s .kept < 32
       room-here = omega (arith, m .few)
@@ -395,7 +395,7 @@ module _ (b : Ranges) (w : ℕ) (ss : List Step) (whole : Zones) (list spare : L
       none-waits zero h = empty b r stack passed (m .turned .long)
       none-waits (suc d) h = absurd (omega arith)
 
-      pub turn-passed : Machine b w ss whole list spare stack r (passedC s)
+      pub turn-passed : Machine b w ss whole (set list (s .kept) y) spare stack r (passedC s)
       turn-passed =
           record {
             most = m .most;
@@ -405,15 +405,16 @@ module _ (b : Ranges) (w : ℕ) (ss : List Step) (whole : Zones) (list spare : L
             room = omega arith;
             fresh = λ e. absurd (omega arith);
             new = λ e. absurd (omega arith);
-            long = m .long;
+            long = length-set list (s .kept) y ∙ m .long;
             spare-long = m .spare-long;
             full = given (s .kept) (s .i + 1) spare list (m .full) (m .spare-long) (m .long) (m .full-long) room-here late (m .merged);
             full-long =
                 given-long (s .kept) (s .i + 1) spare list (m .full) (m .spare-long) (m .long) (m .full-long) room-here late (m .merged);
-            merged = rw (add-one (s .kept)) refl;
+            merged =
+                rw (add-one (s .kept)) (ap (λ (l : List Zone). take (suc (s .kept)) spare ++ l) (drop-set (s .kept) list y));
             out = passed;
             shown =
-                list-plain (s .visit) (take (s .kept) list) z t (m .out) (m .shown)
+                list-plain (s .visit) (take (s .kept) list) y t (m .out) (m .shown)
                 (omega (arith, taken-long (s .kept) 32 list (m .long) (m .room)))
                 ∙ ap (plain (s .visit)) listed-more;
             worth = passed;
@@ -428,11 +429,10 @@ module _ (b : Ranges) (w : ℕ) (ss : List Step) (whole : Zones) (list spare : L
           late : s .kept < s .i + 1
           late = omega arith
 
-          listed-more : take (s .kept) list ++ z ∷ [] ≡ take (s .kept + 1) list
+          listed-more : take (s .kept) list ++ y ∷ [] ≡ take (s .kept + 1) (set list (s .kept) y)
           listed-more =
-              ap (λ (x : Zone). take (s .kept) list ++ x ∷ []) (hz ∙ ap (λ (x : ℕ). getD list x noZone) there)
-              ∙ sym (take-suc list (s .kept) noZone (omega (arith, m .long)))
-              ∙ ap (λ (n : ℕ). take n list) (sym (add-one (s .kept)))
+              sym (take-more (s .kept) list y (omega (arith, m .long)))
+              ∙ ap (λ (n : ℕ). take n (set list (s .kept) y)) (sym (add-one (s .kept)))
 
 -- ---- the numbers of refusals
 number-two : (kept : ℕ) → numberC 2 kept ≤ 0 → kept < 32
@@ -508,7 +508,7 @@ module _ (p : Part) (out : Counted) where
   unfolding endedC
   ended-cut h = rw (lt-ltb (p .halt) 2 h) refl
 
-  ended-kept : p .halt ≡ 2 → endedC p out ≡ listC (p .zone) (p .tests) out
+  pub ended-kept : p .halt ≡ 2 → endedC p out ≡ listC (p .zone) (p .tests) out
   unfolding endedC
   ended-kept h = rw h refl
 

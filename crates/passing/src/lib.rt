@@ -10,5 +10,4 @@ pub use pass::loaded;
 pub use pass::number;
 pub use pass::passed_by;
 pub use pass::pushed;
-pub use pass::refused;
 pub use pass::stepped;

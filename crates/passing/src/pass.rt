@@ -1,12 +1,10 @@
 // Where a pass over zones stands, and how it goes on.
 use steps::Step;
-use zones::Zone;
-use zones::Zones;
 ghost use mathlib.Core.Path.{_≡_};
 ghost use mathlib.Core.Bool.{cond};
 ghost use lib.Dec.{ltb};
 ghost use Prim.Native.Nat.{_<_};
-ghost use Rattle.passing.specs.State.{begunC, pushedC, listedC, droppedC, loadedC, passedC, steppedC, numberC, refusedZ};
+ghost use Rattle.passing.specs.State.{begunC, pushedC, listedC, droppedC, loadedC, passedC, steppedC, numberC};
 
 // Where a pass stands: at step j, of whose n zones the first i are taken up, `kept` are listed so far, and `depth` parts wait; and at
 // which visit.
@@ -127,16 +125,4 @@ pub fn number(halt: usize, kept: usize) -> usize
         return 0;
     }
     halt
-}
-
-// No zones, refused by a number at a visit.
-pub fn refused(number: usize, visit: usize) -> Zones
-    ensures { λ r. ⌜ r ≡ refusedZ number visit ⌝ }
-{
-    Zones {
-        refusal: number,
-        visit,
-        count: 0,
-        list: [Zone::BLANK; 32],
-    }
 }

@@ -12,9 +12,8 @@ use borrow.Author.Tests.{ltb-true, ltb-false}
 use Rattle.integer.specs.Order.{ltZ-true, ltZ-false}
 use Rattle.expr.specs.Records.{PARAMETERS, blankRange}
 use Rattle.expr.specs.declared.range.Range.{Range}
-use Rattle.corners.specs.Boxes.{Points, wideFrom}
-use Rattle.corners.specs.BoxLaws.{wide-high, wide-points}
-use Rattle.picking.specs.Wides.{Wide, wide-there}
+use Rattle.corners.specs.Boxes.{Points, Wide, wideFrom}
+use Rattle.corners.specs.BoxLaws.{wide-high, wide-there, wide-points}
 
 -- ---- a test on two ends, at locals that hold them
 module _ (a b : ℤ) {x y : ℤ} (ex : x ≡ a) (ey : y ≡ b) where

@@ -1,34 +1,18 @@
--- Ranges of several numbers: which they are, and how many.
+-- Ranges of several numbers: how many they are.
 use mathlib.Core.Path.{_≡_, refl}
 use mathlib.Core.Bool.{Bool, true, false, cond}
 use mathlib.Core.List.{List, [], _∷_}
 use Prim.Native.Nat.{ℕ, zero, suc, _+_, _≤_, _<_}
 use native.Mathlib.Omega.{arith}
 use lib.IntN.{ℤ}
-use lib.ListN.{length, getD, set}
-use lib.Signed.{ltZ, _≤ℤ_, _<ℤ_, ≤ℤ-refl, clashℤ}
+use lib.ListN.{length, set}
+use lib.Signed.{ltZ, ≤ℤ-refl, clashℤ}
 use Rattle.integer.specs.Order.{ltZ-true, ltZ-false, true-ltZ, false-ltZ}
 use Rattle.expr.specs.Ranges.{In}
-use Rattle.expr.specs.Records.{blankRange}
 use Rattle.expr.specs.declared.range.Range.{Range}
-use Rattle.corners.specs.Boxes.{pointOf, wideFrom}
+use Rattle.corners.specs.Boxes.{pointOf, Wide}
 use Rattle.narrowing.specs.Cut.{Within}
 use Rattle.systems.specs.BoxLaws.{points-within}
-
--- the range at w has several numbers
-abbrev pub Wide : ℕ → List Range → Type 0
-Wide w rs = getD rs w blankRange .low <ℤ getD rs w blankRange .high
-
--- the first of several numbers has them
-pub wide-there : (rs : List Range) (n i : ℕ) → wideFrom rs i n < i + n → Wide (wideFrom rs i n) rs
-unfolding wideFrom
-wide-there rs zero i h = absurd (omega arith)
-wide-there rs (suc n) i h = by (ltZ (getD rs i blankRange .low) (getD rs i blankRange .high)) refl h (wide-there rs n (suc i))
-  where
-    by : (b : Bool) → ltZ (getD rs i blankRange .low) (getD rs i blankRange .high) ≡ b → cond b i (wideFrom rs (suc i) n) < i + suc n
-        → (wideFrom rs (suc i) n < suc i + n → Wide (wideFrom rs (suc i) n) rs) → Wide (cond b i (wideFrom rs (suc i) n)) rs
-    by true e k ih = ltZ-true e
-    by false e k ih = ih (omega arith)
 
 -- how many of them have
 unfoldable pub wides : List Range → ℕ

@@ -6,8 +6,7 @@ ghost use mathlib.Core.Path.{_≡_};
 ghost use mathlib.Core.Bool.{true, false};
 ghost use Prim.Native.Nat.{_<_, _≤_};
 ghost use lib.Signed.{_≤ℤ_, _<ℤ_};
-ghost use Rattle.corners.specs.Boxes.{Points, Two};
-ghost use Rattle.picking.specs.Wides.{Wide};
+ghost use Rattle.corners.specs.Boxes.{Points, Wide, Two};
 
 // Whether a range has several numbers.
 fn several(r: Range) -> bool

@@ -6,8 +6,11 @@ use Prim.Native.Nat.{ℕ, zero, suc, _-_, _≤_, _<_, min}
 use native.Mathlib.Omega.{arith}
 use borrow.Author.Tests.{lt-ltb, le-ltb, ltb-true, ltb-false}
 use lib.Dec.{ltb, eqb}
+use lib.IntN.{ℤ}
 use lib.ListN.{length, getD, take, replicate, length-append, length-map, length-take, length-replicate, List·getD-append}
 use lib.Seq.{getD-append-seam, getD-take, ext-getD}
+use Rattle.cells.specs.Cells.{cellsIn}
+use Rattle.steps.specs.Steps.{noZone}
 use Rattle.coded.specs.Records.{zoneOf, zonesIn}
 use Rattle.coded.specs.Coded.{taken}
 use Rattle.coded.specs.CodedRead.{first-coded}
@@ -23,7 +26,8 @@ use Rattle.sheet.specs.declared.Sheet.{Sheet}
 use Rattle.reading.specs.File.{readOf}
 use Rattle.windows_reply.specs.Reply.{WindowsReply, answeredOf, answeredAs, refusedReply, listingReply, sheetReply, readReply, replyOf}
 use Rattle.pieces.specs.Pieces.{pieceOf, blankPiece, tableOf}
-use Rattle.windows_reply.specs.Work.{Shown, shown, shownOf}
+use Rattle.windows_reply.specs.Work.{Shown, shown, shownOf, take-closed}
+use Rattle.windows_route.specs.Places.{listOf, list-long}
 use Rattle.windows_reply.specs.declared.Worked.{Worked}
 use Rattle.pieces.specs.declared.Piece.{Piece}
 use Rattle.zones.specs.Zone.{blankZone}
@@ -44,22 +48,32 @@ pieceIn b z =
 unfoldable pub itemFor : Ranges → ℕ → ℕ → Zone → Piece
 itemFor b pieces i z = cond (ltb i (min pieces 32)) (pieceIn b z) blankPiece
 
+-- what is worked out: the ranges that were cut, how many pieces, and zones, of which the first are theirs
+pub record Work : Type 0 where
+  pub ranges : Ranges
+  pub pieces : ℕ
+  pub zones : List Zone
+
+-- with the zones that stand in lists of numbers, marks and counts
+abbrev pub workIn : Ranges → ℕ → List ℤ → List ℕ → List ℕ → Work
+workIn b pieces l m ns = record { ranges = b; pieces = pieces; zones = listOf ns (cellsIn l m) }
+
 -- the item at place i of the table: the piece of the zone worked out for it, or a blank one
-unfoldable pub itemOf : Worked → ℕ → Piece
-itemOf work i = cond (ltb i (min (work .pieces) 32)) (pieceIn (work .ranges) (getD (work .zones) i blankZone)) blankPiece
+unfoldable pub itemOf : Work → ℕ → Piece
+itemOf work i = cond (ltb i (min (work .pieces) 32)) (pieceIn (work .ranges) (getD (work .zones) i noZone)) blankPiece
 
 -- the items at the first n places
-unfoldable pub itemsOf : Worked → ℕ → List Piece
+unfoldable pub itemsOf : Work → ℕ → List Piece
 itemsOf work zero = []
 itemsOf work (suc n) = itemsOf work n ++ (itemOf work n ∷ [])
 
 -- ---- places of the list
-pub items-length : (work : Worked) (n : ℕ) → length (itemsOf work n) ≡ n
+pub items-length : (work : Work) (n : ℕ) → length (itemsOf work n) ≡ n
 unfolding itemsOf
 items-length work zero = refl
 items-length work (suc n) = let a = length-append (itemsOf work n) (itemOf work n ∷ []) in let b = items-length work n in omega arith
 
-items-at : (work : Worked) (n i : ℕ) → i < n → getD (itemsOf work n) i blankPiece ≡ itemOf work i
+items-at : (work : Work) (n i : ℕ) → i < n → getD (itemsOf work n) i blankPiece ≡ itemOf work i
 unfolding itemsOf
 items-at work zero i h = absurd (omega arith)
 items-at work (suc n) i h = by (ltb i n) refl (items-at work n i)
@@ -100,16 +114,16 @@ module _ {A B : Type 0} (f : A → B) (blank : B) where
 
 -- ---- the table
 -- the places that the code fills, and blanks
-unfoldable placesOf : Worked → ℕ → List Piece
+unfoldable placesOf : Work → ℕ → List Piece
 placesOf work n = map (pieceIn (work .ranges)) (take (work .pieces) (work .zones)) ++ replicate (n - work .pieces) blankPiece
 
 -- as many zones as are listed, and a place for each
-record Fits (work : Worked) (n : ℕ) : Type 0 where
+record Fits (work : Work) (n : ℕ) : Type 0 where
   long : length (work .zones) ≡ 32
   few : work .pieces ≤ 32
   room : work .pieces ≤ n
 
-module _ (work : Worked) (n : ℕ) (f : Fits work n) where
+module _ (work : Work) (n : ℕ) (f : Fits work n) where
   abbrev zones : List Zone
   zones = take (work .pieces) (work .zones)
 
@@ -133,8 +147,8 @@ module _ (work : Worked) (n : ℕ) (f : Fits work n) where
       let h = ltb-true i (work .pieces) e in
       let l : i < length zones = rw zones-long h in
       rw (lt-ltb i (min (work .pieces) 32) (omega (arith, f .few)))
-      (sym (in-list piece blankPiece zones (replicate (n - work .pieces) blankPiece) blankZone i l
-      ∙ ap piece (getD-take (work .pieces) (work .zones) i blankZone h)))
+      (sym (in-list piece blankPiece zones (replicate (n - work .pieces) blankPiece) noZone i l
+      ∙ ap piece (getD-take (work .pieces) (work .zones) i noZone h)))
   at-place i false e =
       let h = ltb-false i (work .pieces) e in
       let l : length zones ≤ i = rw zones-long h in
@@ -147,14 +161,6 @@ module _ (work : Worked) (n : ℕ) (f : Fits work n) where
       items-at work n i k ∙ at-place i (ltb i (work .pieces)) refl)
 
 -- ---- what is worked out fits
-zones-in-long : (zs : List cutting.Zone) → length zs ≤ 32 → length (zonesIn zs) ≡ 32
-unfolding zonesIn
-zones-in-long zs h =
-    let a = length-append (map zoneOf zs) (replicate (32 - length zs) blankZone) in
-    let b = length-map zs zoneOf in
-    let c = length-replicate (32 - length zs) blankZone in
-    omega arith
-
 -- a reply has at most 32 zones, and no more than the table has places
 abbrev Few : WindowsReply → ℕ → Type 0
 Few r n = (length (r .zones) ≤ 32) × (length (r .zones) ≤ n)
@@ -177,11 +183,11 @@ reply-few file n = by (ltb n 32) (eqb (readOf file .answer .number) 0) refl
     by false true h = listing-few s n (ltb-false n 32 h) (zonesOf s) refl
     by false false h = (omega arith, omega arith)
 
-work-fits : (w : Worked) (r : WindowsReply) (n : ℕ) → shown w ≡ shownOf r → Few r n → Fits w n
-work-fits w r n e f =
+work-fits : (w : Worked) (l : List ℤ) (m ns : List ℕ) (r : WindowsReply) (n : ℕ) → shown w l m ns ≡ shownOf r → Few r n
+    → Fits (workIn (w .ranges) (w .pieces) l m ns) n
+work-fits w l m ns r n e f =
     let p = ap (λ (x : Shown). x .pieces) e in
-    let z = ap (λ (x : Shown). length (x .zones)) e in
-    record { long = z ∙ zones-in-long (r .zones) (f .0); few = omega (arith, f .0); room = omega (arith, f .1) }
+    record { long = list-long ns (cellsIn l m); few = omega (arith, f .0); room = omega (arith, f .1) }
 
 piece-coded : (b : Ranges) (z : cutting.Zone) → pieceIn b (zoneOf z) ≡ pieceOf b z
 unfolding firstHeld
@@ -191,17 +197,32 @@ map-pieces : (b : Ranges) (zs : List cutting.Zone) → map (pieceIn b) (map zone
 map-pieces b [] = refl
 map-pieces b (z ∷ zs) = rw (piece-coded b z, map-pieces b zs) refl
 
-places-table : (w : Worked) (r : WindowsReply) (n : ℕ) → shown w ≡ shownOf r → placesOf w n ≡ tableOf r n
-unfolding placesOf tableOf zonesIn
-places-table w r n e =
+-- the zones at the first places are the reply's
+zones-there : (w : Worked) (l : List ℤ) (m ns : List ℕ) (r : WindowsReply) → shown w l m ns ≡ shownOf r
+    → take (w .pieces) (listOf ns (cellsIn l m)) ≡ map zoneOf (r .zones)
+unfolding zonesIn
+zones-there w l m ns r e =
+    let p : w .pieces ≡ length (r .zones) = ap (λ (x : Shown). x .pieces) e in
+    sym (take-closed blankZone (w .pieces) 32 (listOf ns (cellsIn l m)) (list-long ns (cellsIn l m)))
+    ∙ ap (λ (x : Shown). take (w .pieces) (x .zones)) e
+    ∙ ap (λ (k : ℕ). take k (zonesIn (r .zones))) p
+    ∙ taken zoneOf blankZone (32 - length (r .zones)) (r .zones)
+
+places-table : (w : Worked) (l : List ℤ) (m ns : List ℕ) (r : WindowsReply) (n : ℕ) → shown w l m ns ≡ shownOf r
+    → placesOf (workIn (w .ranges) (w .pieces) l m ns) n ≡ tableOf r n
+unfolding placesOf tableOf
+places-table w l m ns r n e =
     let p : w .pieces ≡ length (r .zones) = ap (λ (x : Shown). x .pieces) e in
     let b : w .ranges ≡ r .ranges = ap (λ (x : Shown). x .ranges) e in
-    let z : w .zones ≡ zonesIn (r .zones) = ap (λ (x : Shown). x .zones) e in
-    rw (p, b, z, taken zoneOf blankZone (32 - length (r .zones)) (r .zones), map-pieces (r .ranges) (r .zones)) refl
+    (λ i. map (pieceIn (b i)) (zones-there w l m ns r e i) ++ replicate (n - p i) blankPiece)
+    ∙ ap (λ (k : List Piece). k ++ replicate (n - length (r .zones)) blankPiece) (map-pieces (r .ranges) (r .zones))
 
 -- the items that are stored are the table
-pub work-table : (file : List ℕ) (n : ℕ) (w : Worked) → shown w ≡ shownOf (replyOf file n) → itemsOf w n ≡ tableOf (replyOf file n) n
-work-table file n w e = items-table w n (work-fits w (replyOf file n) n e (reply-few file n)) ∙ places-table w (replyOf file n) n e
+pub work-table : (file : List ℕ) (n : ℕ) (w : Worked) (l : List ℤ) (m ns : List ℕ) → shown w l m ns ≡ shownOf (replyOf file n)
+    → itemsOf (workIn (w .ranges) (w .pieces) l m ns) n ≡ tableOf (replyOf file n) n
+work-table file n w l m ns e =
+    items-table (workIn (w .ranges) (w .pieces) l m ns) n (work-fits w l m ns (replyOf file n) n e (reply-few file n))
+    ∙ places-table w l m ns (replyOf file n) n e
 
 pub table-length : (file : List ℕ) (n : ℕ) → length (tableOf (replyOf file n) n) ≡ n
 unfolding tableOf
@@ -214,5 +235,6 @@ table-length file n =
     omega (arith, reply-few file n .1)
 
 -- what the code answers is the reply's
-pub work-answer : (r : WindowsReply) (w : Worked) → shown w ≡ shownOf r → answeredAs (w .answer) ≡ answeredOf r
-work-answer r w e = ap (λ (x : Shown). record { answer = x .answer; counts = x .counts }) e
+pub work-answer : (r : WindowsReply) (w : Worked) (l : List ℤ) (m ns : List ℕ) → shown w l m ns ≡ shownOf r
+    → answeredAs (w .answer) ≡ answeredOf r
+work-answer r w l m ns e = ap (λ (x : Shown). record { answer = x .answer; counts = x .counts }) e

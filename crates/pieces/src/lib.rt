@@ -4,8 +4,11 @@ use expr::Bound;
 use expr::Expr;
 use expr::Ranges;
 use expr::Valuation;
-use zones::Zone;
 ghost use mathlib.Core.Path.{_≡_};
+ghost use Prim.Native.Nat.{_<_};
+ghost use lib.ListN.{length, getD};
+ghost use Rattle.cells.specs.Cells.{noCell, cellsIn, zoneOf};
+ghost use Rattle.windows_route.specs.Places.{zoneIn};
 ghost use Rattle.pieces.specs.Table.{pieceIn, itemFor};
 
 // A place of the table (paper: piece): whether it is used; the first valuation that it holds (paper: the setting to start from); its
@@ -30,27 +33,45 @@ impl Piece {
     };
 }
 
-// The piece of a zone of these ranges.
-fn piece_of(b: Ranges, zone: Zone) -> Piece
-    ensures { λ r. ⌜ r ≡ pieceIn b zone ⌝ }
+// The piece of the zone at place p, of these ranges and with n inequalities.
+fn piece_at(b: Ranges, cells: &[i32], marks: &[u8], p: usize, n: usize) -> Piece
+    requires { ⌜ (length (now cells) ≡ 22500) × ((length (now marks) ≡ 2250) × (p < 90)) ⌝ }
+    ensures { λ r. ⌜ r ≡ pieceIn b (zoneOf n (getD (cellsIn (now (cells .entry)) (now (marks .entry))) p noCell)) ⌝ }
 {
-    let ineqs = zone.ineqs;
-    let bounds = zone.bounds;
-    Piece {
+    let at = 250 * p;
+    let found = search::first(b, &cells[at..], numbers::at_most(n, 24));
+    let first = found.valuation;
+    let mut z = Piece {
         used: true,
-        first: holding::first_held(b, zone),
-        count: zone.count,
-        ineqs,
-        bounds,
+        first,
+        count: n,
+        ineqs: [Expr::ZERO; 24],
+        bounds: [Bound::ZERO; 25],
+    };
+    let mut i = 0;
+    while i < 24 {
+        z.ineqs[i] = inequalities::inequality(cells, 50 * p + i);
+        z.bounds[i] = cells::bound_at(cells, marks, p, i);
+        i += 1;
     }
+    z.bounds[24] = cells::bound_at(cells, marks, p, 24);
+    z
 }
 
-// The item for place i of the table, with so many pieces: the piece of this zone, or a blank one where i is past them.
-pub fn item_for(b: Ranges, pieces: usize, i: usize, zone: Zone) -> Piece
-    ensures { λ r. ⌜ r ≡ itemFor b pieces i zone ⌝ }
+// The item for place i of the table, with so many pieces: the piece of the zone at place i, or a blank one where i is past them.
+pub fn item_for(
+    b: Ranges,
+    pieces: usize,
+    i: usize,
+    cells: &[i32],
+    marks: &[u8],
+    counts: &[usize],
+) -> Piece
+    requires { ⌜ (length (now cells) ≡ 22500) × ((length (now marks) ≡ 2250) × (length (now counts) ≡ 90)) ⌝ }
+    ensures { λ r. ⌜ r ≡ itemFor b pieces i (zoneIn (now (counts .entry)) (cellsIn (now (cells .entry)) (now (marks .entry))) i) ⌝ }
 {
     if i < numbers::at_most(pieces, 32) {
-        return piece_of(b, zone);
+        return piece_at(b, cells, marks, i, counts[i]);
     }
     Piece::BLANK
 }

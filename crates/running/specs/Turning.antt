@@ -2,8 +2,9 @@
 use mathlib.Core.Path.{_≡_, refl, sym, ap, subst, _∙_}
 use mathlib.Core.Bool.{Bool, true, false, cond, _&&_}
 use mathlib.Core.List.{List}
-use Prim.Native.Nat.{ℕ, _≤_, _<_, min}
+use Prim.Native.Nat.{ℕ, _+_, _≤_, _<_, min}
 use native.Mathlib.Omega.{arith}
+use borrow.Author.Tests.{le-ltb}
 use lib.Dec.{ltb, eqb}
 use lib.IntN.{ℤ}
 use lib.ListN.{length, getD, set, take}
@@ -17,12 +18,14 @@ use Rattle.expr.specs.declared.bound.Bound.{Bound}
 use Rattle.expr.specs.declared.bound.Test.{Test}
 use Rattle.expr.specs.declared.number.Expr.{Expr}
 use Rattle.expr.specs.declared.range.Ranges.{Ranges}
-use Rattle.parts.specs.Parts.{withBounds, entersC, turnC, afterC}
+use Rattle.parts.specs.Parts.{withBounds, entersC, turnC, afterC, testsIn}
+use Rattle.parts.specs.declared.part.Next.{Next}
 use Rattle.parts.specs.declared.part.Part.{Part}
 use Rattle.parts.specs.declared.part.Turn.{Turn}
-use Rattle.split.proofs.Turns.{Way, turned, way-turn, way-less, partOf}
+use Rattle.split.specs.Turns.{Way, turned, way-turn, way-less, partOf}
 use Rattle.split.specs.Runs.{left}
-use Rattle.zones.specs.Settled.{settledF, settledLeaves}
+use Rattle.zones.specs.Settled.{settledF}
+use Rattle.zones.specs.System.{SameRows}
 use Rattle.zones.specs.declared.zone.Zone.{Zone}
 use Rattle.running.specs.Asks.{viaR, askingC}
 use Rattle.running.specs.Tasks.{ruleAt}
@@ -65,11 +68,32 @@ module _ (r : Rule) (z : Zone) (c : Ranges) (n : ℕ) (p : Part) (flat : List �
       same : Turn
       same = turnC (q .phase) (q .tests) (q .test) u (a .test) (a .via) kind
 
-  pub cell-turn : (m : List ℤ) → m ≡ settledLeaves c flat n (a .test) → Way r z c n p m made
+  pub cell-turn : (m : List ℤ) → SameRows n flat m → Way r z c n p m made
   cell-turn m hm = subst (Way r z c n p m) made-is (way-turn r z c n p flat q w h (a .test) asked kind hk (a .via) via-is m hm)
 
   pub cell-less : left made < left q
   cell-less = subst (λ (y : Part). left y < left q) made-is (way-less r z c n p flat q w h (a .test) asked kind hk (a .via) via-is)
+
+-- the same where the verdict is yes or no: the question stays what it was
+module _ (r : Rule) (z : Zone) (c : Ranges) (n : ℕ) (p : Part) (flat : List ℤ) (q : Part) (w : Way r z c n p flat q) (h : q .halt < 1)
+    (a : Asking) (ha : a ≡ askingC r (q .phase)) (kind : ℕ) (hk : kind ≡ settledF c flat n (a .test)) (few : kind < 2) (tests : ℕ)
+    (ht : tests ≡ min (q .tests) 26 + testsIn (a .test)) (y : Next) (hy : y ≡ afterC (q .phase) kind) (new : List Bound)
+    (hn : new ≡ cond (entersC (q .phase) kind) (set (q .zone .bounds) (a .into) (a .via)) (q .zone .bounds)) where
+  abbrev all : Turn
+  all = turnC (q .phase) (q .tests) (q .test) (a .via) (a .test) (a .via) kind
+
+  abbrev quick : Part
+  quick = partOf (q .zone) new (q .test) tests (y .phase) (y .halt)
+
+  quick-is : partOf (q .zone) new (all .test) (all .tests) (all .phase) (all .halt) ≡ quick
+  unfolding turnC
+  quick-is = rw (le-ltb 1 kind (omega arith), ht, hy) refl
+
+  pub quick-turn : (m : List ℤ) → SameRows n flat m → Way r z c n p m quick
+  quick-turn m hm = subst (Way r z c n p m) quick-is (cell-turn r z c n p flat q w h a ha kind hk (a .via) all refl new hn m hm)
+
+  pub quick-less : left quick < left q
+  quick-less = subst (λ (x : Part). left x < left q) quick-is (cell-less r z c n p flat q w h a ha kind hk (a .via) all refl new hn)
 
 -- where an entry goes is a place of the matrix
 pub asking-few : (r : Rule) (k : ℕ) (a : Asking) → a ≡ askingC r k → a .into < 25

@@ -3,26 +3,25 @@ use crate::task::Guarding;
 use crate::task::Task;
 use expr::Bound;
 use expr::Test;
-use expr::Valuation;
+use settling::Verdict;
 use zones::Hint;
 ghost use mathlib.Core.Path.{_≡_};
-ghost use mathlib.Core.Bool.{cond};
-ghost use Prim.Native.Nat.{_<_, _≤_};
+ghost use mathlib.Core.Bool.{true, cond};
+ghost use Prim.Native.Nat.{_+_, _<_, _≤_, min};
 ghost use lib.ListN.{length, getD, set};
-ghost use Rattle.parts.specs.Parts.{entersC};
+ghost use Rattle.parts.specs.Parts.{entersC, testsIn};
 ghost use Rattle.cells.specs.Cells.{cellsIn, noCell, withMatrix, putBound, zoneOf};
 ghost use Rattle.expr.specs.declared.range.Ranges.{Ranges};
-ghost use Rattle.zones.specs.Hinted.{Hinted, Trusted, notedC};
+ghost use Rattle.zones.specs.Hinted.{Hinted, Trusted, foundC, notedC};
 ghost use Rattle.split.specs.Trees.{Live, Ran};
 ghost use Rattle.running.specs.Asks.{askingC};
 ghost use Rattle.running.specs.Tasks.{partAt, ruleAt};
 
-// Where a part stops; what is known of its zone then; and a valuation: where it splits, the zone's guess may lie in one of the two parts
-// and this one in the other.
+// Where a part stops, and what is known of its zone then: where it splits, the guess may lie in one of the two parts and the other
+// valuation in the other.
 pub struct Stop {
     pub task: Task,
     pub hint: Hint,
-    pub witness: Valuation,
 }
 
 // What a phase compares, the test whether that is tighter, and where it goes then.
@@ -73,14 +72,32 @@ fn entered(cells: &mut [i32], marks: &mut [u8], p: usize, a: Asking, phase: usiz
     }
 }
 
-// With what a verdict on a test says, where a search told so.
-fn learned(h: Hint, searched: bool, t: Test, kind: usize) -> Hint
-    ensures { λ r. ⌜ r ≡ cond searched (notedC h t kind) h ⌝ }
+// Whether a verdict is yes or no and there is nothing to remember of it: it was told without a search.
+fn at_once(v: Verdict) -> bool
+    ensures { λ r. ⌜ (r ≡ true → v .kind < 2) ⌝ }
 {
-    if searched {
-        return zones::noted(h, t, kind);
+    if v.searched {
+        return false;
     }
-    h
+    v.kind < 2
+}
+
+// With what a verdict on a test says where a search told so, else with the valuation that it names.
+fn learned(h: Hint, v: Verdict, t: Test) -> Hint
+    ensures { λ r. ⌜ r ≡ cond (v .searched) (notedC h t (v .kind)) (foundC h (v .witness)) ⌝ }
+{
+    if v.searched {
+        return zones::noted(h, t, v.kind);
+    }
+    let witness = v.witness;
+    zones::found(h, witness)
+}
+
+// How many tests were asked with one more.
+fn counted(tests: usize, t: Test) -> usize
+    ensures { λ n. ⌜ n ≡ min tests 26 + testsIn t ⌝ }
+{
+    numbers::at_most(tests, 26) + parts::tests_in(t)
 }
 
 // The part at place p, with n inequalities, worked on where it stands, until it stops, whatever the ranges are that the hint was made of;
@@ -108,15 +125,10 @@ pub fn run(
     ensures known { λ q. ⌜ ((b : Ranges) → Hinted b (zoneOf n (getD (cellsIn (now (cells .entry)) (now (marks .entry))) p noCell)) hint
         → Hinted b (zoneOf n (getD (cellsIn (now (cells .entry)) (now (marks .entry))) p noCell)) (q .hint)) ⌝ }
 {
-    let mut known = hint;
-    let mut witness = hint.guess;
     if 0 < task.halt {
-        return Stop {
-            task,
-            hint: known,
-            witness,
-        };
+        return Stop { task, hint };
     }
+    let mut known = hint;
     let list = cells::rows_at(cells, marks, p, n);
     let mut flat = list.numbers;
     let mut test = task.test;
@@ -133,17 +145,22 @@ pub fn run(
             let via = asked.via;
             let t = asked.test;
             let verdict = settling::settled(known, &mut flat, n, t);
-            let more = learned(known, verdict.searched, t, verdict.kind);
-            known = more;
-            let found = verdict.witness;
-            witness = found;
             entered(cells, marks, p, asked, phase, verdict.kind);
-            let next = parts::turned(phase, tests, test, via, t, via, verdict.kind);
-            let question = next.test;
-            test = question;
-            tests = next.tests;
-            phase = next.phase;
-            halt = next.halt;
+            if at_once(verdict) {
+                let next = parts::after(phase, verdict.kind);
+                tests = counted(tests, t);
+                phase = next.phase;
+                halt = next.halt;
+            } else {
+                let more = learned(known, verdict, t);
+                known = more;
+                let next = parts::turned(phase, tests, test, via, t, via, verdict.kind);
+                let question = next.test;
+                test = question;
+                tests = next.tests;
+                phase = next.phase;
+                halt = next.halt;
+            }
         }
     }
     Stop {
@@ -154,6 +171,5 @@ pub fn run(
             test,
         },
         hint: known,
-        witness,
     }
 }

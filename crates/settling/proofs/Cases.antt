@@ -8,15 +8,25 @@ use Prim.Native.Nat.{ℕ, zero, suc, _+_, _<_, min}
 use native.Mathlib.Numerals.{add-one}
 use native.Mathlib.Omega.{arith}
 use lib.Dec.{ltb, eqb}
-use lib.IntN.{ℤ}
-use Rattle.expr.specs.Records.{rangeList}
+use lib.IntN.{ℤ, pos, _+ℤ_}
+use lib.Signed.{leZ, _≤ℤ_, _<ℤ_}
+use Rattle.integer.specs.Order.{leZ-true}
+use Rattle.integer.specs.Split.{split, split-all}
+use Rattle.expr.specs.Affine.{Affine, value, dot}
+use Rattle.expr.specs.Ranges.{Inside}
+use Rattle.expr.specs.Records.{affine, rangeList}
 use Rattle.inequalities.specs.Flat.{exprsIn}
 use Rattle.search.specs.Answers.{isSome, Glanced}
 use Rattle.valuations.specs.Valuations.{first}
 use Rattle.expr.specs.declared.number.Expr.{Expr}
+use Rattle.expr.specs.declared.range.Range.{Range}
 use Rattle.expr.specs.declared.range.Ranges.{Ranges}
-use Rattle.zones.specs.System.{putIn}
-use Rattle.zones.specs.Settled.{oppositeC, isNone, neverF, onF, onLeaves}
+use Rattle.narrowing.specs.Best.{bestSum, bestOf, bestSum-most}
+use Rattle.zones.specs.Fits.{Fit, means-never, held-never}
+use Rattle.zones.specs.FlatLaws.{listing-put, listing-same, never-same}
+use Rattle.zones.specs.System.{putIn, SameRows}
+use Rattle.zones.specs.Settled.{oppositeC, isNone, neverC, neverF, onF}
+use Rattle.zones.specs.declared.hint.Hint.{Hint}
 
 none-not-some : (o : Option (List ℤ)) → not (isSome o) ≡ isNone o
 none-not-some option.none = refl
@@ -42,29 +52,74 @@ glance-is b l m n k e seen q h g few = by seen g few ∙ never-is b l m n k e (i
     by (suc zero) g f = ap not (sym (g .yes refl))
     by (suc (suc r)) g f = absurd (omega arith)
 
--- e is asked, and then its opposite x of the list m that this left
-module _ (b : Ranges) (l : List ℤ) (n : ℕ) (e : Expr) (r : Bool) (hr : r ≡ neverF b l n e) where
-  pub on-no : r ≡ true → 0 ≡ onF b l n e
+-- what is below 0 throughout the ranges
+below-at : (e : Affine) (rs : List Range) (v : List ℤ) → bestOf e rs <ℤ pos 0 → Inside v rs → leZ (pos 0) (value e v) ≡ false
+unfolding bestOf value
+below-at e rs v g i =
+    not-true (leZ (pos 0) (value e v))
+    (λ t. below (dot (e .coefs) v) (bestSum (e .coefs) rs) (e .constant) (bestSum-most (e .coefs) v rs i) (leZ-true t) g)
+  where
+    not-true : (b : Bool) → (b ≡ true → ⊥) → b ≡ false
+    not-true true h = absurd (h refl)
+    not-true false h = refl
+
+    below : (d s c : ℤ) → d ≤ℤ s → pos 0 ≤ℤ (c +ℤ d) → (c +ℤ s) <ℤ pos 0 → ⊥
+    below d s c = rw (split d, split s, split c) (simp split-all (omega arith))
+
+module _ (h : Hint) (n : ℕ) (l : List ℤ) (f : Fit h n l) where
+  abbrev R : Ranges
+  R = h .ranges
+
+  never-zone : (e : Expr) → neverF R l n e ≡ neverC R (f .zone) e
+  never-zone e = never-same R R (f .zone) n l e (f .listing)
+
+  pub failed-never : (e : Expr) → bestOf (affine e) (rangeList R) <ℤ pos 0 → true ≡ neverF R l n e
+  failed-never e g = sym (never-zone e ∙ means-never R (f .zone) e (λ v i s. below-at (affine e) (rangeList R) v g i))
+
+  -- the verdict on e, whatever stands behind the inequalities
+  on-zone : (e : Expr) → onF R l n e ≡ cond (neverC R (f .zone) e) 0 (cond (neverC R (f .zone) (oppositeC e)) 1 (cond (ltb n 24) 3 8))
   unfolding onF
-  on-no h = rw (sym hr ∙ h) refl
+  on-zone e =
+      rw (never-zone e, never-same R R (f .zone) n (putIn l n e) (oppositeC e) (listing-put R R (f .zone) n l e (f .listing))) refl
 
-  pub leaves-no : r ≡ true → (m : List ℤ) → m ≡ putIn l n e → m ≡ onLeaves b l n e
-  unfolding onLeaves
-  leaves-no h m q = rw (sym hr ∙ h) q
+  -- the guess tells that it is not no
+  pub on-held : (e x : Expr) (k : ℕ) → h .sure ≡ true → leZ (pos 0) (value (affine e) (h .guess .numbers)) ≡ true → x ≡ oppositeC e
+      → k ≡ cond (neverF R l n x) 1 (cond (ltb n 24) 3 8) → k ≡ onF R l n e
+  on-held e x k s g hx hk =
+      hk ∙ ap (λ (y : Expr). cond (neverF R l n y) 1 (cond (ltb n 24) 3 8)) hx
+      ∙ ap (λ (t : Bool). cond t 1 (cond (ltb n 24) 3 8)) (never-zone (oppositeC e))
+      ∙ ap (λ (t : Bool). cond t 0 (cond (neverC R (f .zone) (oppositeC e)) 1 (cond (ltb n 24) 3 8))) (sym (held-never h n l e f s g))
+      ∙ sym (on-zone e)
 
-  module _ (k : r ≡ false) (m : List ℤ) (hm : m ≡ putIn l n e) (x : Expr) (hx : x ≡ oppositeC e) where
-    pub leaves-else : (f : List ℤ) → f ≡ putIn m n x → f ≡ onLeaves b l n e
-    unfolding onLeaves
-    leaves-else f q = rw (sym hr ∙ k) (q ∙ ap (λ (y : List ℤ). putIn y n x) hm ∙ ap (putIn (putIn l n e) n) hx)
+  pub on-no : (e : Expr) (r : Bool) → r ≡ neverF R l n e → r ≡ true → 0 ≡ onF R l n e
+  on-no e r hr t =
+      ap (λ (t : Bool). cond t 0 (cond (neverC R (f .zone) (oppositeC e)) 1 (cond (ltb n 24) 3 8)))
+      (sym t ∙ hr ∙ never-zone e)
+      ∙ sym (on-zone e)
 
-    module _ (s : Bool) (hs : s ≡ neverF b m n x) where
-      never-opposite : (t : Bool) → s ≡ t → neverF b (putIn l n e) n (oppositeC e) ≡ t
-      never-opposite t h = ap (λ (y : List ℤ). neverF b y n (oppositeC e)) (sym hm) ∙ ap (neverF b m n) (sym hx) ∙ sym hs ∙ h
+  -- it is not no, m being the list then
+  module _ (e : Expr) (r : Bool) (hr : r ≡ neverF R l n e) (no : r ≡ false) (x : Expr) (hx : x ≡ oppositeC e) where
+    not-no-is : onF R l n e ≡ cond (neverC R (f .zone) x) 1 (cond (ltb n 24) 3 8)
+    not-no-is =
+        on-zone e
+        ∙ ap (λ (t : Bool). cond t 0 (cond (neverC R (f .zone) (oppositeC e)) 1 (cond (ltb n 24) 3 8)))
+        (sym (never-zone e) ∙ sym hr ∙ no)
+        ∙ ap (λ (y : Expr). cond (neverC R (f .zone) y) 1 (cond (ltb n 24) 3 8)) (sym hx)
 
-      pub on-yes : s ≡ true → 1 ≡ onF b l n e
-      unfolding onF
-      on-yes h = rw (sym hr ∙ k, never-opposite true h) refl
+    pub on-split : h .sure ≡ true → leZ (pos 0) (value (affine x) (h .guess .numbers)) ≡ true → (k : ℕ) → k ≡ cond (ltb n 24) 3 8
+        → k ≡ onF R l n e
+    on-split s g k hk =
+        hk ∙ ap (λ (t : Bool). cond t 1 (cond (ltb n 24) 3 8)) (sym (held-never h n l x f s g)) ∙ sym not-no-is
 
-      pub on-split : s ≡ false → (x : ℕ) → x ≡ cond (ltb n 24) 3 8 → x ≡ onF b l n e
-      unfolding onF
-      on-split h x g = rw (sym hr ∙ k, never-opposite false h) g
+    pub on-asked : (m : List ℤ) → SameRows n l m → (k : ℕ) → k ≡ cond (neverF R m n x) 1 (cond (ltb n 24) 3 8) → k ≡ onF R l n e
+    on-asked m s k hk =
+        hk
+        ∙ ap (λ (t : Bool). cond t 1 (cond (ltb n 24) 3 8))
+        (never-same R R (f .zone) n m x (listing-same R R (f .zone) n l m s (f .listing)))
+        ∙ sym not-no-is
+
+pub same-rows : (n : ℕ) (l : List ℤ) → SameRows n l l
+same-rows n l = record { long = refl; rows = refl }
+
+pub same-twice : (n : ℕ) (l m k : List ℤ) → SameRows n l m → SameRows n m k → SameRows n l k
+same-twice n l m k a b = record { long = b .long ∙ a .long; rows = b .rows ∙ a .rows }

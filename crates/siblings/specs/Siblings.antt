@@ -1,8 +1,8 @@
 -- Two zones that a split has made of one: of these every valuation of that one is held by one, so that their counts sum to its count.
-use mathlib.Core.Path.{_≡_, refl, sym, ap, _∙_}
+use mathlib.Core.Path.{_≡_, refl, sym, ap, subst, _∙_}
 use mathlib.Core.Bool.{Bool, true, false, _&&_, cond}
 use mathlib.Core.List.{List, [], _∷_, _++_, map}
-use Prim.Native.Nat.{ℕ, suc, _+_, _-_, _≤_, _<_}
+use Prim.Native.Nat.{ℕ, suc, _+_, _-_, _*_, _≤_, _<_}
 use native.Mathlib.Omega.{arith}
 use lib.IntN.{ℤ, pos}
 use lib.ListN.{length, getD, take}
@@ -13,15 +13,18 @@ use Rattle.expr.specs.Affine.{Affine, value}
 use Rattle.expr.specs.Records.{affine, noExpr}
 use Rattle.expr.specs.declared.number.Expr.{Expr}
 use Rattle.expr.specs.declared.range.Range.{Range}
+use Rattle.cells.specs.Cells.{rowAt, rowsFrom}
+use Rattle.cells.specs.CellLaws.{rows-length, rows-at, rows-same, rows-taken, row-affine}
+use Rattle.inequalities.specs.Flat.{exprAt}
 use Rattle.opposites.specs.Opposite.{Halves}
 use Rattle.valuations.specs.Valuations.{valuations, satisfies, countIn, count}
-use Rattle.zones.specs.declared.zone.Zone.{Zone}
 
--- the first n inequalities of a zone
-abbrev pub firstOf : Zone → ℕ → List Affine
-firstOf z n = map affine (take n (z .ineqs))
+-- the first n of some inequalities
+abbrev pub firstOf : List Expr → ℕ → List Affine
+firstOf es n = map affine (take n es)
 
-pub record Siblings (y z : Zone) (n : ℕ) : Type 0 where
+-- the first n inequalities of two zones, of y and z, are together those of one zone with n - 1
+pub record Siblings (y z : List Expr) (n : ℕ) : Type 0 where
   pub some : 0 < n
   pub sum : (rs : List Range) → count rs (firstOf y n) + count rs (firstOf z n) ≡ count rs (firstOf y (n - 1))
 
@@ -75,20 +78,53 @@ map-end : (l : List Expr) (e : Expr) → map affine (l ++ (e ∷ [])) ≡ map af
 map-end [] e = refl
 map-end (x ∷ l) e = ap (λ (m : List Affine). affine x ∷ m) (map-end l e)
 
-last-of : (z : Zone) (n : ℕ) → n < length (z .ineqs) → firstOf z (suc n) ≡ firstOf z n ++ (affine (getD (z .ineqs) n noExpr) ∷ [])
-last-of z n h = ap (map affine) (take-suc (z .ineqs) n noExpr h) ∙ map-end (take n (z .ineqs)) (getD (z .ineqs) n noExpr)
+last-of : (z : List Expr) (n : ℕ) → n < length z → firstOf z (suc n) ≡ firstOf z n ++ (affine (getD z n noExpr) ∷ [])
+last-of z n h = ap (map affine) (take-suc z n noExpr h) ∙ map-end (take n z) (getD z n noExpr)
 
-pub siblings-are : (y z : Zone) (n : ℕ) → 0 < n → n ≤ length (y .ineqs) → n ≤ length (z .ineqs)
-    → Halves (affine (getD (y .ineqs) (n - 1) noExpr)) (affine (getD (z .ineqs) (n - 1) noExpr))
+halved-are : (y z : List Expr) (n : ℕ) → 0 < n → n ≤ length y → n ≤ length z
+    → Halves (affine (getD y (n - 1) noExpr)) (affine (getD z (n - 1) noExpr))
     → firstOf y (n - 1) ≡ firstOf z (n - 1) → Siblings y z n
-siblings-are y z n s a b h q =
+halved-are y z n s a b h q =
     let one : n ≡ suc (n - 1) = omega arith in
     record {
       some = s;
       sum = λ rs. ap (λ (k : ℕ). count rs (firstOf y k) + count rs (firstOf z k)) one
           ∙ ap (λ (es : List Affine). count rs es + count rs (firstOf z (suc (n - 1)))) (last-of y (n - 1) (omega arith))
-          ∙ ap (λ (es : List Affine). count rs (firstOf y (n - 1) ++ (affine (getD (y .ineqs) (n - 1) noExpr) ∷ [])) + count rs es)
+          ∙ ap (λ (es : List Affine). count rs (firstOf y (n - 1) ++ (affine (getD y (n - 1) noExpr) ∷ [])) + count rs es)
           (last-of z (n - 1) (omega arith)
-          ∙ ap (λ (es : List Affine). es ++ (affine (getD (z .ineqs) (n - 1) noExpr) ∷ [])) (sym q))
-          ∙ count-halves (firstOf y (n - 1)) (affine (getD (y .ineqs) (n - 1) noExpr)) (affine (getD (z .ineqs) (n - 1) noExpr)) h rs;
+          ∙ ap (λ (es : List Affine). es ++ (affine (getD z (n - 1) noExpr) ∷ [])) (sym q))
+          ∙ count-halves (firstOf y (n - 1)) (affine (getD y (n - 1) noExpr)) (affine (getD z (n - 1) noExpr)) h rs;
     }
+
+-- ---- two places of a list of numbers
+module _ (l : List ℤ) (p q n : ℕ) where
+  abbrev y : List Expr
+  y = rowsFrom l (50 * p) 24
+
+  abbrev z : List Expr
+  z = rowsFrom l (50 * q) 24
+
+  last : (r : ℕ) → n ≤ 24 → 0 < n → affine (getD (rowsFrom l (50 * r) 24) (n - 1) noExpr) ≡ exprAt l (50 * r + n - 1)
+  last r few some =
+      let e : 50 * r + (n - 1) ≡ 50 * r + n - 1 = omega arith in
+      ap affine (rows-at l 24 (50 * r) (n - 1) (omega arith) ∙ ap (rowAt l) e) ∙ row-affine l (50 * r + n - 1)
+
+  same-rows : n ≤ 24 → 0 < n → ((i : ℕ) → i < 5 * (n - 1) → getD l (250 * p + i) (pos 0) ≡ getD l (250 * q + i) (pos 0))
+      → firstOf y (n - 1) ≡ firstOf z (n - 1)
+  same-rows few some h =
+      ap (map affine) (rows-taken l (n - 1) 24 (50 * p) (omega arith)
+      ∙ rows-same l l (n - 1) (50 * q) (50 * p) at
+      ∙ sym (rows-taken l (n - 1) 24 (50 * q) (omega arith)))
+    where
+      at : (i : ℕ) → i < 5 * (n - 1) → getD l (5 * (50 * p) + i) (pos 0) ≡ getD l (5 * (50 * q) + i) (pos 0)
+      at i g =
+          let e : 5 * (50 * p) + i ≡ 250 * p + i = omega arith in
+          let f : 5 * (50 * q) + i ≡ 250 * q + i = omega arith in
+          rw (e, f) (h i g)
+
+  pub siblings-are : 0 < n → n ≤ 24 → (e f : Affine) → e ≡ exprAt l (50 * p + n - 1) → f ≡ exprAt l (50 * q + n - 1) → Halves e f
+      → ((i : ℕ) → i < 5 * (n - 1) → getD l (250 * p + i) (pos 0) ≡ getD l (250 * q + i) (pos 0)) → Siblings y z n
+  siblings-are some few e f he hf h same =
+      halved-are y z n some (omega (arith, rows-length l 24 (50 * p))) (omega (arith, rows-length l 24 (50 * q)))
+      (subst (λ (x : Affine). Halves x (affine (getD z (n - 1) noExpr))) (he ∙ sym (last p few some))
+      (subst (λ (x : Affine). Halves e x) (hf ∙ sym (last q few some)) h)) (same-rows few some same)

@@ -1,46 +1,24 @@
-// Whether inequalities are the same.
-use expr::Expr;
-use expr::PARAMETERS;
-use zones::Zone;
+// Whether numbers are the same.
 ghost use mathlib.Core.Path.{_≡_};
 ghost use mathlib.Core.Bool.{true};
-ghost use mathlib.Core.List.{map};
-ghost use Prim.Native.Nat.{_≤_};
-ghost use lib.ListN.{take};
-ghost use Rattle.expr.specs.Records.{affine};
+ghost use Prim.Native.Nat.{ℕ, _+_, _≤_, _<_};
+ghost use lib.IntN.{pos};
+ghost use lib.ListN.{length, getD};
 
-// Whether e is f.
-fn equal(e: Expr, f: Expr) -> bool
-    ensures { λ r. ⌜ (r ≡ true → affine e ≡ affine f) ⌝ }
-{
-    let mut i = 0;
-    while i < PARAMETERS {
-        let a = e.coefs[i];
-        let b = f.coefs[i];
-        if a < b {
-            return false;
-        }
-        if b < a {
-            return false;
-        }
-        i += 1;
-    }
-    if e.constant < f.constant {
-        return false;
-    }
-    e.constant <= f.constant
-}
-
-// Whether the first n inequalities of two zones are the same.
-pub(crate) fn same(y: Zone, z: Zone, n: usize) -> bool
-    requires { ⌜ n ≤ 24 ⌝ }
-    ensures { λ r. ⌜ (r ≡ true → map affine (take n (y .ineqs)) ≡ map affine (take n (z .ineqs))) ⌝ }
+// Whether the n numbers from a on are those from b on.
+pub(crate) fn same(cells: &[i32], a: usize, b: usize, n: usize) -> bool
+    requires { ⌜ (length (now cells) ≡ 22500) × ((a + n ≤ 22500) × (b + n ≤ 22500)) ⌝ }
+    ensures { λ r. ⌜ (r ≡ true → (i : ℕ) → i < n
+        → getD (now (cells .entry)) (a + i) (pos 0) ≡ getD (now (cells .entry)) (b + i) (pos 0)) ⌝ }
 {
     let mut i = 0;
     while i < n {
-        let e = y.ineqs[i];
-        let f = z.ineqs[i];
-        if !equal(e, f) {
+        let x = cells[a + i];
+        let y = cells[b + i];
+        if x < y {
+            return false;
+        }
+        if y < x {
             return false;
         }
         i += 1;

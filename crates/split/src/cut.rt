@@ -7,7 +7,6 @@ use expr::Expr;
 use expr::Ranges;
 use guards::Guard;
 use parts::Part;
-use zones::Hint;
 use zones::Zone;
 ghost use mathlib.Core.Path.{_≡_};
 ghost use Rattle.split.specs.Guarded.{cutC, ruleC, oneC};
@@ -57,9 +56,8 @@ fn cut_zone(b: Ranges, r: Rule, zone: Zone, out: Counted) -> Counted
         let top = n - 1;
         let popped = stack[top];
         let here = popped.zone;
-        let hint = zones::hint_of(b, here, Hint::NONE, holding::first_held(b, here));
-        let stop = run(hint, r, popped);
-        let p = stop.part;
+        let hint = zones::hint_of(b, here, holding::first_held(b, here));
+        let p = run(hint, r, popped);
         let next = ended(now, p);
         now = next;
         if 0 < now.zones.refusal {

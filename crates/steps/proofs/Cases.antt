@@ -76,6 +76,18 @@ guards-none : (ss : Steps) (l : List Guard) → l ≡ [] → withGuardsC ss l �
 unfolding withGuardsC
 guards-none ss l h = rw h refl
 
+-- a full list stays as it is
+pub guards-full : (l : List Guard) (ss : Steps) → 20 ≤ ss .count → ss ≡ withGuardsC ss l
+unfolding withGuardsC withStepC
+guards-full [] ss h = refl
+guards-full (g ∷ l) ss h = rw (le-ltb (ss .count) 20 h) (guards-full l ss h)
+
+-- one more is put in
+pub put-step : (ss : Steps) (st : Step) → ss .count < 20 → record { count = ss .count + 1; list = set (ss .list) (ss .count) st } ≡
+    withStepC ss st
+unfolding withStepC
+put-step ss st h = rw (lt-ltb (ss .count) 20 h) refl
+
 module _ (xs : List Guard) (k : ℕ) where
   pub guards-turn : (i : ℕ) (ss next whole : Steps) → i < length (take k xs) → withGuardsC ss (drop i (take k xs)) ≡ whole
       → next ≡ withStepC ss (guardStep (getD xs i noGuard)) → withGuardsC next (drop (i + 1) (take k xs)) ≡ whole

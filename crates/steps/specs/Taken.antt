@@ -80,7 +80,7 @@ module _ (cs : List Cell) (p w : ℕ) (st : Step) (full : length cs ≡ 90) (few
       ∙ ap (λ (c : Cell). withMatrix c (changedB st w (c .bounds))) same
 
 -- ---- the part that a step makes of a zone
-changed-zone : (st : Step) (w n : ℕ) (c : Cell) → zoneOf n (withMatrix c (changedB st w (c .bounds))) ≡ changedC st w (zoneOf n c)
+pub changed-zone : (st : Step) (w n : ℕ) (c : Cell) → zoneOf n (withMatrix c (changedB st w (c .bounds))) ≡ changedC st w (zoneOf n c)
 unfolding changedB changedC
 changed-zone st w n c = by (ltb (st .kind) 1) (ltb (st .kind) 2)
   where

@@ -4,6 +4,8 @@ mod step;
 
 pub use step::Step;
 pub use step::Steps;
+pub use step::asks;
+pub use step::changed;
 pub use step::taken;
 pub use step::with_guards;
 pub use step::with_step;

@@ -62,24 +62,25 @@ pub fn with_guards(steps: Steps, count: usize, guards: [Guard; 6]) -> Steps
     let mut more = steps;
     let mut i = 0;
     while i < n {
+        let at = more.count;
+        if 20 <= at {
+            return more;
+        }
         let guard = guards[i];
-        let next = with_step(
-            more,
-            Step {
-                kind: 1,
-                bits: 0,
-                visit: 0,
-                guard,
-            },
-        );
-        more = next;
+        more.list[at] = Step {
+            kind: 1,
+            bits: 0,
+            visit: 0,
+            guard,
+        };
+        more.count = at + 1;
         i += 1;
     }
     more
 }
 
 // Makes the matrix at place p that after a wait or resets; a guard is put to it later.
-fn changed(cells: &mut [i32], marks: &mut [u8], p: usize, clocks: usize, step: Step)
+pub fn changed(cells: &mut [i32], marks: &mut [u8], p: usize, clocks: usize, step: Step)
     requires { ⌜ (length (now cells) ≡ 22500) × ((length (now marks) ≡ 2250) × (p < 90)) ⌝ }
     ensures { λ _. ⌜ cellsIn (now (cells .exit)) (now (marks .exit))
         ≡ onMatrix (cellsIn (now (cells .entry)) (now (marks .entry))) p (changedB step clocks) ⌝ }
@@ -95,7 +96,7 @@ fn changed(cells: &mut [i32], marks: &mut [u8], p: usize, clocks: usize, step: S
 }
 
 // Whether a step is a guard of clocks that there can be.
-fn asks(step: Step) -> bool
+pub fn asks(step: Step) -> bool
     ensures { λ r. ⌜ r ≡ asksC step ⌝ }
 {
     let guard = step.guard;

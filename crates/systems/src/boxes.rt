@@ -2,6 +2,7 @@
 use expr::Ranges;
 use expr::Valuation;
 ghost use mathlib.Core.Path.{_≡_};
+ghost use Prim.Native.Nat.{_≤_};
 ghost use Rattle.inequalities.specs.Flat.{exprsIn};
 ghost use Rattle.valuations.specs.Valuations.{satisfies};
 ghost use Rattle.systems.specs.Boxes.{Narrows};
@@ -34,6 +35,43 @@ pub fn narrowed(b: Ranges, flat: &[i32], n: usize) -> Ranges
         if r.high < r.low {
             return c;
         }
+    }
+    c
+}
+
+// The first of n inequalities, from `start` on, that fails at v; n if none does, or `start` where that is more.
+fn failing(v: Valuation, flat: &[i32], n: usize, start: usize) -> usize
+    ensures { λ k. ⌜ start ≤ k ⌝ }
+{
+    let mut k = start;
+    while k < n {
+        let e = inequalities::inequality(flat, k);
+        if inequalities::value_at(v, e) < 0 {
+            return k;
+        }
+        k += 1;
+    }
+    k
+}
+
+// What the first n inequalities leave of the box where only those cut it, from below, that fail at its lowest corner, the first being
+// tried first; no solution is lost, and a box that an inequality emptied is not cut again.
+pub fn trimmed(b: Ranges, flat: &[i32], n: usize) -> Ranges
+    ensures { λ c. ⌜ Narrows (exprsIn (now (flat .entry)) n) (b .list) (c .list) ⌝ }
+{
+    let mut c = b;
+    let mut k = 0;
+    while k < n {
+        let j = failing(corners::corner(c), flat, n, k);
+        if n <= j {
+            return c;
+        }
+        c = narrowing::raise(c, inequalities::inequality(flat, j));
+        let r = c.list[0];
+        if r.high < r.low {
+            return c;
+        }
+        k = j + 1;
     }
     c
 }

@@ -5,4 +5,5 @@ mod opposite;
 
 pub use boxes::meets;
 pub use boxes::narrowed;
+pub use boxes::trimmed;
 pub use opposite::opposed;

@@ -17,7 +17,10 @@ pub fn windows(file: &[u8], table: &mut [Piece]) -> Answer
     ensures { λ _. ⌜ now (table .exit)
         ≡ tableOf (replyOf (now (file .entry)) (length (now (table .entry)))) (length (now (table .entry))) ⌝ }
 {
-    let work = windows_reply::work_for(file, table.len());
-    table::store(table, work);
+    let mut cells = [0i32; 22500];
+    let mut marks = [0u8; 2250];
+    let mut counts = [0usize; 90];
+    let work = windows_reply::work_for(file, table.len(), &mut cells, &mut marks, &mut counts);
+    table::store(table, work.ranges, work.pieces, &cells, &marks, &counts);
     work.answer
 }

@@ -1,19 +1,27 @@
 // The table that the caller lends.
+use expr::Ranges;
 use pieces::Piece;
 use pieces::item_for;
-use windows_reply::Worked;
 ghost use mathlib.Core.Path.{_≡_};
 ghost use lib.ListN.{length};
-ghost use Rattle.pieces.specs.Table.{itemsOf};
+ghost use Rattle.pieces.specs.Table.{workIn, itemsOf};
 
-// Stores the pieces into the table, blanks behind them. Past 32 places any zone is read, and none is used.
-pub(crate) fn store(table: &mut [Piece], work: Worked)
-    ensures { λ _. ⌜ now (table .exit) ≡ itemsOf work (length (now (table .entry))) ⌝ }
+// Stores the pieces into the table, blanks behind them.
+pub(crate) fn store(
+    table: &mut [Piece],
+    b: Ranges,
+    pieces: usize,
+    cells: &[i32],
+    marks: &[u8],
+    counts: &[usize],
+)
+    requires { ⌜ (length (now cells) ≡ 22500) × ((length (now marks) ≡ 2250) × (length (now counts) ≡ 90)) ⌝ }
+    ensures { λ _. ⌜ now (table .exit)
+        ≡ itemsOf (workIn b pieces (now (cells .entry)) (now (marks .entry)) (now (counts .entry))) (length (now (table .entry))) ⌝ }
 {
-    let zones = work.zones;
     let mut i = 0;
     while i < table.len() {
-        table[i] = item_for(work.ranges, work.pieces, i, zones[i % 32]);
+        table[i] = item_for(b, pieces, i, cells, marks, counts);
         i += 1;
     }
 }

@@ -1,10 +1,11 @@
 -- The cases of the code's steps, with the branches' tests, and the turns of its loops.
 use mathlib.Core.Path.{_≡_, refl, sym, ap, subst, _∙_}
-use mathlib.Core.List.{List, [], _∷_, map}
-use Prim.Native.Nat.{ℕ, _+_, _-_, _≤_, _<_, min}
+use mathlib.Core.List.{List, [], map}
+use Prim.Native.Nat.{ℕ, zero, suc, _+_, _-_, _*_, _≤_, _<_, min}
 use native.Mathlib.Omega.{arith}
 use borrow.Author.Tests.{lt-ltb, le-ltb, eq-eqb, ne-eqb}
-use lib.ListN.{take}
+use lib.IntN.{ℤ}
+use lib.ListN.{getD, take}
 use Rattle.answers.specs.Numbers.{numbered, checkedAs, refusalAs}
 use Rattle.answers.specs.declared.file.Checked.{Checked}
 use Rattle.answers.specs.declared.file.Checked.the-variants as checked
@@ -12,7 +13,10 @@ use Rattle.answers.specs.declared.file.Refusal.{Refusal}
 use Rattle.answers.specs.declared.file.Refusal.the-variants.{Size, Contents, Body, Valuations, Route}
 use Rattle.answers.specs.declared.windows.Answer.{Answer}
 use Rattle.answers.specs.declared.windows.Answer.the-variants as answer
+use Rattle.cells.specs.Cells.{noCell, rowsFrom, cellsIn}
 use Rattle.coded.specs.Records.{zonesIn}
+use Rattle.inequalities.specs.Flat.{exprsIn, exprsFrom}
+use Rattle.passing.specs.State.{refusedZ}
 use Rattle.valuations.specs.SearchLaws.{count-few}
 use Rattle.valuations.specs.Valuations.{widths, count}
 use Rattle.expr.specs.Records.{affine, rangeList}
@@ -25,11 +29,14 @@ use Rattle.reading.specs.File.{Fine, Read, readAs, readOf}
 use Rattle.reading.specs.Accepted.{reading-well-formed}
 use Rattle.sheet.specs.WellFormed.{WellFormed}
 use Rattle.windows_reply.specs.Reply.{sheetReply, readReply, replyOf}
-use Rattle.windows_reply.specs.Work.{shownOf, blankShown, refusedBy, listedC}
+use Rattle.windows_reply.specs.Work.{shownOf, blankShown, refusedBy, listedC, zonesAt, take-closed}
 use Rattle.coded.specs.CodedRead.{keptC}
+use Rattle.kept.specs.Stacks as K
 use Rattle.kept.specs.Stacks.{heldIn}
-use Rattle.zones.specs.declared.zone.Zone.{Zone}
-use Rattle.zones.specs.declared.zone.Zones.{Zones}
+use Rattle.windows_route.specs.Ended.{endedZ, ended-refused, ended-listed, rows-there}
+use Rattle.windows_route.specs.Places.{zonesFrom, listOf, list-long}
+use Rattle.windows_route.specs.declared.route.Ended.{Ended}
+use Rattle.zones.specs.Zone.{blankZone}
 
 -- ---- the reply
 pub seven : (n visit : ℕ) → n ≡ 7 → answer.Zones visit ≡ refusedBy n visit
@@ -38,35 +45,49 @@ seven n visit h = rw (eq-eqb n 7 h) refl
 pub eight : (n visit : ℕ) → (n ≡ 7 → ⊥) → answer.Inequalities visit ≡ refusedBy n visit
 eight n visit h = rw (ne-eqb n 7 h) refl
 
--- the zones' valuations, as `kept` counts them
-pub kept-is : (b : Ranges) (zs : List Zone) → heldIn b zs ≡ keptC b zs
-unfolding heldIn keptC
-kept-is b [] = refl
-kept-is b (z ∷ zs) = ap (λ (n : ℕ). count (rangeList b) (map affine (take (z .count) (z .ineqs))) + n) (kept-is b zs)
+-- the zones' valuations, as `kept` counts them where they stand
+kept-from : (b : Ranges) (l : List ℤ) (m ns : List ℕ) (n k p : ℕ) → p + k ≤ 90
+    → heldIn b (take n (K.zonesFrom l ns p k)) ≡ keptC b (take n (zonesFrom ns (cellsIn l m) p k))
+unfolding heldIn keptC K.zonesFrom zonesFrom
+kept-from b l m ns zero k p h = refl
+kept-from b l m ns (suc n) zero p h = refl
+kept-from b l m ns (suc n) (suc k) p h =
+    let e : getD (cellsIn l m) p noCell .ineqs ≡ rowsFrom l (50 * p) 24 = rows-there l m p (omega arith) in
+    λ i. count (rangeList b) (map affine (take (getD ns p 0) (sym e i))) + kept-from b l m ns n k (suc p) (omega arith) i
 
--- what a zone holds, where the ranges have few valuations
-module _ (b : Ranges) (z : Zone) (n : ℕ) (e : n ≡ min (count (rangeList b) (map affine (take (z .count) (z .ineqs)))) 18446744073709551615)
-    (h : widths (rangeList b) ≤ 262144) where
-  pub held-is : n ≡ count (rangeList b) (map affine (take (z .count) (z .ineqs)))
-  held-is = let k = count-few (rangeList b) (map affine (take (z .count) (z .ineqs))) in omega arith
+pub kept-is : (b : Ranges) (l : List ℤ) (m ns : List ℕ) (n : ℕ)
+    → heldIn b (take n (K.zonesIn l ns)) ≡ keptC b (take n (zonesAt n l m ns))
+kept-is b l m ns n =
+    kept-from b l m ns n 32 0 (omega arith)
+    ∙ ap (keptC b) (sym (take-closed blankZone n 32 (listOf ns (cellsIn l m)) (list-long ns (cellsIn l m))))
 
-module _ (b : Ranges) (zs : Zones) where
-  pub listed-refused : (a : Answer) → 0 < zs .refusal → a ≡ refusedBy (zs .refusal) (zs .visit) → blankShown a ≡ listedC b zs
+-- all valuations, where the ranges have few
+pub all-is : (b : Ranges) (l : List ℤ) (n : ℕ) → n ≡ min (count (rangeList b) (exprsIn l 0)) 18446744073709551615
+    → widths (rangeList b) ≤ 262144 → n ≡ count (rangeList b) []
+unfolding exprsFrom
+all-is b l n e h = let k = count-few (rangeList b) [] in omega arith
+
+module _ (b : Ranges) (r : Ended) (l : List ℤ) (m ns : List ℕ) where
+  pub listed-refused : (a : Answer) → 0 < r .refusal → a ≡ refusedBy (r .refusal) (r .visit) → blankShown a ≡ listedC b (endedZ r l m ns)
   unfolding listedC
-  listed-refused a h e = rw (lt-ltb 0 (zs .refusal) h, e) refl
+  listed-refused a h e =
+      refused-is ∙ ap (listedC b) (sym (ended-refused r l m ns h))
+    where
+      refused-is : blankShown a ≡ listedC b (refusedZ (r .refusal) (r .visit))
+      refused-is = rw (lt-ltb 0 (r .refusal) h, e) refl
 
-  pub listed-zones : (kept all cut : ℕ) → zs .refusal ≤ 0 → kept ≡ keptC b (take (zs .count) (zs .list)) → all ≡ count (rangeList b) []
-      → cut ≡ all - kept
+  pub listed-zones : (kept all cut : ℕ) → r .refusal ≤ 0 → kept ≡ keptC b (take (r .count) (zonesAt (r .count) l m ns))
+      → all ≡ count (rangeList b) [] → cut ≡ all - kept
       → record {
         answer = numbered 0 0;
-        counts = record { pieces = zs .count; kept = kept; cut = cut };
+        counts = record { pieces = r .count; kept = kept; cut = cut };
         ranges = b;
-        pieces = zs .count;
-        zones = zs .list;
+        pieces = r .count;
+        zones = zonesAt (r .count) l m ns;
       }
-      ≡ listedC b zs
+      ≡ listedC b (endedZ r l m ns)
   unfolding listedC
-  listed-zones kept all cut h ek ea ec = rw (le-ltb 0 (zs .refusal) h, ec, ea, ek) refl
+  listed-zones kept all cut h ek ea ec = rw (ec, ea, ek) (ap (listedC b) (sym (ended-listed r l m ns h)))
 
 -- ---- the whole reply
 pub small-reply : (file : List ℕ) (n : ℕ) → n < 32 → blankShown answer.Small ≡ shownOf (replyOf file n)

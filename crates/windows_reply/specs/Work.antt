@@ -1,14 +1,18 @@
 -- The reply as the code makes it, on its records.
 use mathlib.Core.Bool.{cond}
-use mathlib.Core.List.{List, []}
-use Prim.Native.Nat.{ℕ, _-_}
+use mathlib.Core.Path.{_≡_, refl, ap}
+use mathlib.Core.List.{List, [], _∷_, _++_}
+use Prim.Native.Nat.{ℕ, zero, suc, _-_}
+use native.Mathlib.Omega.{arith}
 use lib.Dec.{ltb, eqb}
+use lib.IntN.{ℤ}
 use lib.ListN.{length, take, replicate}
 use Rattle.answers.specs.Numbers.{numbered, windowsAs, countsOf}
 use Rattle.answers.specs.declared.Numbered.{Numbered}
 use Rattle.answers.specs.declared.windows.Answer.{Answer}
 use Rattle.answers.specs.declared.windows.Answer.the-variants as answer
 use Rattle.answers.specs.declared.windows.Counts.{Counts}
+use Rattle.cells.specs.Cells.{cellsIn}
 use Rattle.coded.specs.Records.{zonesIn}
 use Rattle.coded.specs.CodedRead.{keptC}
 use Rattle.expr.specs.Records.{rangeList, zeroRanges}
@@ -16,6 +20,7 @@ use Rattle.expr.specs.declared.range.Ranges.{Ranges}
 use Rattle.valuations.specs.Valuations.{count}
 use Rattle.windows_reply.specs.Reply.{WindowsReply}
 use Rattle.windows_reply.specs.declared.Worked.{Worked}
+use Rattle.windows_route.specs.Places.{listOf}
 use Rattle.zones.specs.Zone.{blankZone}
 use Rattle.zones.specs.declared.zone.Zone.{Zone}
 use Rattle.zones.specs.declared.zone.Zones.{Zones}
@@ -28,9 +33,19 @@ pub record Shown : Type 0 where
   pub pieces : ℕ
   pub zones : List Zone
 
-abbrev pub shown : Worked → Shown
-shown w =
-    record { answer = windowsAs (w .answer); counts = countsOf (w .answer); ranges = w .ranges; pieces = w .pieces; zones = w .zones }
+-- the first n zones that stand in lists of numbers, marks and counts, blanks behind them
+abbrev pub zonesAt : ℕ → List ℤ → List ℕ → List ℕ → List Zone
+zonesAt n l m ns = take n (listOf ns (cellsIn l m)) ++ replicate (32 - n) blankZone
+
+abbrev pub shown : Worked → List ℤ → List ℕ → List ℕ → Shown
+shown w l m ns =
+    record {
+      answer = windowsAs (w .answer);
+      counts = countsOf (w .answer);
+      ranges = w .ranges;
+      pieces = w .pieces;
+      zones = zonesAt (w .pieces) l m ns;
+    }
 
 -- a reply on the code's records
 abbrev pub shownOf : WindowsReply → Shown
@@ -61,3 +76,15 @@ listedC b zs =
       pieces = zs .count;
       zones = zs .list;
     })
+
+-- blanks behind the first n of k places do not change these
+pub take-closed : {A : Type 0} (x : A) (n k : ℕ) (l : List A) → length l ≡ k → take n (take n l ++ replicate (k - n) x) ≡ take n l
+take-closed x zero k l h = refl
+take-closed x (suc n) zero [] h =
+    let e : zero - suc n ≡ zero = omega arith in
+    rw e refl
+take-closed x (suc n) (suc k) [] h = absurd (omega arith)
+take-closed x (suc n) zero (y ∷ l) h = absurd (omega arith)
+take-closed {A = A} x (suc n) (suc k) (y ∷ l) h =
+    let e : suc k - suc n ≡ k - n = omega arith in
+    rw e (ap (λ (r : List A). y ∷ r) (take-closed x n k l (omega arith)))

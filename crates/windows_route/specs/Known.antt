@@ -26,7 +26,13 @@ use Rattle.zones.specs.declared.zone.Zone.{Zone}
 -- what is read past the end of a list of hints
 abbrev pub noHint : Hint
 noHint =
-    record { ranges = record { list = [] }; guess = record { numbers = [] }; nogoods = record { list = []; next = 0 } }
+    record {
+      ranges = record { list = [] };
+      guess = record { numbers = [] };
+      sure = false;
+      other = record { numbers = [] };
+      nogoods = record { list = []; next = 0 };
+    }
 
 -- each zone has its hint: those that are listed, those that are still to be taken up, and those of the parts that wait
 pub record Known (b : Ranges) (list : List Zone) (hints : List Hint) (spare : List Zone) (spares : List Hint) (stack : List Part)
@@ -44,16 +50,23 @@ pub record Known (b : Ranges) (list : List Zone) (hints : List Hint) (spare : Li
 
 -- ---- what a zone has does not depend on its matrix
 pub hinted-bounds : (b : Ranges) (z y : Zone) (m : List Bound) (h : Hint) → y ≡ withBounds z m → Hinted b z h → Hinted b y h
-hinted-bounds b z y m h e k = rw e (record { narrows = k .narrows; trusted = k .trusted })
+hinted-bounds b z y m h e k = rw e (record {
+  narrows = k .narrows;
+  trusted = record {
+    nogoods = k .trusted .nogoods;
+    guess = k .trusted
+        .guess;
+  };
+})
 
 hinted-changed : (b : Ranges) (st : Step) (w : ℕ) (z : Zone) (h : Hint) → Hinted b z h → Hinted b (changedC st w z) h
 unfolding changedC
 hinted-changed b st w z h k = by (ltb (st .kind) 1) (ltb (st .kind) 2)
   where
     by : (s t : Bool) → Hinted b (cond s (delayedZone w z) (cond t z (resetsZone w (st .bits) z))) h
-    by true t = record { narrows = k .narrows; trusted = k .trusted }
+    by true t = record { narrows = k .narrows; trusted = record { nogoods = k .trusted .nogoods; guess = k .trusted .guess } }
     by false true = k
-    by false false = record { narrows = k .narrows; trusted = k .trusted }
+    by false false = record { narrows = k .narrows; trusted = record { nogoods = k .trusted .nogoods; guess = k .trusted .guess } }
 
 pub hinted-part : (b : Ranges) (st : Step) (w : ℕ) (z : Zone) (h : Hint) → Hinted b z h → Hinted b (partC st w z .zone) h
 unfolding partC
@@ -141,29 +154,29 @@ module _ (b : Ranges) (list : List Zone) (hints : List Hint) (spare : List Zone)
         waiting = λ x g. n .waiting x (omega arith);
       }
 
-  pub known-passed : s .i ≡ s .kept → s .i < s .n → Known b list hints spare spares stack waits (passedC s)
-  known-passed e more =
+  pub known-passed : s .i ≡ s .kept → s .i < s .n → s .kept < 32 → (z : Zone) (h : Hint) → Hinted b z h
+      → Known b (set list (s .kept) z) (set hints (s .kept) h) spare spares stack waits (passedC s)
+  known-passed e more room z h k =
       record {
-        long = n .long;
-        hints-long = n .hints-long;
+        long = length-set list (s .kept) z ∙ n .long;
+        hints-long = length-set hints (s .kept) h ∙ n .hints-long;
         spare-long = n .spare-long;
         spares-long = n .spares-long;
         stack-long = n .stack-long;
         waits-long = n .waits-long;
-        listed = λ x g. by x g (eqb x (s .kept)) refl;
+        listed = λ x g. put x (λ o. n .listed x (less x (s .kept) g o));
         spared = λ x g i m. absurd (omega arith);
-        ahead = λ x g i m. n .ahead x (omega arith) i (omega arith);
+        ahead = λ x g i m. put x (λ o. n .ahead x (omega arith) i (omega arith));
         waiting = n .waiting;
       }
     where
       less : (x k : ℕ) → x < k + 1 → (x ≡ k → ⊥) → x < k
       less x k h o = omega (arith, o)
 
-      by : (x : ℕ) → x < s .kept + 1 → (t : Bool) → eqb x (s .kept) ≡ t → Hinted b (getD list x noZone) (getD hints x noHint)
-      by x g true q =
-          let same = eqb-true x (s .kept) q in
-          n .ahead x (omega arith) (omega arith) (omega arith)
-      by x g false q = n .listed x (less x (s .kept) g (eqb-false x (s .kept) q))
+      put : (x : ℕ) → ((x ≡ s .kept → ⊥) → Hinted b (getD list x noZone) (getD hints x noHint))
+          → Hinted b (getD (set list (s .kept) z) x noZone) (getD (set hints (s .kept) h) x noHint)
+      put x =
+          set-both (zoneHinted b) list hints noZone noHint (s .kept) z h (omega (arith, n .long)) (omega (arith, n .hints-long)) k x
 
   pub known-loaded : (p : Part) (h : Hint) → Hinted b (p .zone) h
       → Known b list hints spare spares (set stack 0 p) (set waits 0 h) (loadedC s)

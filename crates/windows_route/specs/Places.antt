@@ -1,15 +1,12 @@
--- The zones and parts that stand in cells: zones at 0 to 31, spared ones at 32 to 63, the stack of parts at 64 to 88, and at 89 the zone that
--- they are parts of.
-use mathlib.Core.Path.{_≡_, refl, sym, ap, _∙_}
-use mathlib.Core.Bool.{Bool, true, false}
+-- The zones and parts that stand in cells: zones at 0 to 31, spared ones at 32 to 63, the stack of parts at 64 to 88, and at 89 the zone
+-- that they are parts of.
+use mathlib.Core.Path.{_≡_, refl, ap, _∙_}
 use mathlib.Core.List.{List, [], _∷_}
-use Prim.Native.Nat.{ℕ, zero, suc, _+_, _*_, _%_, _≤_, _<_}
+use Prim.Native.Nat.{ℕ, zero, suc, _+_, _*_, _%_, _<_}
 use native.Mathlib.Omega.{arith}
-use borrow.Author.Tests.{eqb-true, eqb-false}
 use lib.Dec.{ltb, eqb}
 use lib.IntN.{ℤ, pos}
-use lib.ListN.{length, getD, set, replicate, length-set}
-use lib.Seq.{getD-set-same, getD-set-other}
+use lib.ListN.{length, getD, replicate}
 use Rattle.cells.specs.Cells.{Cell, noCell, rowAt, rowsFrom, boundOn, boundsFrom, cellAt, cellsIn, zoneOf}
 use Rattle.cells.specs.CellLaws.{cells-at}
 use Rattle.expr.specs.Records.{noExpr, zeroExpr, zeroBound}
@@ -116,29 +113,3 @@ module _ (l : List ℤ) (m : List ℕ) (hl : (i : ℕ) → getD l i (pos 0) ≡ 
   blank-zone ns x h hn =
       ap (zoneOf (getD ns x 0)) (cells-at l m x h)
       ∙ (λ i. record { count = hn x i; ineqs = rows-zero 24 (50 * x) i; bounds = bounds-zero 25 (50 * x + 25) (25 * x) i })
-
--- ---- zones that are listed one after another, blanks behind them
-pub record Filled (all : List Zone) (n i : ℕ) (now : List Zone) : Type 0 where
-  pub long : length now ≡ 32
-  pub few : i ≤ n
-  pub front : (x : ℕ) → x < i → getD now x noZone ≡ getD all x noZone
-  pub back : (x : ℕ) → i ≤ x → x < 32 → getD now x noZone ≡ blankZone
-
-pub filled-turn : (all : List Zone) (n i : ℕ) (now : List Zone) (z : Zone) → Filled all n i now → i < n → n ≤ 32
-    → z ≡ getD all i noZone → Filled all n (i + 1) (set now i z)
-filled-turn all n i now z f h most e =
-    record {
-      long = length-set now i z ∙ f .long;
-      few = omega arith;
-      front = λ x g. by x g (eqb x i) refl;
-      back = λ x g k. getD-set-other now i x z noZone (λ s. omega arith) ∙ f .back x (omega arith) k;
-    }
-  where
-    less : (x : ℕ) → x < i + 1 → (x ≡ i → ⊥) → x < i
-    less x g o = omega (arith, o)
-
-    by : (x : ℕ) → x < i + 1 → (t : Bool) → eqb x i ≡ t → getD (set now i z) x noZone ≡ getD all x noZone
-    by x g true s =
-        let same = eqb-true x i s in
-        rw same (getD-set-same now i z noZone (omega (arith, f .long)) ∙ e)
-    by x g false s = let o = eqb-false x i s in getD-set-other now i x z noZone o ∙ f .front x (less x g o)

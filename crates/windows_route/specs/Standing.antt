@@ -1,6 +1,6 @@
 -- Where the walk stands, in cells: the lists of `Walking` place by place.
 use mathlib.Core.Path.{_≡_, refl, sym, ap, subst, _∙_}
-use mathlib.Core.Bool.{Bool, true, false, cond}
+use mathlib.Core.Bool.{Bool, true, false, cond, true≢false}
 use mathlib.Core.List.{List, [], _∷_}
 use Prim.Native.Nat.{ℕ, zero, suc, _+_, _-_, _*_, _≤_, _<_}
 use native.Mathlib.Omega.{arith}
@@ -16,7 +16,7 @@ use Rattle.constrain.specs.declared.rule.Rule.{Rule}
 use Rattle.expr.specs.Records.{rangeList}
 use Rattle.expr.specs.declared.range.Ranges.{Ranges}
 use Rattle.guards.specs.declared.Guard.{Guard}
-use Rattle.idle.specs.Idle.{Idle}
+use Rattle.idle.specs.Idle.{Leaves}
 use Rattle.parting.specs.Halves.{yesCell, noHalf, halvesC}
 use Rattle.parting.specs.HalfLaws.{no-is, yes-is}
 use Rattle.parts.specs.Parts.{withBounds, yesC, noC}
@@ -41,7 +41,7 @@ use Rattle.steps.specs.Taken.{changedB, taskC, takenC, taken-old, taken-other, 
 use Rattle.steps.specs.declared.step.Step.{Step}
 use Rattle.steps.specs.declared.step.Steps.{Steps}
 use Rattle.systems.specs.Boxes.{Narrows}
-use Rattle.windows_route.specs.Known.{noHint}
+use Rattle.windows_route.specs.Known.{noHint, hinted-bounds}
 use Rattle.windows_route.specs.Places.{
   noTask,
   zoneIn,
@@ -60,7 +60,9 @@ use Rattle.windows_route.specs.Walking.{refused-ends, room-listed, room-
 use Rattle.windows_route.specs.Walking.{walking-dropped, walking-listed, walking-split, walking-stepped}
 use Rattle.windows_route.specs.Walking.{walking-passed, walking-loaded, taken-spare, taken-list, Taken}
 use Rattle.windows_route.specs.Walking.{way-split, way-dropped, way-listed, way-stepped, way-passed, way-loaded}
-use Rattle.zones.specs.Hinted.{exprsOf, Hinted}
+use Rattle.staying.specs.Stays.{Stays}
+use Rattle.staying.specs.declared.Stood.{Stood}
+use Rattle.zones.specs.Hinted.{exprsOf, Guessed, Hinted}
 use Rattle.zones.specs.Zone.{blankZone}
 use Rattle.zones.specs.declared.hint.Hint.{Hint}
 use Rattle.zones.specs.declared.zone.Zone.{Zone}
@@ -422,10 +424,11 @@ module _ {s : Sheet} {end : ℕ} {here : Location} {steps : Steps} {l : List ℤ
         module _ (l₂ : List ℤ) (m₂ : List ℕ) (hl₂ : length l₂ ≡ 22500) (hm₂ : length m₂ ≡ 2250)
             (e₂ : cellsIn l₂ m₂ ≡ halvesC (ruleAt cs′ 89 g) cs′ top n t) (no yes : Hint)
             (nn : Narrows (exprsOf (zoneOf (n + 1) (getD (cellsIn l₂ m₂) top noCell))) (rangeList (s .ranges)) (rangeList (no .ranges)))
-            (sn : no .nogoods ≡ h .nogoods)
+            (dn : Guessed (zoneOf (n + 1) (getD (cellsIn l₂ m₂) top noCell)) no) (sn : no .nogoods ≡ h .nogoods)
             (ny : Narrows (exprsOf (zoneOf (n + 1) (getD (cellsIn l₂ m₂) (top + 1) noCell))) (rangeList (s .ranges))
             (rangeList (yes .ranges)))
-            (sy : yes .nogoods ≡ h .nogoods) (ta tb : Task) (ha : ta ≡ answeredT t 0) (hb : tb ≡ answeredT t 1) where
+            (dy : Guessed (zoneOf (n + 1) (getD (cellsIn l₂ m₂) (top + 1) noCell)) yes) (sy : yes .nogoods ≡ h .nogoods) (ta tb : Task)
+            (ha : ta ≡ answeredT t 0) (hb : tb ≡ answeredT t 1) where
           abbrev csₛ : List Cell
           csₛ = cellsIn l₂ m₂
 
@@ -552,6 +555,12 @@ module _ {s : Sheet} {end : ℕ} {here : Location} {steps : Steps} {l : List ℤ
           narrow-yes =
               subst (λ (c : Cell). Narrows (exprsOf (zoneOf (n + 1) c)) (rangeList (s .ranges)) (rangeList (yes .ranges))) at-yes ny
 
+          held-no : Guessed (zoneOf (n + 1) (getD csₛ top noCell)) no → Guessed (zoneOf (n + 1) noC′) no
+          held-no = subst (λ (c : Cell). Guessed (zoneOf (n + 1) c) no) at-no
+
+          held-yes : Guessed (zoneOf (n + 1) (getD csₛ (top + 1) noCell)) yes → Guessed (zoneOf (n + 1) yesC′) yes
+          held-yes = subst (λ (c : Cell). Guessed (zoneOf (n + 1) c) yes) at-yes
+
           pub stopped-split : (p′ : Pass) → p′ ≡ pushedC p
               → Standing s end here steps l₂ m₂ nsₛ hs tsₛ (set (set ws d no) (d + 1) yes) g p′ k
               × (wayIn end k steps l₂ m₂ nsₛ tsₛ p′ < wayIn end k steps l m ns ts p)
@@ -571,7 +580,8 @@ module _ {s : Sheet} {end : ℕ} {here : Location} {steps : Steps} {l : List ℤ
                   spares = st .spares;
                   stack = stackₛ;
                   rule = st .rule;
-                  walking = walking-split run-of f noP yesP is-no is-yes no yes narrow-no sn narrow-yes sy (pushedC p) refl;
+                  walking = walking-split run-of f noP yesP is-no is-yes no yes narrow-no (held-no dn) sn narrow-yes (held-yes dy) sy
+                      (pushedC p) refl;
                   on-list = λ x o. st .on-list x o ∙ apart x (λ u. omega arith) (λ u. omega arith);
                   on-spare = λ x o. st .on-spare x o ∙ apart (32 + x) (λ u. omega arith) (λ u. omega arith);
                   on-hints = st .on-hints;
@@ -684,30 +694,97 @@ module _ {s : Sheet} {end : ℕ} {here : Location} {steps : Steps} {l : List ℤ
           by true = omega (arith, in-list)
           by false = omega (arith, in-list)
 
-      -- it passes by
-      pub standing-passed : p .i ≡ p .kept
-          → ((n : ℕ) (b : Ranges) → Hinted b (zoneOf n (getD (cellsIn l m) (p .i) noCell)) (getD hs from noHint)
-          → (w : ℕ) → Idle b w step (zoneOf n (getD (cellsIn l m) (p .i) noCell)))
-          → (p′ : Pass) → p′ ≡ passedC p
-          → Standing s end here steps l m ns hs ts ws g p′ k × (wayIn end k steps l m ns ts p′ < wayIn end k steps l m ns ts p)
-      standing-passed there leaves p′ e =
-          subst
-          (λ (x : Pass).
-          Standing s end here steps l m ns hs ts ws g x k × (wayIn end k steps l m ns ts x < wayIn end k steps l m ns ts p))
-          (sym e)
-          (again (passedC p) k idle (walking-passed free more there quiet (passedC p) refl) (way-passed free more (passedC p) refl))
-        where
-          same : from ≡ p .i
-          same = rw (le-ltb (p .i) (p .kept) (omega arith)) refl
+      -- what is left of it stays where it stands
+      module _ (there : p .i ≡ p .kept) (l₂ : List ℤ) (m₂ : List ℕ) (hl₂ : length l₂ ≡ 22500) (hm₂ : length m₂ ≡ 2250) (o : Stood)
+          (is : Stays (cellsIn l m) (cellsIn l₂ m₂) (p .i) (s .clocks) step (getD ns (p .i) 0) (getD hs (p .i) noHint) o)
+          (kept : o .kept ≡ true) where
+        abbrev spot : ℕ
+        spot = p .kept
 
-          quiet : (b : Ranges) → Hinted b (getD (st .list) (p .i) noZone) (getD (st .hints) (p .i) noHint) → (v : ℕ)
-              → Idle b v step (getD (st .list) (p .i) noZone)
-          quiet b h v =
-              subst (Idle b v step) (sym (st .on-list (p .i) in-list))
-              (leaves (getD ns (p .i) 0) b
-              (subst (λ (z : Zone). Hinted b z (getD hs from noHint)) (st .on-list (p .i) in-list)
-              (subst (Hinted b (getD (st .list) (p .i) noZone))
-              (st .on-hints (p .i) in-list ∙ ap (λ (x : ℕ). getD hs x noHint) (sym same)) h)) v)
+        abbrev left : Zone
+        left = zoneIn ns (cellsIn l₂ m₂) (p .i)
+
+        few-kept : spot < 32
+        few-kept = omega (arith, in-list)
+
+        known-before : Hinted (s .ranges) (zoneIn ns (cellsIn l m) (p .i)) (getD hs (p .i) noHint)
+        known-before =
+            subst (λ (z : Zone). Hinted (s .ranges) z (getD hs (p .i) noHint)) (st .on-list (p .i) in-list)
+            (subst (Hinted (s .ranges) (getD (st .list) (p .i) noZone)) (st .on-hints (p .i) in-list)
+            (st .walking .known .ahead (p .i) (omega arith) more (omega arith)))
+
+        known-left : Hinted (s .ranges) left (o .hint)
+        known-left =
+            hinted-bounds (s .ranges) (zoneIn ns (cellsIn l m) (p .i)) left (getD (cellsIn l₂ m₂) (p .i) noCell .bounds) (o .hint)
+            (ap (zoneOf (getD ns (p .i) 0)) (is .matrix)) (is .known (s .ranges) known-before)
+
+        leaves : Leaves (s .ranges) (s .clocks) step (getD (st .list) (p .i) noZone) left
+        leaves =
+            subst (λ (z : Zone). Leaves (s .ranges) (s .clocks) step z left) (sym (st .on-list (p .i) in-list))
+            (is .left kept (s .ranges) known-before)
+
+        lists-on : (x : ℕ) → x < 32 → (b : Bool) → eqb x spot ≡ b → getD (set (st .list) spot left) x noZone ≡ zoneIn ns (cellsIn l₂ m₂) x
+        lists-on x f true e =
+            let same = eqb-true x spot e in
+            rw same
+            (getD-set-same (st .list) spot left noZone (omega (arith, st .walking .machine .long, in-list))
+            ∙ ap (zoneIn ns (cellsIn l₂ m₂)) there)
+        lists-on x f false e =
+            let apart = eqb-false x spot e in
+            getD-set-other (st .list) spot x left noZone apart ∙ st .on-list x f
+            ∙ zone-same ns ns (cellsIn l m) (cellsIn l₂ m₂) x refl
+            (is .others x (λ u. apart (u ∙ there)) (λ u. omega arith))
+
+        hints-now : (x : ℕ) → x < 32 → (b : Bool) → eqb x spot ≡ b
+            → getD (set (st .hints) spot (o .hint)) x noHint ≡ getD (set hs (p .i) (o .hint)) x noHint
+        hints-now x f true e =
+            let same = eqb-true x spot e in
+            rw same
+            (getD-set-same (st .hints) spot (o .hint) noHint (omega (arith, st .walking .known .hints-long, in-list))
+            ∙ sym (ap (λ (y : ℕ). getD (set hs (p .i) (o .hint)) y noHint) (sym there)
+            ∙ getD-set-same hs (p .i) (o .hint) noHint (omega (arith, st .hints-long, in-list))))
+        hints-now x f false e =
+            let apart = eqb-false x spot e in
+            getD-set-other (st .hints) spot x (o .hint) noHint apart ∙ st .on-hints x f
+            ∙ sym (getD-set-other hs (p .i) x (o .hint) noHint (λ u. apart (u ∙ there)))
+
+        pub standing-stays : (p′ : Pass) → p′ ≡ passedC p
+            → Standing s end here steps l₂ m₂ ns (set hs (p .i) (o .hint)) ts ws g p′ k
+            × (wayIn end k steps l₂ m₂ ns ts p′ < wayIn end k steps l m ns ts p)
+        standing-stays p′ e =
+            subst
+            (λ (x : Pass).
+            Standing s end here steps l₂ m₂ ns (set hs (p .i) (o .hint)) ts ws g x k
+            × (wayIn end k steps l₂ m₂ ns ts x < wayIn end k steps l m ns ts p))
+            (sym e) (
+              record {
+                cells-long = hl₂;
+                marks-long = hm₂;
+                counts-long = st .counts-long;
+                hints-long = length-set hs (p .i) (o .hint) ∙ st .hints-long;
+                tasks-long = st .tasks-long;
+                few = st .few;
+                list = set (st .list) spot left;
+                spare = st .spare;
+                hints = set (st .hints) spot (o .hint);
+                spares = st .spares;
+                stack = st .stack;
+                rule = st .rule;
+                walking = walking-passed free more there left (o .hint) leaves known-left (passedC p) refl;
+                on-list = λ x f. lists-on x f (eqb x spot) refl;
+                on-spare = λ x f.
+                    st .on-spare x f
+                    ∙ zone-same ns ns (cellsIn l m) (cellsIn l₂ m₂) (32 + x) refl
+                    (is .others (32 + x) (λ u. omega (arith, in-list)) (λ u. omega arith));
+                on-hints = λ x f. hints-now x f (eqb x spot) refl;
+                on-spares = λ x f.
+                    st .on-spares x f ∙ sym (getD-set-other hs (p .i) (32 + x) (o .hint) noHint (λ u. omega (arith, in-list)));
+                on-stack = λ x f. absurd (omega arith);
+                on-rule = λ f. absurd (omega arith);
+              },
+              way-less end k k steps steps l l₂ m m₂ ns ns ts ts p (passedC p) (st .stack) (st .stack) deep-few (omega arith)
+                  (st .on-stack) (λ x f. absurd (omega arith)) (way-passed free more (passedC p) refl),
+            )
 
       -- it is taken up
       took : Taken free more (zoneIn ns (cellsIn l m) from) (getD hs from noHint)
@@ -726,7 +803,12 @@ module _ {s : Sheet} {end : ℕ} {here : Location} {steps : Steps} {l : List ℤ
 
       module _ (l₂ : List ℤ) (m₂ : List ℕ) (hl₂ : length l₂ ≡ 22500) (hm₂ : length m₂ ≡ 2250)
           (e₂ : cellsIn l₂ m₂ ≡ takenC (cellsIn l m) from (s .clocks) step) (t : Task) (ht : t ≡ taskC step) (g₂ : Guarding)
-          (hg : g₂ ≡ guardingC (s .clocks) (step .guard)) where
+          (hg : g₂ ≡ guardingC (s .clocks) (step .guard)) (h₂ : Hint)
+          (kh : Hinted (s .ranges) (zoneIn ns (cellsIn l m) from) (getD hs from noHint)
+          → Hinted (s .ranges) (zoneIn ns (cellsIn l m) from) h₂) where
+        took₂ : Taken free more (zoneIn ns (cellsIn l m) from) h₂
+        took₂ = record { zone = took .zone; hint = kh (took .hint) }
+
         abbrev c₀ : Cell
         c₀ = getD (cellsIn l m) from noCell
 
@@ -767,12 +849,12 @@ module _ {s : Sheet} {end : ℕ} {here : Location} {steps : Steps} {l : List ℤ
         stack-one (suc x) o = absurd (omega arith)
 
         pub standing-loaded : (p′ : Pass) → p′ ≡ loadedC p
-            → Standing s end here steps l₂ m₂ nsₗ hs (set ts 0 t) (set ws 0 (getD hs from noHint)) g₂ p′ k
+            → Standing s end here steps l₂ m₂ nsₗ hs (set ts 0 t) (set ws 0 h₂) g₂ p′ k
             × (wayIn end k steps l₂ m₂ nsₗ (set ts 0 t) p′ < wayIn end k steps l m ns ts p)
         standing-loaded p′ e =
             subst
             (λ (x : Pass).
-            Standing s end here steps l₂ m₂ nsₗ hs (set ts 0 t) (set ws 0 (getD hs from noHint)) g₂ x k
+            Standing s end here steps l₂ m₂ nsₗ hs (set ts 0 t) (set ws 0 h₂) g₂ x k
             × (wayIn end k steps l₂ m₂ nsₗ (set ts 0 t) x < wayIn end k steps l m ns ts p))
             (sym e) (
               record {
@@ -789,7 +871,7 @@ module _ {s : Sheet} {end : ℕ} {here : Location} {steps : Steps} {l : List ℤ
                 stack = set (st .stack) 0 part₀;
                 rule = rule₀;
                 walking =
-                    walking-loaded free more (zoneIn ns (cellsIn l m) from) (getD hs from noHint) took part₀ refl rule₀ refl (loadedC
+                    walking-loaded free more (zoneIn ns (cellsIn l m) from) h₂ took₂ part₀ refl rule₀ refl (loadedC
                     p) refl;
                 on-list = λ x o. st .on-list x o ∙ stays x (λ u. omega arith) (λ u. omega arith);
                 on-spare = λ x o. st .on-spare x o ∙ stays (32 + x) (λ u. omega arith) (λ u. omega arith);
@@ -805,24 +887,123 @@ module _ {s : Sheet} {end : ℕ} {here : Location} {steps : Steps} {l : List ℤ
                   (omega arith) (st .on-stack) stack-one (way-loaded free more part₀ (loadedC p) refl),
             )
 
+-- a zone that stays was to stay where it stands
+pub stays-there : (i k : ℕ) {c d : Bool} → c ≡ eqb i k → (c ≡ false → d ≡ false) → d ≡ true → i ≡ k
+stays-there i k {c} {d} hc not kept = eqb-true i k (sym hc ∙ so c refl)
+  where
+    so : (b : Bool) → c ≡ b → b ≡ true
+    so true e = refl
+    so false e = absurd (true≢false (sym kept ∙ not e))
+
 -- the same, from a place that is told apart
 module _ {s : Sheet} {end : ℕ} {here : Location} {steps : Steps} {l : List ℤ} {m ns : List ℕ} {hs : List Hint} {ts : List Task}
     {ws : List Hint} {g : Guarding} {p : Pass} {k : ℕ} (st : Standing s end here steps l m ns hs ts ws g p k) (go : p .j < steps .count)
     (idle : p .depth ≤ 0) (step : Step) (hs′ : step ≡ getD (steps .list) (p .j) noStep) (more : p .i < p .n) (y : ℕ)
     (hy : y ≡ cond (ltb (p .i) (p .kept)) (32 + p .i) (p .i)) where
-  pub loaded-at : (l₂ : List ℤ) (m₂ : List ℕ) → length l₂ ≡ 22500 → length m₂ ≡ 2250
-      → cellsIn l₂ m₂ ≡ takenC (cellsIn l m) y (s .clocks) step → (t : Task) → t ≡ taskC step → (g₂ : Guarding)
-      → g₂ ≡ guardingC (s .clocks) (step .guard) → (p′ : Pass) → p′ ≡ loadedC p
-      → Standing s end here steps l₂ m₂ (set ns 64 (getD ns y 0)) hs (set ts 0 t) (set ws 0 (getD hs y noHint)) g₂ p′ k
-      × (wayIn end k steps l₂ m₂ (set ns 64 (getD ns y 0)) (set ts 0 t) p′ < wayIn end k steps l m ns ts p)
-  loaded-at l₂ m₂ hl hm e t ht g₂ hg p′ ep =
-      subst
-      (λ (x : ℕ).
-      Standing s end here steps l₂ m₂ (set ns 64 (getD ns x 0)) hs (set ts 0 t) (set ws 0 (getD hs x noHint)) g₂ p′ k
-      × (wayIn end k steps l₂ m₂ (set ns 64 (getD ns x 0)) (set ts 0 t) p′ < wayIn end k steps l m ns ts p))
-      (sym hy)
-      (standing-loaded st go idle step hs′ more l₂ m₂ hl hm (e ∙ ap (λ (x : ℕ). takenC (cellsIn l m) x (s .clocks) step) hy) t ht g₂ hg
-      p′ ep)
+  y-few : y < 64
+  y-few = subst (λ (x : ℕ). x < 64) (sym hy) (from-few st go idle step hs′ more)
+
+  -- its hint
+  pub hinted-at : Hinted (s .ranges) (zoneIn ns (cellsIn l m) y) (getD hs y noHint)
+  hinted-at =
+      subst (λ (x : ℕ). Hinted (s .ranges) (zoneIn ns (cellsIn l m) x) (getD hs x noHint)) (sym hy)
+      (took st go idle step hs′ more .hint)
+
+  module _ (l₁ : List ℤ) (m₁ : List ℕ) (hl₁ : length l₁ ≡ 22500) (hm₁ : length m₁ ≡ 2250) (o : Stood)
+      (is : Stays (cellsIn l m) (cellsIn l₁ m₁) y (s .clocks) step (getD ns y 0) (getD hs y noHint) o) where
+    -- it stays where it stands
+    pub stays-at : (c : Bool) → c ≡ eqb (p .i) (p .kept) → (c ≡ false → o .kept ≡ false) → o .kept ≡ true → (p′ : Pass) → p′ ≡ passedC p
+        → Standing s end here steps l₁ m₁ ns (set hs (p .i) (o .hint)) ts ws g p′ k
+        × (wayIn end k steps l₁ m₁ ns ts p′ < wayIn end k steps l m ns ts p)
+    stays-at c hc not kept =
+        standing-stays st go idle step hs′ more there l₁ m₁ hl₁ hm₁ o
+        (subst (λ (x : ℕ). Stays (cellsIn l m) (cellsIn l₁ m₁) x (s .clocks) step (getD ns x 0) (getD hs x noHint) o) from-is is) kept
+      where
+        there : p .i ≡ p .kept
+        there = stays-there (p .i) (p .kept) hc not kept
+
+        from-is : y ≡ p .i
+        from-is = hy ∙ rw (le-ltb (p .i) (p .kept) (omega (arith, there))) refl
+
+    -- it is as it was
+    module _ (not : o .kept ≡ false) where
+      same-cell : (x : ℕ) → (x ≡ 89 → ⊥) → getD (cellsIn l₁ m₁) x noCell ≡ getD (cellsIn l m) x noCell
+      same-cell x a = by (eqb x y) refl
+        where
+          by : (b : Bool) → eqb x y ≡ b → getD (cellsIn l₁ m₁) x noCell ≡ getD (cellsIn l m) x noCell
+          by true e = subst (λ (z : ℕ). getD (cellsIn l₁ m₁) z noCell ≡ getD (cellsIn l m) z noCell) (sym (eqb-true x y e)) (is .back not)
+          by false e = is .others x (eqb-false x y e) a
+
+      same-zone : (x : ℕ) → (x ≡ 89 → ⊥) → zoneIn ns (cellsIn l m) x ≡ zoneIn ns (cellsIn l₁ m₁) x
+      same-zone x a = zone-same ns ns (cellsIn l m) (cellsIn l₁ m₁) x refl (same-cell x a)
+
+      nothing : (x : ℕ) → x < p .depth → getD (st .stack) x noPart ≡ partIn ts ns (cellsIn l₁ m₁) x
+      nothing x f = absurd (omega arith)
+
+      standing-back : Standing s end here steps l₁ m₁ ns hs ts ws g p k
+      standing-back =
+          record {
+            cells-long = hl₁;
+            marks-long = hm₁;
+            counts-long = st .counts-long;
+            hints-long = st .hints-long;
+            tasks-long = st .tasks-long;
+            few = st .few;
+            list = st .list;
+            spare = st .spare;
+            hints = st .hints;
+            spares = st .spares;
+            stack = st .stack;
+            rule = st .rule;
+            walking = st .walking;
+            on-list = λ x f. st .on-list x f ∙ same-zone x (λ u. omega arith);
+            on-spare = λ x f. st .on-spare x f ∙ same-zone (32 + x) (λ u. omega arith);
+            on-hints = st .on-hints;
+            on-spares = st .on-spares;
+            on-stack = nothing;
+            on-rule = λ f. absurd (omega arith);
+          }
+
+      back-way : wayIn end k steps l₁ m₁ ns ts p ≡ wayIn end k steps l m ns ts p
+      back-way =
+          sym (way-same end k steps l₁ m₁ ns ts p (st .stack) (st .walking .machine .turned .few) nothing)
+          ∙ way-same end k steps l m ns ts p (st .stack) (st .walking .machine .turned .few) (st .on-stack)
+
+      known-back : Hinted (s .ranges) (zoneIn ns (cellsIn l₁ m₁) y) (getD hs y noHint)
+          → Hinted (s .ranges) (zoneIn ns (cellsIn l₁ m₁) y) (o .hint)
+      known-back h =
+          let same = same-zone y (λ u. omega (arith, y-few)) in
+          subst (λ (z : Zone). Hinted (s .ranges) z (o .hint)) same
+          (is .known (s .ranges) (subst (λ (z : Zone). Hinted (s .ranges) z (getD hs y noHint)) (sym same) h))
+
+      pub loaded-at : (l₂ : List ℤ) (m₂ : List ℕ) → length l₂ ≡ 22500 → length m₂ ≡ 2250
+          → cellsIn l₂ m₂ ≡ takenC (cellsIn l₁ m₁) y (s .clocks) step → (t : Task) → t ≡ taskC step → (g₂ : Guarding)
+          → g₂ ≡ guardingC (s .clocks) (step .guard) → (p′ : Pass) → p′ ≡ loadedC p
+          → Standing s end here steps l₂ m₂ (set ns 64 (getD ns y 0)) hs (set ts 0 t) (set ws 0 (o .hint)) g₂ p′ k
+          × (wayIn end k steps l₂ m₂ (set ns 64 (getD ns y 0)) (set ts 0 t) p′ < wayIn end k steps l m ns ts p)
+      loaded-at l₂ m₂ hl hm e t ht g₂ hg p′ ep =
+          subst
+          (λ (w : ℕ).
+          Standing s end here steps l₂ m₂ (set ns 64 (getD ns y 0)) hs (set ts 0 t) (set ws 0 (o .hint)) g₂ p′ k
+          × (wayIn end k steps l₂ m₂ (set ns 64 (getD ns y 0)) (set ts 0 t) p′ < w))
+          back-way (at-place y hy e known-back)
+        where
+          at-place : (x : ℕ) → x ≡ cond (ltb (p .i) (p .kept)) (32 + p .i) (p .i)
+              → cellsIn l₂ m₂ ≡ takenC (cellsIn l₁ m₁) x (s .clocks) step
+              → (Hinted (s .ranges) (zoneIn ns (cellsIn l₁ m₁) x) (getD hs x noHint)
+              → Hinted (s .ranges) (zoneIn ns (cellsIn l₁ m₁) x) (o .hint))
+              → Standing s end here steps l₂ m₂ (set ns 64 (getD ns x 0)) hs (set ts 0 t) (set ws 0 (o .hint)) g₂ p′ k
+              × (wayIn end k steps l₂ m₂ (set ns 64 (getD ns x 0)) (set ts 0 t) p′ < wayIn end k steps l₁ m₁ ns ts p)
+          at-place x hx f kh =
+              subst
+              (λ (x : ℕ).
+              cellsIn l₂ m₂ ≡ takenC (cellsIn l₁ m₁) x (s .clocks) step
+              → (Hinted (s .ranges) (zoneIn ns (cellsIn l₁ m₁) x) (getD hs x noHint)
+              → Hinted (s .ranges) (zoneIn ns (cellsIn l₁ m₁) x) (o .hint))
+              → Standing s end here steps l₂ m₂ (set ns 64 (getD ns x 0)) hs (set ts 0 t) (set ws 0 (o .hint)) g₂ p′ k
+              × (wayIn end k steps l₂ m₂ (set ns 64 (getD ns x 0)) (set ts 0 t) p′ < wayIn end k steps l₁ m₁ ns ts p))
+              (sym hx)
+              (λ f kh. standing-loaded standing-back go idle step hs′ more l₂ m₂ hl hm f t ht g₂ hg (o .hint) kh p′ ep) f kh
 
 -- ---- the start
 pub standing-starts : (s : Sheet) (n : ℕ) (at : Location) (first : Segment) (h w : Hint) (t : Task) (g : Guarding) (p : Pass)

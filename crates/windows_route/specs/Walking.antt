@@ -13,7 +13,7 @@ use Rattle.automaton.specs.declared.Location.{Location}
 use Rattle.constrain.specs.declared.rule.Rule.{Rule}
 use Rattle.expr.specs.declared.range.Ranges.{Ranges}
 use Rattle.parts.specs.declared.part.Part.{Part}
-use Rattle.idle.specs.Idle.{Idle}
+use Rattle.idle.specs.Idle.{Leaves}
 use Rattle.parts.specs.Parts.{withBounds, yesC, noC}
 use Rattle.passing.specs.Laws.{steps-stick}
 use Rattle.passing.specs.Machine.{Machine, noStep, machine-starts, machine-ends, ends-fit, pending-spare, pending-list}
@@ -42,7 +42,7 @@ use Rattle.windows_route.specs.Known.{known-pushed, known-listed, hinted
 use Rattle.systems.specs.Boxes.{Narrows}
 use Rattle.expr.specs.Records.{rangeList}
 use Rattle.zones.specs.Fits.{Fewer, hinted-fewer}
-use Rattle.zones.specs.Hinted.{exprsOf, Hinted}
+use Rattle.zones.specs.Hinted.{exprsOf, Guessed, Hinted}
 use Rattle.zones.specs.Zone.{blankZone}
 use Rattle.zones.specs.declared.hint.Hint.{Hint}
 use Rattle.zones.specs.declared.zone.Zone.{Zone}
@@ -294,21 +294,23 @@ module _ {s : Sheet} {end : ℕ} {here : Location} {steps : Steps} {list spare :
     more = set (set stack (p .depth - 1) no) (p .depth - 1 + 1) yes
 
     fewer : (y z : Part) → y ≡ z → Fewer (z .zone) (q .zone) → (g : Hint)
-        → Narrows (exprsOf (y .zone)) (rangeList (s .ranges)) (rangeList (g .ranges)) → g .nogoods ≡ h .nogoods
-        → Hinted (s .ranges) (y .zone) g
-    fewer y z e f g n same =
-        hinted-fewer (s .ranges) (q .zone) (y .zone) h g (subst (λ (x : Part). Fewer (x .zone) (q .zone)) (sym e) f) end-hinted n same
+        → Narrows (exprsOf (y .zone)) (rangeList (s .ranges)) (rangeList (g .ranges)) → Guessed (y .zone) g
+        → g .nogoods ≡ h .nogoods → Hinted (s .ranges) (y .zone) g
+    fewer y z e f g n held same =
+        hinted-fewer (s .ranges) (q .zone) (y .zone) h g (subst (λ (x : Part). Fewer (x .zone) (q .zone)) (sym e) f) end-hinted n held
+        same
 
     pub walking-split : (g i : Hint) → Narrows (exprsOf (no .zone)) (rangeList (s .ranges)) (rangeList (g .ranges))
-        → g .nogoods ≡ h .nogoods → Narrows (exprsOf (yes .zone)) (rangeList (s .ranges)) (rangeList (i .ranges))
+        → Guessed (no .zone) g → g .nogoods ≡ h .nogoods
+        → Narrows (exprsOf (yes .zone)) (rangeList (s .ranges)) (rangeList (i .ranges)) → Guessed (yes .zone) i
         → i .nogoods ≡ h .nogoods → (p′ : Pass) → p′ ≡ pushedC p
         → Walking s end here steps list spare hints spares more (set (set waits (p .depth - 1) g) (p .depth - 1 + 1) i) r p′ k
-    walking-split g i ng sg ni si p′ e =
+    walking-split g i ng dg sg ni di si p′ e =
         rw e
         (keep w list spare hints spares more (set (set waits (p .depth - 1) g) (p .depth - 1 + 1) i) r (pushedC p)
         (turn-split _ _ _ _ list spare stack r p (w .machine) inside (t .busy) q told f no yes hn hy)
         (known-pushed (s .ranges) list hints spare spares stack waits p (w .known) no yes g i (p .depth - 1) (omega (arith, t .busy))
-        (room-split f) (fewer no (noC r q) hn (fewer-no r q) g ng sg) (fewer yes (yesC r q) hy (fewer-yes r q) i ni si)))
+        (room-split f) (fewer no (noC r q) hn (fewer-no r q) g ng dg sg) (fewer yes (yesC r q) hy (fewer-yes r q) i ni di si)))
 
     pub way-split : (p′ : Pass) → p′ ≡ pushedC p → way end k steps more p′ < way end k steps stack p
     way-split p′ e =
@@ -348,17 +350,15 @@ module _ {s : Sheet} {end : ℕ} {here : Location} {steps : Steps} {list spare :
   way-stepped p′ e = rw e (let l = less-stepped (stepsIn steps) stack p st in-steps (u .machine .room) in omega arith)
 
   module _ (more : p .i < p .n) where
-    pub walking-passed : p .i ≡ p .kept → ((b : Ranges) → Hinted b (getD list (p .i) noZone) (getD hints (p .i) noHint)
-        → (v : ℕ) → Idle b v st (getD list (p .i) noZone)) → (p′ : Pass) → p′ ≡ passedC p
-        → Walking s end here steps list spare hints spares stack waits r p′ k
-    walking-passed there leaves p′ e =
-        let known = u .known .ahead (p .i) (omega arith) more (omega arith) in
-        let quiet = leaves (s .ranges) known (s .clocks) in
+    pub walking-passed : p .i ≡ p .kept → (y : Zone) (h : Hint) → Leaves (s .ranges) (s .clocks) st (getD list (p .i) noZone) y
+        → Hinted (s .ranges) y h → (p′ : Pass) → p′ ≡ passedC p
+        → Walking s end here steps (set list (p .kept) y) spare (set hints (p .kept) h) spares stack waits r p′ k
+    walking-passed there y h leaves known p′ e =
         rw e
-        (keep u list spare hints spares stack waits r (passedC p)
+        (keep u (set list (p .kept) y) spare (set hints (p .kept) h) spares stack waits r (passedC p)
         (turn-passed _ _ _ _ list spare stack r p (u .machine) st in-steps told-step (t .idle) more there (getD list (p .i) noZone) refl
-        (quiet .tests) (quiet .same))
-        (known-passed (s .ranges) list hints spare spares stack waits p (u .known) there more))
+        y (leaves .tests) (leaves .same))
+        (known-passed (s .ranges) list hints spare spares stack waits p (u .known) there more (omega (arith, u .machine .few)) y h known))
 
     pub way-passed : (p′ : Pass) → p′ ≡ passedC p → way end k steps stack p′ < way end k steps stack p
     way-passed p′ e = rw e (let l = less-passed (stepsIn steps) stack p more in omega arith)

@@ -2,4 +2,5 @@
 // invariants again, then the transition's guards and resets.
 mod route;
 
+pub use route::Ended;
 pub use route::walk;

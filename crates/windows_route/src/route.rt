@@ -4,40 +4,19 @@ use index::Index;
 use running::Task;
 use zones::Hint;
 use zones::Zone;
-use zones::Zones;
 ghost use mathlib.Core.Path.{_≡_};
 ghost use mathlib.Core.Bool.{cond};
 ghost use lib.Dec.{ltb};
-ghost use Prim.Native.Nat.{_+_, _<_, _≤_};
-ghost use lib.ListN.{length};
+ghost use Prim.Native.Nat.{_+_, _<_};
 ghost use Rattle.index.specs.SheetIn.{sheetIn};
 ghost use Rattle.segments.specs.Walked.{zonesAll};
-ghost use Rattle.steps.specs.Steps.{closed};
-ghost use Rattle.cells.specs.Cells.{cellsIn};
-ghost use Rattle.windows_route.specs.Places.{listOf};
+ghost use Rattle.windows_route.specs.Ended.{Zeros, endedZ};
 
-// The zones at the first n places, with blanks behind them.
-fn listed(cells: &[i32], marks: &[u8], counts: &[usize], visit: usize, n: usize) -> Zones
-    requires { ⌜ (length (now marks) ≡ 2250) × ((length (now counts) ≡ 90) × (n ≤ 32)) ⌝ }
-    ensures { λ r. ⌜ r ≡ closed (record {
-      refusal = 0;
-      visit = visit;
-      count = n;
-      list = listOf (now (counts .entry)) (cellsIn (now (cells .entry)) (now (marks .entry)));
-    }) ⌝ }
-{
-    let mut list = [Zone::BLANK; 32];
-    let mut i = 0;
-    while i < n {
-        list[i] = cells::zone_at(cells, marks, i, counts[i]);
-        i += 1;
-    }
-    Zones {
-        refusal: 0,
-        visit,
-        count: n,
-        list,
-    }
+// How the walk ends: the refusal, 0 for none, its visit, and how many zones are listed.
+pub struct Ended {
+    pub refusal: usize,
+    pub visit: usize,
+    pub count: usize,
 }
 
 // Where zone x stands that is to be taken up, `kept` being listed: what is listed has overwritten the first of them, which were spared.
@@ -55,8 +34,17 @@ fn place_of(x: usize, kept: usize) -> usize
 // known of each: at places 0 to 31 those that are listed or still to be taken up, at 32 to 63 those that were overwritten before they were
 // taken up, at 64 to 88 a stack of parts that are still to be worked on, and at 89 the zone that they are parts of. A step goes over
 // the zones in order; a zone makes a part, and what is kept goes to the front of the list.
-pub fn walk(file: &[u8], ix: Index) -> Zones
-    ensures { λ r. ⌜ r ≡ zonesAll (sheetIn (now (file .entry)) ix) ⌝ }
+//
+// The lists are zeros before it. Where nothing is refused, they have the zones that are listed then at their first places.
+pub fn walk(
+    file: &[u8],
+    ix: Index,
+    cells: &mut [i32],
+    marks: &mut [u8],
+    counts: &mut [usize],
+) -> Ended
+    requires { ⌜ Zeros (now cells) (now marks) (now counts) ⌝ }
+    ensures { λ r. ⌜ endedZ r (now (cells .exit)) (now (marks .exit)) (now (counts .exit)) ≡ zonesAll (sheetIn (now (file .entry)) ix) ⌝ }
 {
     let b = ix.ranges;
     let clocks = ix.clocks as usize;
@@ -64,11 +52,8 @@ pub fn walk(file: &[u8], ix: Index) -> Zones
     let first = segments::segment_at(file, ix, 0, index::location_at(file, ix, 0));
     let mut here = first.there;
     let mut steps = first.steps;
-    let mut cells = [0i32; 22500];
-    let mut marks = [0u8; 2250];
-    let mut counts = [0usize; 90];
     let corner = holding::first_held(b, Zone::BLANK);
-    let mut hints = [zones::hint_of(b, Zone::BLANK, Hint::NONE, corner); 64];
+    let mut hints = [zones::hint_of(b, Zone::BLANK, corner); 64];
     let mut tasks = [Task::START; 25];
     let mut waits = [Hint::NONE; 25];
     let mut guard = running::of_guard(clocks, Guard::BLANK);
@@ -80,27 +65,21 @@ pub fn walk(file: &[u8], ix: Index) -> Zones
                 let d = s.depth - 1;
                 let top = 64 + d;
                 let n = counts[top];
-                let stop = running::run(
-                    &mut cells,
-                    &mut marks,
-                    top,
-                    89,
-                    n,
-                    waits[d],
-                    guard,
-                    tasks[d],
-                );
+                let stop = running::run(cells, marks, top, 89, n, waits[d], guard, tasks[d]);
                 let t = stop.task;
                 let hint = stop.hint;
                 let refusal = passing::number(t.halt, s.kept);
                 if 0 < refusal {
-                    return passing::refused(refusal, s.visit);
+                    return Ended {
+                        refusal,
+                        visit: s.visit,
+                        count: 0,
+                    };
                 }
                 if t.halt == 3 {
-                    parting::halved(&mut cells, &mut marks, top, 89, n, guard, t);
-                    let witness = stop.witness;
-                    let no = parting::hint_at(b, &cells, &marks, top, n + 1, hint, witness);
-                    let yes = parting::hint_at(b, &cells, &marks, top + 1, n + 1, hint, witness);
+                    parting::halved(cells, marks, top, 89, n, guard, t);
+                    let no = parting::hint_at(b, cells, marks, top, n + 1, hint);
+                    let yes = parting::hint_at(b, cells, marks, top + 1, n + 1, hint);
                     counts[top] = n + 1;
                     counts[top + 1] = n + 1;
                     let below = running::answered(t, 0);
@@ -114,10 +93,10 @@ pub fn walk(file: &[u8], ix: Index) -> Zones
                     let at = s.kept;
                     let count = counts[at];
                     let known = hints[at];
-                    cells::copy(&mut cells, &mut marks, at, 32 + at);
+                    cells::copy(cells, marks, at, 32 + at);
                     counts[32 + at] = count;
                     hints[32 + at] = known;
-                    cells::copy(&mut cells, &mut marks, top, at);
+                    cells::copy(cells, marks, top, at);
                     counts[at] = n;
                     hints[at] = hint;
                     s = passing::listed(s);
@@ -130,20 +109,27 @@ pub fn walk(file: &[u8], ix: Index) -> Zones
                 let x = s.i;
                 if x < s.n {
                     let from = place_of(x, s.kept);
-                    let hint = hints[from];
-                    let still = if x == s.kept {
-                        idle::idle(hint, step, &cells, &marks, x)
-                    } else {
-                        false
-                    };
-                    if still {
+                    let count = counts[from];
+                    let here = x == s.kept;
+                    let stood = staying::stay(
+                        cells,
+                        marks,
+                        from,
+                        clocks,
+                        step,
+                        count,
+                        hints[from],
+                        here,
+                    );
+                    let known = stood.hint;
+                    if stood.kept {
+                        hints[x] = known;
                         s = passing::passed_by(s);
                     } else {
-                        let task = steps::taken(&mut cells, &mut marks, from, clocks, step);
-                        let count = counts[from];
+                        let task = steps::taken(cells, marks, from, clocks, step);
                         counts[64] = count;
                         tasks[0] = task;
-                        waits[0] = hint;
+                        waits[0] = known;
                         let next = running::of_guard(clocks, step.guard);
                         guard = next;
                         s = passing::loaded(s);
@@ -162,5 +148,9 @@ pub fn walk(file: &[u8], ix: Index) -> Zones
             s = passing::begun(s.visit, s.n);
         }
     }
-    listed(&cells, &marks, &counts, s.visit, s.n)
+    Ended {
+        refusal: 0,
+        visit: s.visit,
+        count: s.n,
+    }
 }

@@ -1,6 +1,6 @@
 -- A hint that fits a list of inequalities: its nogoods say of the list what they say of a zone; and how nogoods are learned and passed on.
 use mathlib.Core.Path.{_≡_, refl, sym, ap, subst, _∙_}
-use mathlib.Core.Bool.{Bool, true, false, cond, _&&_}
+use mathlib.Core.Bool.{Bool, true, false, cond, _&&_, true≢false}
 use mathlib.Core.List.{List, [], _∷_, _++_, map}
 use mathlib.Core.Option.{Option}
 use mathlib.Core.Option as option
@@ -19,6 +19,7 @@ use Rattle.expr.specs.declared.bound.Asked.{Asked}
 use Rattle.expr.specs.declared.bound.Asked.the-variants.{Yes, No, Ask}
 use Rattle.expr.specs.declared.bound.Test.{Test}
 use Rattle.expr.specs.declared.number.Expr.{Expr}
+use Rattle.expr.specs.declared.number.Valuation.{Valuation}
 use Rattle.expr.specs.declared.range.Range.{Range}
 use Rattle.expr.specs.declared.range.Ranges.{Ranges}
 use Rattle.nogoods.specs.Nogoods.{Below, noneN, below-none, below-with}
@@ -27,11 +28,11 @@ use Rattle.systems.specs.Boxes.{Narrows}
 use Rattle.systems.specs.BoxLaws.{first-nothing, within-inside}
 use Rattle.valuations.specs.SearchLaws.{first-none}
 use Rattle.valuations.specs.Valuations.{satisfies, first}
-use Rattle.zones.specs.FlatLaws.{Listing, listing-put, never-same}
-use Rattle.zones.specs.Hinted.{exprsOf, Trusted, Hinted, learnedC, notedBy, notedC}
+use Rattle.zones.specs.FlatLaws.{Listing, listing-put, listing-same, never-same}
+use Rattle.zones.specs.Hinted.{exprsOf, Guessed, Trusted, Hinted, foundC, learnedC, notedBy, notedC}
 use Rattle.zones.specs.Put.{map-last}
 use Rattle.zones.specs.Settled.{Verdict, oppositeC, isNone, neverC, neverF, onC, settledC}
-use Rattle.zones.specs.System.{putIn}
+use Rattle.zones.specs.System.{putIn, SameRows}
 use Rattle.zones.specs.Zone.{plusC, moreC}
 use Rattle.zones.specs.declared.hint.Hint.{Hint}
 use Rattle.zones.specs.declared.zone.Zone.{Zone}
@@ -42,13 +43,18 @@ pub record Fit (h : Hint) (n : ℕ) (l : List ℤ) : Type 0 where
   pub listing : Listing (h .ranges) (h .ranges) zone n l
   pub trusted : Trusted zone h
 
-pub fit-put : (h : Hint) (n : ℕ) (l : List ℤ) (e : Expr) → Fit h n l → Fit h n (putIn l n e)
-fit-put h n l e f =
+pub fit-same : (h : Hint) (n : ℕ) (l m : List ℤ) → Fit h n l → SameRows n l m → Fit h n m
+fit-same h n l m f s =
     record {
       zone = f .zone;
-      listing = listing-put (h .ranges) (h .ranges) (f .zone) n l e (f .listing);
+      listing = listing-same (h .ranges) (h .ranges) (f .zone) n l m s (f .listing);
       trusted = f .trusted;
     }
+
+pub same-put : (h : Hint) (n : ℕ) (l : List ℤ) (e : Expr) → Fit h n l → (m : List ℤ) → m ≡ putIn l n e → SameRows n l m
+same-put h n l e f m g =
+    let p = listing-put (h .ranges) (h .ranges) (f .zone) n l e (f .listing) in
+    subst (SameRows n l) (sym g) (record { long = p .long ∙ sym (f .listing .long); rows = p .same ∙ sym (f .listing .same) })
 
 -- ---- inequalities and one more
 satisfies-last : (es : List Affine) (e : Affine) (v : List ℤ)
@@ -108,11 +114,29 @@ pub refuted-never : (h : Hint) (n : ℕ) (l : List ℤ) (e : Expr) → Fit h n l
 refuted-never h n l e f r =
     sym
     (never-same (h .ranges) (h .ranges) (f .zone) n l e (f .listing)
-    ∙ means-never (h .ranges) (f .zone) e (λ v i s. r v (f .trusted v i s)))
+    ∙ means-never (h .ranges) (f .zone) e (λ v i s. r v (f .trusted .nogoods v i s)))
+
+-- a guess that is sure says so
+pub held-never : (h : Hint) (n : ℕ) (l : List ℤ) (e : Expr) → (f : Fit h n l) → h .sure ≡ true
+    → leZ (pos 0) (value (affine e) (h .guess .numbers)) ≡ true → neverC (h .ranges) (f .zone) e ≡ false
+held-never h n l e f sure holds = by (neverC (h .ranges) (f .zone) e) refl
+  where
+    by : (t : Bool) → neverC (h .ranges) (f .zone) e ≡ t → t ≡ false
+    by true g =
+        let v = f .trusted .guess sure in
+        absurd (true≢false (sym holds ∙ never-means (h .ranges) (f .zone) e g (h .guess .numbers) (v .0) (v .1)))
+    by false g = refl
 
 -- ---- what is learned
 learned-trusted : (z : Zone) (h : Hint) (e : Expr) → Trusted z h → neverC (h .ranges) z e ≡ true → Trusted z (learnedC h e)
-learned-trusted z h e t n v i s = below-with (h .nogoods) e v (t v i s) (never-means (h .ranges) z e n v i s)
+learned-trusted z h e t n =
+    record {
+      nogoods = λ v i s. below-with (h .nogoods) e v (t .nogoods v i s) (never-means (h .ranges) z e n v i s);
+      guess = t .guess;
+    }
+
+pub found-trusted : (z : Zone) (h : Hint) (v : Valuation) → Trusted z h → Trusted z (foundC h v)
+found-trusted z h v t = record { nogoods = t .nogoods; guess = t .guess }
 
 pub noted-trusted : (z : Zone) (h : Hint) (t : Test) (kind : ℕ) → Trusted z h → kind ≡ settledC (h .ranges) z t .kind
     → Trusted z (notedC h t kind)
@@ -175,19 +199,30 @@ abbrev pub Fewer : Zone → Zone → Type 0
 Fewer y z = (v : List ℤ) → satisfies (exprsOf y) v ≡ true → satisfies (exprsOf z) v ≡ true
 
 pub hinted-fewer : (b : Ranges) (z y : Zone) (h g : Hint) → Fewer y z → Hinted b z h
-    → Narrows (exprsOf y) (rangeList b) (rangeList (g .ranges)) → g .nogoods ≡ h .nogoods → Hinted b y g
-hinted-fewer b z y h g f k n same =
+    → Narrows (exprsOf y) (rangeList b) (rangeList (g .ranges)) → Guessed y g → g .nogoods ≡ h .nogoods → Hinted b y g
+hinted-fewer b z y h g f k n held same =
     record {
       narrows = n;
-      trusted = λ v i s.
-          subst (λ (x : Nogoods). Below (x .list) v) (sym same)
-          (k .trusted v (k .narrows .keeps v (within-inside v (rangeList (g .ranges)) (rangeList b) (n .within) i) (f v s)) (f v s));
+      trusted = record {
+        nogoods = λ v i s.
+            subst (λ (x : Nogoods). Below (x .list) v) (sym same)
+            (k .trusted .nogoods v
+            (k .narrows .keeps v (within-inside v (rangeList (g .ranges)) (rangeList b) (n .within) i) (f v s)) (f v s));
+        guess = held;
+      };
     }
 
 -- nothing is passed on
-pub hinted-new : (b : Ranges) (z : Zone) (g : Hint) → Narrows (exprsOf z) (rangeList b) (rangeList (g .ranges)) → g .nogoods ≡ noneN
-    → Hinted b z g
-hinted-new b z g n same = record { narrows = n; trusted = λ v i s. subst (λ (x : Nogoods). Below (x .list) v) (sym same) (below-none v) }
+pub hinted-new : (b : Ranges) (z : Zone) (g : Hint) → Narrows (exprsOf z) (rangeList b) (rangeList (g .ranges)) → Guessed z g
+    → g .nogoods ≡ noneN → Hinted b z g
+hinted-new b z g n held same =
+    record {
+      narrows = n;
+      trusted = record {
+        nogoods = λ v i s. subst (λ (x : Nogoods). Below (x .list) v) (sym same) (below-none v);
+        guess = held;
+      };
+    }
 
 -- one inequality more
 more-taken : (xs : List Expr) (n : ℕ) (e : Expr) (v : List ℤ) → satisfies (map affine (take (suc n) (set xs n e))) v ≡ true

@@ -1,5 +1,5 @@
 -- A test on a flat list of a zone's inequalities, over ranges that they have narrowed, is the test on the zone.
-use mathlib.Core.Path.{_≡_, refl, sym, ap, _∙_}
+use mathlib.Core.Path.{_≡_, refl, sym, ap, subst, _∙_}
 use mathlib.Core.Bool.{Bool, true, false, cond}
 use mathlib.Core.List.{List, [], _∷_, _++_, map}
 use Prim.Native.Nat.{ℕ, zero, suc, _≤_, _<_, min}
@@ -9,19 +9,20 @@ use lib.Dec.{ltb}
 use lib.IntN.{ℤ}
 use lib.ListN.{length, take}
 use Rattle.expr.specs.Affine.{Affine}
-use Rattle.expr.specs.Records.{PARAMETERS, affine, rangeList}
+use Rattle.expr.specs.Ranges.{Inside}
+use Rattle.expr.specs.Records.{PARAMETERS, affine, blankRange, rangeList}
 use Rattle.expr.specs.declared.bound.Asked.{Asked}
 use Rattle.expr.specs.declared.bound.Asked.the-variants.{Yes, No, Ask}
 use Rattle.expr.specs.declared.bound.Test.{Test}
 use Rattle.expr.specs.declared.number.Expr.{Expr}
 use Rattle.expr.specs.declared.range.Ranges.{Ranges}
 use Rattle.systems.specs.Boxes.{Narrows}
-use Rattle.systems.specs.BoxLaws.{first-in-narrower, narrows-listed}
+use Rattle.systems.specs.BoxLaws.{first-in-narrower, narrows-listed, places-all}
 use Rattle.inequalities.specs.Flat.{exprsIn}
-use Rattle.valuations.specs.Valuations.{first}
+use Rattle.valuations.specs.Valuations.{satisfies, first}
 use Rattle.zones.specs.Put.{written-keeps, written-length, written-next, map-last}
-use Rattle.zones.specs.Settled.{Verdict, oppositeC, isNone, neverC, onC, settledC, neverF, onF, onLeaves, settledF, settledLeaves}
-use Rattle.zones.specs.System.{putIn}
+use Rattle.zones.specs.Settled.{Verdict, oppositeC, isNone, neverC, onC, settledC, neverF, onF, settledF}
+use Rattle.zones.specs.System.{putIn, SameRows}
 use Rattle.zones.specs.declared.zone.Zone.{Zone}
 
 -- the list has the zone's inequalities and a place behind them, and the ranges c are those of b that they leave
@@ -42,6 +43,10 @@ listing-put b c z n l e h =
       narrows = h .narrows;
     }
 
+pub listing-same : (b c : Ranges) (z : Zone) (n : ℕ) (l m : List ℤ) → SameRows n l m → Listing b c z n l → Listing b c z n m
+listing-same b c z n l m s h =
+    record { counted = h .counted; long = s .long ∙ h .long; same = s .rows ∙ h .same; narrows = h .narrows }
+
 module _ (b c : Ranges) (z : Zone) (n : ℕ) where
   pub never-same : (l : List ℤ) (e : Expr) → Listing b c z n l → neverF c l n e ≡ neverC b z e
   unfolding neverF neverC
@@ -54,7 +59,7 @@ module _ (b c : Ranges) (z : Zone) (n : ℕ) where
       ∙ ap isNone (first-in-narrower (map affine xs) (affine e ∷ []) (rangeList b) (rangeList c) (h .narrows))
       ∙ ap (λ (es : List Affine). isNone (first (rangeList b) es)) (sym (map-last xs e))
 
-  on-same : (l : List ℤ) (e : Expr) → Listing b c z n l → onF c l n e ≡ onC b z e .kind
+  pub on-same : (l : List ℤ) (e : Expr) → Listing b c z n l → onF c l n e ≡ onC b z e .kind
   unfolding onF onC
   on-same l e h =
       rw (never-same l e h, never-same (putIn l n e) (oppositeC e) (listing-put b c z n l e h), room (ltb (z .count) 24) refl)
@@ -82,21 +87,17 @@ module _ (b c : Ranges) (z : Zone) (n : ℕ) where
       by No = refl
       by Ask = on-same l (t .expr) h
 
-  pub settled-leaves : (l : List ℤ) (t : Test) → Listing b c z n l → Listing b c z n (settledLeaves c l n t)
-  unfolding settledLeaves onLeaves
-  settled-leaves l t h = by (t .asked)
-    where
-      asked : (r : Bool) → Listing b c z n (cond r (putIn l n (t .expr)) (putIn (putIn l n (t .expr)) n (oppositeC (t .expr))))
-      asked true = listing-put b c z n l (t .expr) h
-      asked false = listing-put b c z n (putIn l n (t .expr)) (oppositeC (t .expr)) (listing-put b c z n l (t .expr) h)
-
-      by : (a : Asked) → Listing b c z n (settledLeaves c l n (record { asked = a; expr = t .expr }))
-      by Yes = h
-      by No = h
-      by Ask = asked (neverF c l n (t .expr))
-
 -- what a zone's inequalities leave, as a flat list of them says it
 pub narrows-zone : (b c : Ranges) (z : Zone) (n : ℕ) (l : List ℤ) → exprsIn l n ≡ map affine (take (z .count) (z .ineqs))
     → length (b .list) ≡ PARAMETERS → Narrows (exprsIn l n) (b .list) (c .list)
     → Narrows (map affine (take (z .count) (z .ineqs))) (rangeList b) (rangeList c)
 narrows-zone b c z n l s g m = rw (sym s) (narrows-listed (exprsIn l n) b c g m)
+
+-- a valuation that a zone holds, as a flat list of its inequalities says it
+pub holds-zone : (c : Ranges) (z : Zone) (n : ℕ) (l v : List ℤ) → exprsIn l n ≡ map affine (take (z .count) (z .ineqs))
+    → length (c .list) ≡ PARAMETERS → Inside v (c .list) × (satisfies (exprsIn l n) v ≡ true)
+    → Inside v (rangeList c) × (satisfies (map affine (take (z .count) (z .ineqs))) v ≡ true)
+holds-zone c z n l v s g h = (
+  subst (Inside v) (sym (places-all blankRange (c .list) g)) (h .0),
+  subst (λ (es : List Affine). satisfies es v ≡ true) s (h .1),
+)

@@ -13,6 +13,7 @@ use Rattle.expr.specs.declared.bound.Asked.{Asked}
 use Rattle.expr.specs.declared.bound.Asked.the-variants.{Yes, No, Ask}
 use Rattle.expr.specs.declared.bound.Test.{Test}
 use Rattle.expr.specs.declared.number.Expr.{Expr}
+use Rattle.expr.specs.declared.number.Valuation.{Valuation}
 use Rattle.expr.specs.declared.range.Ranges.{Ranges}
 use Rattle.nogoods.specs.Nogoods.{Below, withC}
 use Rattle.systems.specs.Boxes.{Narrows}
@@ -25,9 +26,15 @@ use Rattle.zones.specs.declared.zone.Zone.{Zone}
 abbrev pub exprsOf : Zone → List Affine
 exprsOf z = map affine (take (z .count) (z .ineqs))
 
--- the nogoods of h are below 0 at every valuation of its ranges that the zone's inequalities hold at
-abbrev pub Trusted : Zone → Hint → Type 0
-Trusted z h = (v : List ℤ) → Inside v (rangeList (h .ranges)) → satisfies (exprsOf z) v ≡ true → Below (h .nogoods .list) v
+-- the guess of h, where that is sure of it, is a valuation of its ranges that the zone's inequalities hold at
+abbrev pub Guessed : Zone → Hint → Type 0
+Guessed z h = h .sure ≡ true
+    → Inside (h .guess .numbers) (rangeList (h .ranges)) × (satisfies (exprsOf z) (h .guess .numbers) ≡ true)
+
+-- the nogoods of h are below 0 at every valuation of its ranges that the zone's inequalities hold at, and its guess is right
+pub record Trusted (z : Zone) (h : Hint) : Type 0 where
+  pub nogoods : (v : List ℤ) → Inside v (rangeList (h .ranges)) → satisfies (exprsOf z) v ≡ true → Below (h .nogoods .list) v
+  pub guess : Guessed z h
 
 -- the ranges of h are those of b that the zone's inequalities leave
 pub record Hinted (b : Ranges) (z : Zone) (h : Hint) : Type 0 where
@@ -36,7 +43,12 @@ pub record Hinted (b : Ranges) (z : Zone) (h : Hint) : Type 0 where
 
 -- one more nogood
 abbrev pub learnedC : Hint → Expr → Hint
-learnedC h e = record { ranges = h .ranges; guess = h .guess; nogoods = withC (h .nogoods) e }
+learnedC h e =
+    record { ranges = h .ranges; guess = h .guess; sure = h .sure; other = h .other; nogoods = withC (h .nogoods) e }
+
+-- another valuation
+abbrev pub foundC : Hint → Valuation → Hint
+foundC h v = record { ranges = h .ranges; guess = h .guess; sure = h .sure; other = v; nogoods = h .nogoods }
 
 -- what a verdict on a test says: where it is no the test is a nogood, where it is yes its opposite
 abbrev pub notedBy : Hint → Asked → Expr → ℕ → Hint

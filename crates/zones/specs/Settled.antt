@@ -57,14 +57,11 @@ settledC b z t = settledBy b z (t .asked) (t .expr)
 unfoldable pub neverF : Ranges → List ℤ → ℕ → Expr → Bool
 neverF b l n e = isNone (first (rangeList b) (exprsIn (putIn l n e) (suc (min n 24))))
 
--- the verdict on e ≥ 0, and the list after it
+-- the verdict on e ≥ 0
 unfoldable pub onF : Ranges → List ℤ → ℕ → Expr → ℕ
 onF b l n e = cond (neverF b l n e) 0 (cond (neverF b (putIn l n e) n (oppositeC e)) 1 (cond (ltb n 24) 3 8))
 
-unfoldable pub onLeaves : Ranges → List ℤ → ℕ → Expr → List ℤ
-onLeaves b l n e = cond (neverF b l n e) (putIn l n e) (putIn (putIn l n e) n (oppositeC e))
-
--- the verdict on a test, and the list after it
+-- the verdict on a test
 abbrev pub settledByF : Ranges → List ℤ → ℕ → Asked → Expr → ℕ
 settledByF b l n Yes e = 1
 settledByF b l n No e = 0
@@ -72,11 +69,3 @@ settledByF b l n Ask e = onF b l n e
 
 unfoldable pub settledF : Ranges → List ℤ → ℕ → Test → ℕ
 settledF b l n t = settledByF b l n (t .asked) (t .expr)
-
-abbrev pub leavesBy : Ranges → List ℤ → ℕ → Asked → Expr → List ℤ
-leavesBy b l n Yes e = l
-leavesBy b l n No e = l
-leavesBy b l n Ask e = onLeaves b l n e
-
-unfoldable pub settledLeaves : Ranges → List ℤ → ℕ → Test → List ℤ
-settledLeaves b l n t = leavesBy b l n (t .asked) (t .expr)

@@ -5,8 +5,15 @@ use Prim.Native.Nat.{ℕ, suc, _*_}
 use lib.Dec.{ltb, leb}
 use lib.IntN.{ℤ}
 use lib.ListN.{length, set}
+use mathlib.Core.Path.{_≡_}
 use Rattle.expr.specs.Records.{four}
+use Rattle.inequalities.specs.Flat.{exprsIn}
 use Rattle.expr.specs.declared.number.Expr.{Expr}
+
+-- a list with the same first n inequalities
+pub record SameRows (n : ℕ) (l m : List ℤ) : Type 0 where
+  pub long : length m ≡ length l
+  pub rows : exprsIn m n ≡ exprsIn l n
 
 -- the list with numbers put in from place p on
 unfoldable pub putFrom : List ℤ → ℕ → List ℤ → List ℤ

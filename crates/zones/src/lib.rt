@@ -5,7 +5,9 @@ mod zone;
 
 pub use hint::Hint;
 pub use hint::better;
+pub use hint::found;
 pub use hint::hint_of;
+pub use hint::holds;
 pub use hint::noted;
 pub use system::Flat;
 pub use system::flat_of;

@@ -1,6 +1,7 @@
 -- The arms are the cases of `settledF`.
 use mathlib.Core.Path.{refl}
-use Rattle.zones.specs.Settled.{settledF, settledLeaves}
+use Rattle.zones.specs.Settled.{settledF}
+use Rattle.settling.proofs.Cases.{same-rows}
 use borrow.Author.Needs.{needs}
 use Rattle.settling.proofs.settled.Statement.{statement}
 use Rattle.settling.proofs.settled.Tie as tie
@@ -18,18 +19,18 @@ on-requires : tie.Need-on-requires
 on-requires c κs = search needs
 
 returns : tie.Need-returns
-unfolding settledF settledLeaves
-returns c = rw (c .enum-told .given .1) (refl, refl)
+unfolding settledF
+returns c = rw (c .enum-told .given .1) (refl, same-rows _ _)
 
 returns-2 : tie.Need-returns-2
-unfolding settledF settledLeaves
-returns-2 c = rw (c .enum-told2 .given .1) (refl, refl)
+unfolding settledF
+returns-2 c = rw (c .enum-told2 .given .1) (refl, same-rows _ _)
 
 same-length : tie.Need-same-length
 same-length c = search needs
 
 returns-3 : tie.Need-returns-3
-unfolding settledF settledLeaves
+unfolding settledF
 returns-3 c = rw (c .before .before .before .enum-told3 .given .1) (c .before .on .ensures)
 
 pub settled-spec : {M : Type 1} → statement M

@@ -1,43 +1,36 @@
--- The measure is how many places are left from `start` on. The loop's invariant: the first of what is left of the range is the first of
--- all.
-use mathlib.Core.Path.{_≡_, refl, sym, ap, _∙_}
-use Prim.Native.Nat.{ℕ, _+_, _-_, _<_, _≤_}
+-- The measure is how many numbers the ranges have together: the narrowed box has no more, and each of its parts fewer.
+use mathlib.Core.Path.{_≡_, refl, sym, _∙_}
+use Prim.Native.Nat.{ℕ, _+_, _/_, _<_}
 use native.Mathlib.Omega.{arith}
-use lib.IntN.{pos, _+ℤ_}
-use lib.ListN.{length, getD, length-map}
+use lib.ListN.{length, getD, set, length-map}
 use borrow.Author.Needs.{needs}
-use Rattle.expr.specs.Records.{PARAMETERS, blankRange}
-use Rattle.corners.specs.Boxes.{Points}
-use Rattle.corners.specs.BoxLaws.{wide-low, wide-points}
-use Rattle.systems.specs.Boxes.{Narrows}
-use Rattle.systems.specs.BoxLaws.{first-narrows, narrows-long, narrows-trans, points-within}
-use Rattle.valuations.specs.SearchLaws.{firstOver}
-use Rattle.inequalities.specs.Flat.{exprsIn}
-use Rattle.first_met.specs.Solutions.{solutionOf}
-use Rattle.valuations.specs.Valuations.{first, width}
-use Rattle.first_met.proofs.Loops.{first-done}
-use Rattle.first_met.proofs.Nodes.{not-yes, not-no, firstAt, first-emptied}
-use Rattle.first_met.proofs.Nodes.{first-cornered, first-pointed, first-never-met, first-begin, first-found, first-later}
-use Rattle.first_met.proofs.Nodes.{corner-long, points-next}
 use borrow.Fn.Kinds.{In}
 use borrow.Fn.PlainCycle.{Measures, is, falls, and}
+use Rattle.expr.specs.Records.{PARAMETERS, blankRange}
+use Rattle.corners.specs.Boxes.{Points, wideFrom}
+use Rattle.corners.specs.BoxLaws.{wide-points, wide-there}
+use Rattle.systems.specs.BoxLaws.{narrows-long}
+use Rattle.valuations.specs.Valuations.{width}
+use Rattle.widths.specs.Halves.{lowerOf, upperOf}
+use Rattle.first_met.specs.Halves.{numbersOf, fewer-lower, fewer-upper}
+use Rattle.first_met.proofs.Nodes.{not-yes, not-no, first-emptied, first-cornered, first-pointed, first-lower, first-upper}
+use Rattle.first_met.proofs.Nodes.{several, corner-long}
 use Rattle.first_met.proofs.search.first_from.Reads as first-from
 use Rattle.first_met.proofs.search.first_from.Kinds as first-from-kinds
 use Rattle.first_met.proofs.search.+first_from.Lts-first_from as first-from-lts
-use Rattle.first_met.proofs.search.again.Reads as again-reads
 use Rattle.systems.proofs.meets.Reads as meets-reads
-use Rattle.systems.proofs.opposed.Reads as opposed-reads
 use Rattle.corners.proofs.corner.Reads as corner-reads
 use Rattle.corners.proofs.inside.Reads as inside-reads
 use Rattle.systems.proofs.narrowed.Reads as narrowed-reads
 use Rattle.corners.proofs.wide.Reads as wide-reads
-use Rattle.widths.proofs.point.Reads as point-reads
+use Rattle.widths.proofs.lower.Reads as lower-reads
+use Rattle.widths.proofs.upper.Reads as upper-reads
 use Rattle.widths.proofs.width.Reads as width-reads
 use Rattle.first_met.proofs.search.+first_from.{statement}
 use Rattle.first_met.proofs.search.+first_from.Tie.{close}
 
 abbrev μ-first-from : Measures 1 first-from-kinds.ps ℕ
-μ-first-from κs a = PARAMETERS - a .1 .1 .1 .0
+μ-first-from κs a = numbersOf (a .0 .list)
 
 -- what the function is given at the measure t, and what a call of it asks below t
 abbrev at-t : ℕ → In 1 first-from-kinds.ps
@@ -58,50 +51,39 @@ claims t = (
   meets-reads.Learnt,
   wide-reads.Asked,
   wide-reads.Learnt,
-  opposed-reads.Asked,
-  opposed-reads.Learnt,
-  again-reads.Asked,
-  again-reads.Learnt,
   width-reads.Asked,
   width-reads.Learnt,
-  point-reads.Asked,
-  point-reads.Learnt,
+  lower-reads.Asked,
+  lower-reads.Learnt,
   below t,
   first-from.Post,
+  upper-reads.Asked,
+  upper-reads.Learnt,
 )
 
-abbrev Inv-loop : first-from-lts.InvT-loop
-Inv-loop flat n start w e range m i₀ i =
-    (i ≤ m) × (m ≤ 65536) × (m ≡ width range)
-    × (firstOver (firstAt (exprsIn flat n) (e .list) w) (range .low +ℤ pos i) (m - i) ≡ first (e .list) (exprsIn flat n))
-
-abbrev μ-loop : first-from-lts.MeasureT-loop
-μ-loop flat n start w e range m i₀ i = m - i
-
 -- the narrowed box has all its ranges
-long : (t : ℕ) (c : first-from-lts.After-narrowed (claims t) (at-t t) first-from.Post Inv-loop μ-loop)
-    → length (c .narrowed .result .list) ≡ PARAMETERS
+long : (t : ℕ) (c : first-from-lts.After-narrowed (claims t) (at-t t) first-from.Post) → length (c .narrowed .result .list) ≡ PARAMETERS
 long t c = narrows-long _ _ _ PARAMETERS (c .narrowed .ensures) (simp length-map at (c .before .good .0 .1 .1 .0 .1 .0 .1))
 
-narrowed-requires : (t : ℕ) → first-from-lts.Need-narrowed-requires (claims t) (at-t t) first-from.Post Inv-loop μ-loop
+narrowed-requires : (t : ℕ) → first-from-lts.Need-narrowed-requires (claims t) (at-t t) first-from.Post
 narrowed-requires t c κs = search needs
 
-corner-requires : (t : ℕ) → first-from-lts.Need-corner-requires (claims t) (at-t t) first-from.Post Inv-loop μ-loop
+corner-requires : (t : ℕ) → first-from-lts.Need-corner-requires (claims t) (at-t t) first-from.Post
 corner-requires t c κs = search needs
 
-inside-requires : (t : ℕ) → first-from-lts.Need-inside-requires (claims t) (at-t t) first-from.Post Inv-loop μ-loop
+inside-requires : (t : ℕ) → first-from-lts.Need-inside-requires (claims t) (at-t t) first-from.Post
 inside-requires t c κs = search needs
 
-returns : (t : ℕ) → first-from-lts.Need-returns (claims t) (at-t t) first-from.Post Inv-loop μ-loop
+returns : (t : ℕ) → first-from-lts.Need-returns (claims t) (at-t t) first-from.Post
 returns t c =
     let corner = c .before .before in
     first-emptied _ _ _ (corner .before .narrowed .ensures) _ (corner .corner .ensures)
     (c .before .inside .ensures .1 (not-yes _ (c .if1 .taken)))
 
-meets-requires : (t : ℕ) → first-from-lts.Need-meets-requires (claims t) (at-t t) first-from.Post Inv-loop μ-loop
+meets-requires : (t : ℕ) → first-from-lts.Need-meets-requires (claims t) (at-t t) first-from.Post
 meets-requires t c κs = search needs
 
-returns-2 : (t : ℕ) → first-from-lts.Need-returns-2 (claims t) (at-t t) first-from.Post Inv-loop μ-loop
+returns-2 : (t : ℕ) → first-from-lts.Need-returns-2 (claims t) (at-t t) first-from.Post
 returns-2 t c =
     let inside = c .before .before .before in
     let narrowed = inside .before .before in
@@ -111,29 +93,18 @@ returns-2 t c =
     (inside .inside .ensures .0 (not-no _ (c .before .before .if1 .left)))
     (sym (c .before .meets .ensures) ∙ c .if2 .taken)
 
-wide-requires : (t : ℕ) → first-from-lts.Need-wide-requires (claims t) (at-t t) first-from.Post Inv-loop μ-loop
+wide-requires : (t : ℕ) → first-from-lts.Need-wide-requires (claims t) (at-t t) first-from.Post
 wide-requires t c κs = search needs
 
--- the place that is put in, and the ranges before it
-low : (t : ℕ) (c : first-from-lts.After-wide (claims t) (at-t t) first-from.Post Inv-loop μ-loop) →
-    let s = c .before .before .before .before .before .before .before in
-    s .args .start ≤ c .wide .result
-low t c =
-    let s = c .before .before .before .before .before .before .before in
-    rw (c .wide .ensures) (wide-low _ (PARAMETERS - s .args .start) (s .args .start))
-
-points : (t : ℕ) (c : first-from-lts.After-wide (claims t) (at-t t) first-from.Post Inv-loop μ-loop) →
+-- the ranges before the one that is parted
+points : (t : ℕ) (c : first-from-lts.After-wide (claims t) (at-t t) first-from.Post) →
     let narrowed = c .before .before .before .before .before .before in
     Points (c .wide .result) (narrowed .narrowed .result .list)
 points t c =
     let narrowed = c .before .before .before .before .before .before in
-    let s = narrowed .before in
-    rw (c .wide .ensures)
-    (wide-points (narrowed .narrowed .result .list) (PARAMETERS - s .args .start) (s .args .start)
-    (points-within (s .args .start) (s .args .b .list) (narrowed .narrowed .result .list) (narrowed .narrowed .ensures .within)
-    (s .pre .1 .1)))
+    rw (c .wide .ensures) (wide-points (narrowed .narrowed .result .list) PARAMETERS 0 tt)
 
-returns-3 : (t : ℕ) → first-from-lts.Need-returns-3 (claims t) (at-t t) first-from.Post Inv-loop μ-loop
+returns-3 : (t : ℕ) → first-from-lts.Need-returns-3 (claims t) (at-t t) first-from.Post
 returns-3 t c =
     let meets = c .before .before .before in
     let corner = meets .before .before .before in
@@ -141,126 +112,115 @@ returns-3 t c =
     (omega (arith, long t (corner .before))) (points t (c .before))
     (sym (meets .meets .ensures) ∙ c .before .before .if2 .left)
 
-opposed-requires : (t : ℕ) → first-from-lts.Need-opposed-requires (claims t) (at-t t) first-from.Post Inv-loop μ-loop
-opposed-requires t c κs = search needs
-
-returns-4 : (t : ℕ) → first-from-lts.Need-returns-4 (claims t) (at-t t) first-from.Post Inv-loop μ-loop
-returns-4 t c = first-never-met _ _ (c .before .opposed .ensures (c .if4 .taken))
-
-again-requires : (t : ℕ) → first-from-lts.Need-again-requires (claims t) (at-t t) first-from.Post Inv-loop μ-loop
-again-requires t c κs = search needs
-
--- what is left after both cuts
-both : (t : ℕ) (c : first-from-lts.After-again (claims t) (at-t t) first-from.Post Inv-loop μ-loop) →
-    let narrowed = c .before .before .before .before .before .before .before .before .before .before in
-    Narrows (exprsIn (narrowed .before .args .flat .now) (narrowed .before .args .n)) (narrowed .before .args .b .list)
-    (c .again .result .list)
-both t c =
-    let narrowed = c .before .before .before .before .before .before .before .before .before .before in
-    narrows-trans _ _ _ _ (narrowed .narrowed .ensures) (c .again .ensures)
-
--- it has all its ranges, and those before the one that is put in have one number
-long-again : (t : ℕ) (c : first-from-lts.After-again (claims t) (at-t t) first-from.Post Inv-loop μ-loop)
-    → length (c .again .result .list) ≡ PARAMETERS
-long-again t c =
-    let narrowed = c .before .before .before .before .before .before .before .before .before .before in
-    narrows-long _ _ _ PARAMETERS (c .again .ensures) (long t narrowed)
-
-points-again : (t : ℕ) (c : first-from-lts.After-again (claims t) (at-t t) first-from.Post Inv-loop μ-loop) →
-    let wide = c .before .before .before .before in
-    Points (wide .wide .result) (c .again .result .list)
-points-again t c =
-    let wide = c .before .before .before .before in
-    points-within (wide .wide .result) _ _ (c .again .ensures .within) (points t wide)
-
-mul-range : (t : ℕ) → first-from-lts.Need-mul-range (claims t) (at-t t) first-from.Post Inv-loop μ-loop
+mul-range : (t : ℕ) → first-from-lts.Need-mul-range (claims t) (at-t t) first-from.Post
 mul-range t c = search needs
 
-element-copy-out-range : (t : ℕ) → first-from-lts.Need-element-copy-out-range (claims t) (at-t t) first-from.Post Inv-loop μ-loop
+element-copy-out-range : (t : ℕ) → first-from-lts.Need-element-copy-out-range (claims t) (at-t t) first-from.Post
 element-copy-out-range t c = search needs
 
-width-requires : (t : ℕ) → first-from-lts.Need-width-requires (claims t) (at-t t) first-from.Post Inv-loop μ-loop
+width-requires : (t : ℕ) → first-from-lts.Need-width-requires (claims t) (at-t t) first-from.Post
 width-requires t c κs = search needs
 
-loop-holds : (t : ℕ) → first-from-lts.Need-loop-holds (claims t) (at-t t) first-from.Post Inv-loop μ-loop
-loop-holds t c =
-    let again = c .before .before in
-    let wide = again .before .before .before .before in (
-      omega arith,
-      c .width .ensures .1,
-      c .width .ensures .0,
-      first-begin _ (again .again .result .list) (wide .wide .result) _ _ (points-again t again) (omega (arith, long-again t again)) refl
-          (c .width .ensures .0),
-    )
+less-at : {a b t : ℕ} → a < b → b ≡ t → a < t
+less-at h e = rw e at h
 
-point-requires : (t : ℕ) → first-from-lts.Need-point-requires (claims t) (at-t t) first-from.Post Inv-loop μ-loop
-point-requires t c κs = omega arith
+-- the box and the place that is parted
+abbrev wide-at : (t : ℕ) → first-from-lts.After-width (claims t) (at-t t) first-from.Post
+    → first-from-lts.After-wide (claims t) (at-t t) first-from.Post
+wide-at t c = c .before .before .before
 
-mul-t32 : (t : ℕ) → first-from-lts.Need-mul-t32 (claims t) (at-t t) first-from.Post Inv-loop μ-loop
-mul-t32 t c = search needs
+abbrev narrowed-at : (t : ℕ) → first-from-lts.After-width (claims t) (at-t t) first-from.Post
+    → first-from-lts.After-narrowed (claims t) (at-t t) first-from.Post
+narrowed-at t c = c .before .before .before .before .before .before .before .before .before
 
-element-set-from-d : (t : ℕ) → first-from-lts.Need-element-set-from-d (claims t) (at-t t) first-from.Post Inv-loop μ-loop
-element-set-from-d t c = search needs
+place-at : (t : ℕ) (c : first-from-lts.After-width (claims t) (at-t t) first-from.Post)
+    → wide-at t c .wide .result < length (narrowed-at t c .narrowed .result .list)
+place-at t c = omega (arith, long t (narrowed-at t c), c .before .before .if3 .left)
 
-add-first-from : (t : ℕ) → first-from-lts.Need-add-first-from (claims t) (at-t t) first-from.Post Inv-loop μ-loop
-add-first-from t c = search needs
+-- its range has several numbers, and the lower part some of them
+wide-in : (t : ℕ) (c : first-from-lts.After-wide (claims t) (at-t t) first-from.Post) →
+    let narrowed = c .before .before .before .before .before .before in
+    c .wide .result < PARAMETERS → 1 < width (getD (narrowed .narrowed .result .list) (c .wide .result) blankRange)
+wide-in t c h =
+    let cs = c .before .before .before .before .before .before .narrowed .result .list in
+    let g : wideFrom cs 0 PARAMETERS < 0 + PARAMETERS = omega (arith, c .wide .ensures) in
+    several (getD cs (c .wide .result) blankRange) (rw (c .wide .ensures) (wide-there cs PARAMETERS 0 g))
 
-first-from-requires : (t : ℕ) → first-from-lts.Need-first-from-requires (claims t) (at-t t) first-from.Post Inv-loop μ-loop
-first-from-requires t c κs =
-    let loop = c .before .before in
-    let again = loop .before .before .before in
-    let wide = again .before .before .before .before in
-    let s = wide .before .before .before .before .before .before .before in (
-      omega (arith, s .pre .0, low t wide),
-      (omega arith, points-next (wide .wide .result) _ (c .point .result) _ (c .point .ensures) (points-again t again)),
-    )
+several-at : (t : ℕ) (c : first-from-lts.After-width (claims t) (at-t t) first-from.Post)
+    → 1 < width (getD (narrowed-at t c .narrowed .result .list) (wide-at t c .wide .result) blankRange)
+several-at t c = wide-in t (wide-at t c) (omega (arith, c .before .before .if3 .left))
 
-returns-5 : (t : ℕ) → first-from-lts.Need-returns-5 (claims t) (at-t t) first-from.Post Inv-loop μ-loop
+some-at : (t : ℕ) (c : first-from-lts.After-width (claims t) (at-t t) first-from.Post) → 0 < (c .width .result + 2) / 4
+some-at t c = omega (arith, several-at t c, c .width .ensures .0)
+
+few-at : (t : ℕ) (c : first-from-lts.After-width (claims t) (at-t t) first-from.Post)
+    → (c .width .result + 2) / 4 < width (getD (narrowed-at t c .narrowed .result .list) (wide-at t c .wide .result) blankRange)
+few-at t c = omega (arith, several-at t c, c .width .ensures .0)
+
+fewer-l : (t : ℕ) (c : first-from-lts.After-width (claims t) (at-t t) first-from.Post) →
+    let w = wide-at t c .wide .result in
+    let cs = narrowed-at t c .narrowed .result .list in
+    numbersOf (set cs w (lowerOf (getD cs w blankRange) ((c .width .result + 2) / 4))) < t
+fewer-l t c =
+    let narrowed = narrowed-at t c in
+    less-at
+    (fewer-lower _ _ _ (narrowed .narrowed .ensures) (wide-at t c .wide .result) _ _ refl (some-at t c) (few-at t c) (place-at t c))
+    (narrowed .before .pre .0)
+
+fewer-u : (t : ℕ) (c : first-from-lts.After-width (claims t) (at-t t) first-from.Post) →
+    let w = wide-at t c .wide .result in
+    let cs = narrowed-at t c .narrowed .result .list in
+    numbersOf (set cs w (upperOf (getD cs w blankRange) ((c .width .result + 2) / 4))) < t
+fewer-u t c =
+    let narrowed = narrowed-at t c in
+    less-at
+    (fewer-upper _ _ _ (narrowed .narrowed .ensures) (wide-at t c .wide .result) _ _ refl (some-at t c) (few-at t c) (place-at t c))
+    (narrowed .before .pre .0)
+
+add-m : (t : ℕ) → first-from-lts.Need-add-m (claims t) (at-t t) first-from.Post
+add-m t c = omega (arith, c .width .ensures .1)
+
+lower-requires : (t : ℕ) → first-from-lts.Need-lower-requires (claims t) (at-t t) first-from.Post
+lower-requires t c κs = (some-at t c, few-at t c)
+
+mul-e : (t : ℕ) → first-from-lts.Need-mul-e (claims t) (at-t t) first-from.Post
+mul-e t c = search needs
+
+element-set-from-e : (t : ℕ) → first-from-lts.Need-element-set-from-e (claims t) (at-t t) first-from.Post
+element-set-from-e t c = search needs
+
+first-from-requires : (t : ℕ) → first-from-lts.Need-first-from-requires (claims t) (at-t t) first-from.Post
+first-from-requires t c κs = (rw (c .lower .ensures) (fewer-l t (c .before)), tt)
+
+returns-4 : (t : ℕ) → first-from-lts.Need-returns-4 (claims t) (at-t t) first-from.Post
+returns-4 t c =
+    let lower = c .before .before in
+    let at = lower .before in
+    first-lower _ _ _ (narrowed-at t at .narrowed .ensures) (wide-at t at .wide .result) _ (some-at t at) (few-at t at) (place-at t at)
+    (points t (wide-at t at)) (c .before .first-from .result) (rw (lower .lower .ensures) at (c .before .first-from .ensures))
+    (c .if4 .taken)
+
+upper-requires : (t : ℕ) → first-from-lts.Need-upper-requires (claims t) (at-t t) first-from.Post
+upper-requires t c κs = few-at t (c .before .before .before)
+
+mul-t20 : (t : ℕ) → first-from-lts.Need-mul-t20 (claims t) (at-t t) first-from.Post
+mul-t20 t c = search needs
+
+element-set-from-e-2 : (t : ℕ) → first-from-lts.Need-element-set-from-e-2 (claims t) (at-t t) first-from.Post
+element-set-from-e-2 t c = search needs
+
+first-from-requires-2 : (t : ℕ) → first-from-lts.Need-first-from-requires-2 (claims t) (at-t t) first-from.Post
+first-from-requires-2 t c κs = (rw (c .upper .ensures) (fewer-u t (c .before .before .before .before)), tt)
+
+returns-5 : (t : ℕ) → first-from-lts.Need-returns-5 (claims t) (at-t t) first-from.Post
 returns-5 t c =
-    let loop = c .before .before .before .before in
-    let width = loop .before in
-    let again = width .before .before in
-    let wide = again .before .before .before .before in
-    let cs = again .again .result .list in
-    let range = getD cs (wide .wide .result) blankRange in
-    first-found _ cs (wide .wide .result) range (width .width .result) (loop .loop .i) (omega arith)
-    (c .before .first-from .result) (c .before .before .point .result) (c .before .before .point .ensures) (c .before .first-from .ensures)
-    (loop .loop .inv .3) (c .if5 .taken)
-    ∙ ap solutionOf (sym (first-narrows _ _ _ (both t again)))
-
-add-i : (t : ℕ) → first-from-lts.Need-add-i (claims t) (at-t t) first-from.Post Inv-loop μ-loop
-add-i t c = search needs
-
-loop-less : (t : ℕ) → first-from-lts.Need-loop-less (claims t) (at-t t) first-from.Post Inv-loop μ-loop
-loop-less t c = search needs
-
-loop-again : (t : ℕ) → first-from-lts.Need-loop-again (claims t) (at-t t) first-from.Post Inv-loop μ-loop
-loop-again t c =
-    let loop = c .before .before .before .before in
-    let width = loop .before in
-    let again = width .before .before in
-    let wide = again .before .before .before .before in
-    let cs = again .again .result .list in
-    let range = getD cs (wide .wide .result) blankRange in (
-      omega arith,
-      loop .loop .inv .1,
-      loop .loop .inv .2,
-      first-later _ cs (wide .wide .result) range (width .width .result) (loop .loop .i) (omega arith)
-          (c .before .first-from .result) (c .before .before .point .result) (c .before .before .point .ensures)
-          (c .before .first-from .ensures) (loop .loop .inv .3) (c .if5 .left),
-    )
-
-returns-6 : (t : ℕ) → first-from-lts.Need-returns-6 (claims t) (at-t t) first-from.Post Inv-loop μ-loop
-returns-6 t c =
-    let loop = c .before in
-    let width = loop .before in
-    let again = width .before .before in
-    let wide = again .before .before .before .before in
-    let cs = again .again .result .list in
-    let range = getD cs (wide .wide .result) blankRange in
-    ap solutionOf
-    (first-done (firstAt _ cs (wide .wide .result)) (range .low) (width .width .result) (loop .loop .i) _ (omega arith) (loop .loop .inv .3)
-    ∙ sym (first-narrows _ _ _ (both t again)))
+    let upper = c .before in
+    let first = upper .before .before in
+    let lower = first .before in
+    let at = lower .before in
+    first-upper _ _ _ (narrowed-at t at .narrowed .ensures) (wide-at t at .wide .result) _ (some-at t at) (few-at t at) (place-at t at)
+    (points t (wide-at t at)) (first .first-from .result) (rw (lower .lower .ensures) at (first .first-from .ensures))
+    (c .first-from2 .result) (upper .before .if4 .left) (rw (upper .upper .ensures) at (c .first-from2 .ensures))
 
 pub +first-from-spec : {M : Type 1} → statement M
 +first-from-spec =
@@ -269,8 +229,6 @@ pub +first-from-spec : {M : Type 1} → statement M
     (claims t)
     (at-t t)
     first-from.Post
-    Inv-loop
-    μ-loop
     (narrowed-requires t)
     (corner-requires t)
     (inside-requires t)
@@ -279,20 +237,17 @@ pub +first-from-spec : {M : Type 1} → statement M
     (returns-2 t)
     (wide-requires t)
     (returns-3 t)
-    (opposed-requires t)
-    (returns-4 t)
-    (again-requires t)
     (mul-range t)
     (element-copy-out-range t)
     (width-requires t)
-    (loop-holds t)
-    (point-requires t)
-    (mul-t32 t)
-    (element-set-from-d t)
-    (add-first-from t)
+    (add-m t)
+    (lower-requires t)
+    (mul-e t)
+    (element-set-from-e t)
     (first-from-requires t)
-    (returns-5 t)
-    (add-i t)
-    (loop-less t)
-    (loop-again t)
-    (returns-6 t))
+    (returns-4 t)
+    (upper-requires t)
+    (mul-t20 t)
+    (element-set-from-e-2 t)
+    (first-from-requires-2 t)
+    (returns-5 t))

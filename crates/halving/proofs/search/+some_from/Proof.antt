@@ -9,8 +9,8 @@ use borrow.Fn.Kinds.{In}
 use borrow.Fn.PlainCycle.{Measures, is, falls, and}
 use Rattle.expr.specs.Records.{PARAMETERS, blankRange}
 use Rattle.systems.specs.BoxLaws.{narrows-long}
-use Rattle.halving.specs.Halved.{numbersOf, widest-points, some-emptied, some-cornered, some-pointed, some-lower, some-upper}
-use Rattle.halving.specs.Halved.{fewer-lower, fewer-upper}
+use Rattle.first_met.specs.Halves.{numbersOf, fewer-lower, fewer-upper}
+use Rattle.halving.specs.Halved.{widest-points, some-emptied, some-cornered, some-pointed, some-lower, some-upper}
 use Rattle.valuations.specs.Valuations.{width}
 use Rattle.widths.specs.Halves.{lowerOf, upperOf}
 use Rattle.halving.proofs.search.some_from.Reads as some-from

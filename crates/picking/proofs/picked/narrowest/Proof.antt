@@ -4,7 +4,7 @@ use Prim.Native.Nat.{_-_, _≤_, _<_}
 use native.Mathlib.Omega.{arith}
 use Rattle.expr.specs.Records.{PARAMETERS}
 use Rattle.corners.specs.BoxLaws.{wide-high}
-use Rattle.picking.specs.Wides.{Wide}
+use Rattle.corners.specs.Boxes.{Wide}
 use Rattle.picking.proofs.Steps.{first-wide, picked-some, picked-none}
 use borrow.Author.Needs.{needs}
 use Rattle.picking.proofs.picked.narrowest.Statement.{statement}

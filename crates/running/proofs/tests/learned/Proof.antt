@@ -1,25 +1,20 @@
--- A search told so, or not.
-use mathlib.Core.Path.{_≡_, refl}
-use mathlib.Core.Bool.{cond}
+-- The branches are the cases.
+use mathlib.Core.Path.{refl, sym, _∙_}
 use borrow.Author.Needs.{needs}
 use Rattle.running.proofs.tests.learned.Statement.{statement}
 use Rattle.running.proofs.tests.learned.Tie as tie
-use Rattle.running.proofs.tests.learned.Reads as reads
-use Rattle.running.proofs.tests.learned.Lts as lts
-use Rattle.zones.proofs.noted.Reads as noted-reads
 
--- src/tests.rt:81:9
 noted-requires : tie.Need-noted-requires
 noted-requires c κs = search needs
 
--- src/tests.rt:81:9
 returns : tie.Need-returns
-returns c =
-    rw (c .before .if1 .taken) (c .noted .ensures)
+returns c = rw (c .before .if1 .taken) (c .noted .ensures)
 
--- src/tests.rt:77:1
+found-requires : tie.Need-found-requires
+found-requires c κs = search needs
+
 returns-2 : tie.Need-returns-2
-returns-2 c = search needs
+returns-2 c = rw (c .before .before .if1 .left) (c .found .ensures)
 
 pub learned-spec : {M : Type 1} → statement M
-learned-spec = tie.close (tie.spec noted-requires returns returns-2)
+learned-spec = tie.close (tie.spec noted-requires returns found-requires returns-2)

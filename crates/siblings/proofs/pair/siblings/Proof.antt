@@ -1,7 +1,5 @@
 -- The last inequalities are halves, and those before them the same.
-use mathlib.Core.Path.{_≡_}
 use native.Mathlib.Omega.{arith}
-use lib.ListN.{length, length-map}
 use Rattle.integer.specs.Apart.{apart}
 use Rattle.siblings.specs.Siblings.{siblings-are}
 use borrow.Author.Needs.{needs}
@@ -14,29 +12,44 @@ returns c = λ e. apart cc
 returns-2 : tie.Need-returns-2
 returns-2 c = λ e. apart cc
 
-sub-e : tie.Need-sub-e
-sub-e c = search needs
+mul-inequality : tie.Need-mul-inequality
+mul-inequality c = search needs
 
-mul-e : tie.Need-mul-e
-mul-e c = search needs
+add-inequality : tie.Need-add-inequality
+add-inequality c = search needs
 
-element-copy-out-e : tie.Need-element-copy-out-e
-element-copy-out-e c = search needs
+sub-inequality : tie.Need-sub-inequality
+sub-inequality c = search needs
 
-sub-f : tie.Need-sub-f
-sub-f c = search needs
+inequality-requires : tie.Need-inequality-requires
+inequality-requires c κs = search needs
 
-mul-f : tie.Need-mul-f
-mul-f c = search needs
+mul-inequality-2 : tie.Need-mul-inequality-2
+mul-inequality-2 c = search needs
 
-element-copy-out-f : tie.Need-element-copy-out-f
-element-copy-out-f c = search needs
+add-inequality-2 : tie.Need-add-inequality-2
+add-inequality-2 c = search needs
+
+sub-inequality-2 : tie.Need-sub-inequality-2
+sub-inequality-2 c = search needs
+
+inequality-requires-2 : tie.Need-inequality-requires-2
+inequality-requires-2 c κs = search needs
 
 halves-requires : tie.Need-halves-requires
 halves-requires c κs = search needs
 
+mul-same : tie.Need-mul-same
+mul-same c = search needs
+
+mul-same-2 : tie.Need-mul-same-2
+mul-same-2 c = search needs
+
 sub-same : tie.Need-sub-same
 sub-same c = search needs
+
+mul-same-3 : tie.Need-mul-same-3
+mul-same-3 c = search needs
 
 same-requires : tie.Need-same-requires
 same-requires c κs = search needs
@@ -44,12 +57,13 @@ same-requires c κs = search needs
 returns-3 : tie.Need-returns-3
 returns-3 c =
     let at = c .before in
-    let few = at .before .before .before .before in
+    let f = at .before .before in
+    let e = f .before in
+    let few = e .before in
     let s = few .before .before in
-    let a : length (s .args .t1 .ineqs) ≡ 24 = simp length-map at (s .good .0 .1 .1 .1 .0 .1 .0 .1) in
-    let b : length (s .args .t2 .ineqs) ≡ 24 = simp length-map at (s .good .1 .0 .1 .1 .1 .0 .1 .0 .1) in
-    λ e. siblings-are (s .args .t1) (s .args .t2) (s .args .n) (omega (arith, few .before .if1 .left)) (omega (arith, few .if2 .left, a))
-    (omega (arith, few .if2 .left, b)) (at .before .halves .ensures (at .if3 .taken)) (c .same .ensures e)
+    λ same. siblings-are (s .args .cells .now) (s .args .p) (s .args .q) (s .args .n) (omega (arith, few .before .if1 .left))
+    (omega (arith, few .if2 .left)) _ _ (e .inequality .ensures) (f .inequality2 .ensures) (at .before .halves .ensures (at .if3 .taken))
+    (c .same .ensures same)
 
 returns-4 : tie.Need-returns-4
 returns-4 c = λ e. apart cc
@@ -60,14 +74,19 @@ siblings-spec =
     (tie.spec
     returns
     returns-2
-    sub-e
-    mul-e
-    element-copy-out-e
-    sub-f
-    mul-f
-    element-copy-out-f
+    mul-inequality
+    add-inequality
+    sub-inequality
+    inequality-requires
+    mul-inequality-2
+    add-inequality-2
+    sub-inequality-2
+    inequality-requires-2
     halves-requires
+    mul-same
+    mul-same-2
     sub-same
+    mul-same-3
     same-requires
     returns-3
     returns-4)

@@ -1,46 +1,49 @@
--- The loop's invariant: the inequalities before i are the same.
-use mathlib.Core.Path.{_≡_, refl}
-use mathlib.Core.List.{map}
-use Prim.Native.Nat.{_-_, _≤_}
+-- The loop's invariant: the numbers before i are the same.
+use Prim.Native.Nat.{_+_, _-_, _≤_}
 use native.Mathlib.Omega.{arith}
-use lib.ListN.{length, take, length-map}
+use lib.IntN.{pos}
+use lib.ListN.{getD}
+use mir.Syntax.{w32}
+use mir.Val.{SFits}
+use mir.ValLaws.{toZ-ofZ}
 use Rattle.integer.specs.Apart.{apart}
-use Rattle.expr.specs.Records.{affine}
-use Rattle.siblings.proofs.Steps.{not-no, taken-more}
+use Rattle.siblings.proofs.Steps.{neither, SameTo, same-more}
 use borrow.Author.Needs.{needs}
 use Rattle.siblings.proofs.same.same.Statement.{statement}
 use Rattle.siblings.proofs.same.same.Tie as tie
 
 abbrev Inv-loop : tie.InvT-loop
-Inv-loop n y z i₀ i =
-    (i ≤ n) × (length (y .ineqs) ≡ 24) × (length (z .ineqs) ≡ 24) × (map affine (take i (y .ineqs)) ≡ map affine (take i (z .ineqs)))
+Inv-loop cells a b n i₀ i = (i ≤ n) × SameTo cells a b i
 
 abbrev μ-loop : tie.MeasureT-loop
-μ-loop n y z i₀ i = n - i
+μ-loop cells a b n i₀ i = n - i
 
 loop-holds : tie.Need-loop-holds Inv-loop μ-loop
-loop-holds c =
-    let a : length (c .args .t1 .ineqs) ≡ 24 = simp length-map at (c .good .0 .1 .1 .1 .0 .1 .0 .1) in
-    let b : length (c .args .t2 .ineqs) ≡ 24 = simp length-map at (c .good .1 .0 .1 .1 .1 .0 .1 .0 .1) in
-    (omega arith, a, b, refl)
+loop-holds c = (omega arith, λ j g. absurd (omega arith))
 
-mul-e : tie.Need-mul-e Inv-loop μ-loop
-mul-e c = search needs
+add-x : tie.Need-add-x Inv-loop μ-loop
+add-x c = search needs
 
-element-copy-out-e : tie.Need-element-copy-out-e Inv-loop μ-loop
-element-copy-out-e c = search needs
+mul-x : tie.Need-mul-x Inv-loop μ-loop
+mul-x c = search needs
 
-mul-f : tie.Need-mul-f Inv-loop μ-loop
-mul-f c = search needs
+shared-slice-copy-out-x : tie.Need-shared-slice-copy-out-x Inv-loop μ-loop
+shared-slice-copy-out-x c = search needs
 
-element-copy-out-f : tie.Need-element-copy-out-f Inv-loop μ-loop
-element-copy-out-f c = search needs
+add-y : tie.Need-add-y Inv-loop μ-loop
+add-y c = search needs
 
-equal-requires : tie.Need-equal-requires Inv-loop μ-loop
-equal-requires c κs = search needs
+mul-y : tie.Need-mul-y Inv-loop μ-loop
+mul-y c = search needs
+
+shared-slice-copy-out-y : tie.Need-shared-slice-copy-out-y Inv-loop μ-loop
+shared-slice-copy-out-y c = search needs
 
 returns : tie.Need-returns Inv-loop μ-loop
 returns c = λ e. apart cc
+
+returns-2 : tie.Need-returns-2 Inv-loop μ-loop
+returns-2 c = λ e. apart cc
 
 add-i : tie.Need-add-i Inv-loop μ-loop
 add-i c = search needs
@@ -50,25 +53,23 @@ loop-less c = search needs
 
 loop-again : tie.Need-loop-again Inv-loop μ-loop
 loop-again c =
-    let loop = c .before .before .before .before .before .loop in
-    let s = c .before .before .before .before .before .before in (
+    let b = c .before .before in
+    let a = b .before in
+    let loop = a .before .before .loop in
+    let s = a .before .before .before .args in
+    let x = getD (s .cells .now) (s .a + loop .i) (pos 0) in
+    let y = getD (s .cells .now) (s .b + loop .i) (pos 0) in
+    let f : SFits w32 x = record { sfits = a .x .given } in
+    let g : SFits w32 y = record { sfits = b .y .given } in (
       omega arith,
-      loop .inv .1,
-      loop .inv .2,
-      taken-more (s .args .t1 .ineqs) (s .args .t2 .ineqs) (loop .i) (omega (arith, loop .inv .1, s .pre)) (omega (
-        arith,
-        loop .inv
-            .2,
-        s .pre,
-      ))
-          (loop .inv .3) (c .before .equal .ensures (not-no _ (c .if1 .left))),
+      same-more (s .cells .now) (s .a) (s .b) (loop .i) (loop .inv .1)
+          (neither x y _ _ (toZ-ofZ w32 _ f) (toZ-ofZ w32 _ g) (c .before .if1 .left) (c .if2 .left)),
     )
 
-returns-2 : tie.Need-returns-2 Inv-loop μ-loop
-returns-2 c =
+returns-3 : tie.Need-returns-3 Inv-loop μ-loop
+returns-3 c =
     let loop = c .before .loop in
-    let same : loop .i ≡ c .before .before .args .n = omega (arith, c .loop-test .left, loop .inv .0) in
-    λ e. rw same at (loop .inv .3)
+    λ e j h. loop .inv .1 j (omega (arith, c .loop-test .left))
 
 pub same-spec : {M : Type 1} → statement M
 same-spec =
@@ -77,13 +78,15 @@ same-spec =
     Inv-loop
     μ-loop
     loop-holds
-    mul-e
-    element-copy-out-e
-    mul-f
-    element-copy-out-f
-    equal-requires
+    add-x
+    mul-x
+    shared-slice-copy-out-x
+    add-y
+    mul-y
+    shared-slice-copy-out-y
     returns
+    returns-2
     add-i
     loop-less
     loop-again
-    returns-2)
+    returns-3)

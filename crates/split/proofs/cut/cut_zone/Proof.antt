@@ -30,21 +30,22 @@ abbrev μ-loop : tie.MeasureT-loop
 -- the turn that is made when `ended` has returned
 abbrev TurnAt : tie.After-ended Inv-loop μ-loop → Type 0
 TurnAt c =
-    let at-loop = c .before .before .before .before .before .before .before .before in
+    let at-loop = c .before .before .before .before .before .before .before in
     let after-start = at-loop .before in
     let a = after-start .before .before .before .args in
     Turn (a .b) (a .r) (at-loop .loop .stack) (at-loop .loop .n) (at-loop .loop .now) (c .ended .result)
-    (drained (a .b) (a .r) (replicate 25 (after-start .start .result)) 1 (a .out)) (c .before .before .run .result .part)
+    (drained (a .b) (a .r) (replicate 25 (after-start .start .result)) 1 (a .out)) (c .before .run .result)
 
 turn : (c : tie.After-ended Inv-loop μ-loop) → TurnAt c
 turn c =
-    let in-loop = c .before .before .before .before .before .before .before in
+    let in-loop = c .before .before .before .before .before .before in
     let a = in-loop .before .before .before .before .before .args in
-    let hinted = c .before .before .before .hint-of in
+    let hinted = c .before .before .hint-of in
     record {
       top = omega (arith, in-loop .loop-test .taken);
       turned = in-loop .before .loop .inv;
-      ran = c .before .before .run .ensures .0 (a .b) (hinted-new (a .b) _ (hinted .result) (hinted .ensures .0) (hinted .ensures .1));
+      ran = c .before .run .ensures (a .b)
+          (hinted-new (a .b) _ (hinted .result) (hinted .ensures .0) (hinted .ensures .1 .0) (hinted .ensures .1 .1));
       ended = c .ended .ensures;
     }
 
@@ -80,8 +81,8 @@ run-requires c κs =
     let at-loop = in-loop .before .loop in
     let a = in-loop .before .before .before .before .before .args in (
       top-live (at-loop .stack) (at-loop .n) (at-loop .n - 1) (omega (arith, in-loop .loop-test .taken)) (at-loop .inv .waiting),
-      hinted-new (a .b) (getD (at-loop .stack) (at-loop .n - 1) noPart .zone) (c .hint-of .result) (c .hint-of .ensures .0) (c .hint-of
-          .ensures .1) .trusted,
+      hinted-new (a .b) (getD (at-loop .stack) (at-loop .n - 1) noPart .zone) (c .hint-of .result) (c .hint-of .ensures .0)
+          (c .hint-of .ensures .1 .0) (c .hint-of .ensures .1 .1) .trusted,
     )
 
 ended-requires : tie.Need-ended-requires Inv-loop μ-loop
@@ -90,7 +91,7 @@ ended-requires c κs = search needs
 returns-2 : tie.Need-returns-2 Inv-loop μ-loop
 returns-2 c =
     let after-ended = c .before .before in
-    let at-loop = after-ended .before .before .before .before .before .before .before .before in
+    let at-loop = after-ended .before .before .before .before .before .before .before in
     let after-start = at-loop .before in
     let a = after-start .before .before .before .args in
     refused-turned (turn after-ended) (c .if2 .taken)
@@ -147,7 +148,7 @@ loop-again c =
 loop-less-2 : tie.Need-loop-less-2 Inv-loop μ-loop
 loop-less-2 c =
     let after-ended = c .before .before .before .before in
-    let at-loop = after-ended .before .before .before .before .before .before .before .before .loop in
+    let at-loop = after-ended .before .before .before .before .before .before .before .loop in
     ends-less (at-loop .stack) (at-loop .n) (at-loop .n - 1) (turn after-ended .top)
 
 loop-again-2 : tie.Need-loop-again-2 Inv-loop μ-loop

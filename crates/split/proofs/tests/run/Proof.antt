@@ -1,31 +1,27 @@
--- The loop's invariant: the part on its way comes to what the first one comes to, the list has its zone's inequalities, and what is known
--- of the zone can be trusted.
+-- The loop's invariant: the part on its way comes to what the first one comes to, and the list has its zone's inequalities.
 use mathlib.Core.Path.{_≡_, refl, sym, _∙_}
-use mathlib.Core.Bool.{true, false}
-use mathlib.Core.Logic.{⊎-elim}
 use native.Mathlib.Omega.{arith}
 use lib.ListN.{length, length-map}
 use Rattle.split.specs.Runs.{left, going-starts, going-ends}
-use Rattle.split.proofs.Turns.{Way, partOf, way-starts, way-skips, skip-less, few-at, run-turn, run-less}
-use Rattle.split.proofs.Turns.{Knowing, knowing-starts, knowing-hinted, knowing-fits, knowing-settled, knowing-left, knowing-turn}
+use Rattle.split.specs.Turns.{Way, partOf, way-starts, way-skips, skip-less, few-at, run-turn, run-less}
+use Rattle.split.specs.Turns.{knowing-starts, knowing-fits}
 use borrow.Author.Needs.{needs}
 use Rattle.split.proofs.tests.run.Statement.{statement}
 use Rattle.split.proofs.tests.run.Tie as tie
 
 abbrev Inv-loop : tie.InvT-loop
-Inv-loop r known₀ witness₀ zone list flat₀ old bound new₀ test₀ tests₀ phase₀ halt₀ known witness flat new test tests phase halt =
-    Way r zone (known₀ .ranges) (list .count) (partOf zone new₀ test₀ tests₀ phase₀ halt₀) flat (partOf zone new test tests phase halt)
-    × Knowing zone known₀ known
+Inv-loop hint r zone list flat₀ old bound new₀ test₀ tests₀ phase₀ halt₀ flat new test tests phase halt =
+    Way r zone (hint .ranges) (list .count) (partOf zone new₀ test₀ tests₀ phase₀ halt₀) flat (partOf zone new test tests phase halt)
 
 abbrev μ-loop : tie.MeasureT-loop
-μ-loop r known₀ witness₀ zone list flat₀ old bound new₀ test₀ tests₀ phase₀ halt₀ known witness flat new test tests phase halt =
+μ-loop hint r zone list flat₀ old bound new₀ test₀ tests₀ phase₀ halt₀ flat new test tests phase halt =
     left (partOf zone new test tests phase halt)
 
 returns : tie.Need-returns Inv-loop μ-loop
 returns c =
-    let start = c .before .before .before in
+    let start = c .before .before in
     let a = start .args in
-    (λ b h. going-ends b (a .r) (a .p) (a .p) (going-starts b (a .r) (a .p) (start .pre .0)) (c .if1 .taken), (refl, λ b h. h))
+    λ b h. going-ends b (a .r) (a .p) (a .p) (going-starts b (a .r) (a .p) (start .pre .0)) (c .if1 .taken)
 
 flat-of-requires : tie.Need-flat-of-requires Inv-loop μ-loop
 flat-of-requires c κs = search needs
@@ -36,13 +32,11 @@ framed-of-requires c κs = search needs
 loop-holds : tie.Need-loop-holds Inv-loop μ-loop
 loop-holds c =
     let listed = c .before .before .before .before .before .before in
-    let start = listed .before .before .before .before .before in
+    let start = listed .before .before .before .before in
     let a = start .args in
     let long : length (a .r .old) ≡ 25 = simp length-map at (start .good .1 .0 .1 .1 .1 .1 .1 .1 .0 .1 .0 .1) in
-    let room : length (listed .flat-of .result .numbers) ≡ 125 = simp length-map at (listed .flat-of .ok .1 .1 .1 .0 .1 .0 .1) in (
-      way-starts (a .r) _ _ (a .p) _ (start .pre .0) long (listed .flat-of .ensures .1) room (listed .flat-of .ensures .0),
-      knowing-starts (a .p .zone) (a .hint) (start .pre .1),
-    )
+    let room : length (listed .flat-of .result .numbers) ≡ 125 = simp length-map at (listed .flat-of .ok .1 .1 .1 .0 .1 .0 .1) in
+    way-starts (a .r) _ _ (a .p) _ (start .pre .0) long (listed .flat-of .ensures .1) room (listed .flat-of .ensures .0)
 
 outside-requires : tie.Need-outside-requires Inv-loop μ-loop
 outside-requires c κs = search needs
@@ -55,11 +49,11 @@ loop-less c =
     let skipped = c in
     let in-loop = skipped .before .before .before in
     let at-loop = in-loop .before in
-    let start = at-loop .before .before .before .before .before .before .before .before .before .before .before .before in
+    let start = at-loop .before .before .before .before .before .before .before .before .before .before .before in
     let loop = at-loop .loop in
     let a = start .args in
     skip-less (a .r) (a .p .zone) _ _ (a .p) (loop .flat)
-    (partOf (a .p .zone) (loop .new) (loop .test) (loop .tests) (loop .phase) (loop .halt)) (loop .inv .0) (in-loop .loop-test .taken)
+    (partOf (a .p .zone) (loop .new) (loop .test) (loop .tests) (loop .phase) (loop .halt)) (loop .inv) (in-loop .loop-test .taken)
     (sym (skipped .before .before .outside .ensures) ∙ skipped .before .if2 .taken) (skipped .after .result) (skipped .after .ensures)
 
 loop-again : tie.Need-loop-again Inv-loop μ-loop
@@ -67,16 +61,12 @@ loop-again c =
     let skipped = c in
     let in-loop = skipped .before .before .before in
     let at-loop = in-loop .before in
-    let start = at-loop .before .before .before .before .before .before .before .before .before .before .before .before in
+    let start = at-loop .before .before .before .before .before .before .before .before .before .before .before in
     let loop = at-loop .loop in
-    let a = start .args in (
-      way-skips (a .r) (a .p .zone) _ _ (a .p) (loop .flat)
-          (partOf (a .p .zone) (loop .new) (loop .test) (loop .tests) (loop .phase) (loop .halt)) (loop .inv .0) (in-loop .loop-test
-          .taken)
-          (sym (skipped .before .before .outside .ensures) ∙ skipped .before .if2 .taken) (skipped .after .result) (skipped .after
-          .ensures),
-      loop .inv .1,
-    )
+    let a = start .args in
+    way-skips (a .r) (a .p .zone) _ _ (a .p) (loop .flat)
+    (partOf (a .p .zone) (loop .new) (loop .test) (loop .tests) (loop .phase) (loop .halt)) (loop .inv) (in-loop .loop-test .taken)
+    (sym (skipped .before .before .outside .ensures) ∙ skipped .before .if2 .taken) (skipped .after .result) (skipped .after .ensures)
 
 places-requires : tie.Need-places-requires Inv-loop μ-loop
 places-requires c κs = search needs
@@ -112,96 +102,81 @@ settled-requires : tie.Need-settled-requires Inv-loop μ-loop
 settled-requires c κs =
     let placed = c .before .before .before .before .before .before in
     let at-loop = placed .before .before .before .before in
-    let start = at-loop .before .before .before .before .before .before .before .before .before .before .before .before in
+    let start = at-loop .before .before .before .before .before .before .before .before .before .before .before in
     let loop = at-loop .loop in
     let a = start .args in
-    knowing-fits (a .r) (a .p .zone) (a .hint) (loop .known) _ (a .p) (loop .flat)
-    (partOf (a .p .zone) (loop .new) (loop .test) (loop .tests) (loop .phase) (loop .halt)) (loop .inv .0) (loop .inv .1)
-
-noted-requires : tie.Need-noted-requires Inv-loop μ-loop
-noted-requires c κs = search needs
+    knowing-fits (a .r) (a .p .zone) (a .hint) (a .hint) _ (a .p) (loop .flat)
+    (partOf (a .p .zone) (loop .new) (loop .test) (loop .tests) (loop .phase) (loop .halt)) (loop .inv)
+    (knowing-starts (a .p .zone) (a .hint) (start .pre .1))
 
 mul-kept : tie.Need-mul-kept Inv-loop μ-loop
 mul-kept c =
-    let placed = c .before .before .before .before .before .before .before .before .before .before in
+    let placed = c .before .before .before .before .before .before .before .before in
     omega (arith, few-at _ _ _ _ (placed .places .ensures) .into)
 
 array-copy-out-kept : tie.Need-array-copy-out-kept Inv-loop μ-loop
 array-copy-out-kept c =
-    let placed = c .before .before .before .before .before .before .before .before .before .before in
+    let placed = c .before .before .before .before .before .before .before .before in
     omega (arith, few-at _ _ _ _ (placed .places .ensures) .into)
 
 turned-requires : tie.Need-turned-requires Inv-loop μ-loop
 turned-requires c κs = search needs
 
 mul-new : tie.Need-mul-new Inv-loop μ-loop
-mul-new c = let placed = c .before .before .before .before .before .before .before .before .before .before .before .before .before in
+mul-new c = let placed = c .before .before .before .before .before .before .before .before .before .before .before in
     omega
     (arith, few-at _ _ _ _ (placed .places .ensures) .into)
 
 array-set-from-new : tie.Need-array-set-from-new Inv-loop μ-loop
-array-set-from-new c = let placed = c .before .before .before .before .before .before .before .before .before .before .before .before
-    .before in
+array-set-from-new c = let placed = c .before .before .before .before .before .before .before .before .before .before .before in
     omega (arith, few-at _ _ _ _ (placed .places .ensures) .into)
 
 loop-less-2 : tie.Need-loop-less-2 Inv-loop μ-loop
 loop-less-2 c =
     let moved = c .before .before in
-    let asked = moved .before .before .before .before .before in
+    let asked = moved .before .before .before in
     let compared = asked .before .before in
     let placed = compared .before .before .before .before .before in
     let in-loop = placed .before .before .before in
     let at-loop = in-loop .before in
-    let start = at-loop .before .before .before .before .before .before .before .before .before .before .before .before in
+    let start = at-loop .before .before .before .before .before .before .before .before .before .before .before in
     let framed = at-loop .before .before .before .before in
     let loop = at-loop .loop in
     let a = start .args in
     let q = partOf (a .p .zone) (loop .new) (loop .test) (loop .tests) (loop .phase) (loop .halt) in
-    let told = knowing-settled (a .r) (a .p .zone) (a .hint) (loop .known) _ (a .p) (loop .flat) q (loop .inv .0) (loop .inv .1)
-    (compared .tighter .result) (asked .settled .result .kind) (asked .settled .ensures .0) in
     run-less (a .r) (a .p .zone) _ _ (a .p) (loop .flat)
-    q (loop .inv .0) (in-loop .loop-test .taken)
+    q (loop .inv) (in-loop .loop-test .taken)
     (placed .places .result) (placed .places .ensures) (framed .framed-of .result .entries) (framed .framed-of .ensures)
     (compared .before .via .result) (compared .before .via .ensures) (compared .tighter .result) (compared .tighter .ensures)
-    (asked .settled .result .kind) told (moved .turned .result) (moved .turned .ensures)
+    (asked .settled .result .kind) (asked .settled .ensures .0) (moved .turned .result) (moved .turned .ensures)
 
 loop-again-2 : tie.Need-loop-again-2 Inv-loop μ-loop
 loop-again-2 c =
     let moved = c .before .before in
-    let asked = moved .before .before .before .before .before in
+    let asked = moved .before .before .before in
     let compared = asked .before .before in
     let placed = compared .before .before .before .before .before in
     let in-loop = placed .before .before .before in
     let at-loop = in-loop .before in
-    let start = at-loop .before .before .before .before .before .before .before .before .before .before .before .before in
+    let start = at-loop .before .before .before .before .before .before .before .before .before .before .before in
     let framed = at-loop .before .before .before .before in
     let loop = at-loop .loop in
     let a = start .args in
     let q = partOf (a .p .zone) (loop .new) (loop .test) (loop .tests) (loop .phase) (loop .halt) in
-    let told = knowing-settled (a .r) (a .p .zone) (a .hint) (loop .known) _ (a .p) (loop .flat) q (loop .inv .0) (loop .inv .1)
-    (compared .tighter .result) (asked .settled .result .kind) (asked .settled .ensures .0) in
-    let learned = knowing-turn (a .r) (a .p .zone) (a .hint) (loop .known) _ (a .p) (loop .flat) q (loop .inv .0) (loop .inv .1)
-    (compared .tighter .result) (asked .settled .result .kind) (asked .settled .ensures .0) in (
-      run-turn (a .r) (a .p .zone) _ _ (a .p) (loop .flat)
-          q (loop .inv .0) (in-loop .loop-test .taken)
-          (placed .places .result) (placed .places .ensures) (framed .framed-of .result .entries) (framed .framed-of .ensures)
-          (compared .before .via .result) (compared .before .via .ensures) (compared .tighter .result) (compared .tighter .ensures)
-          (asked .settled .result .kind) told (moved .turned .result) (moved .turned .ensures) _
-          (knowing-left (a .r) (a .p .zone) (a .hint) (loop .known) _ (a .p) (loop .flat) q (loop .inv .0) (loop .inv .1)
-          (compared .tighter .result) _ (asked .settled .ensures .1)),
-      ⊎-elim (λ j. learned true _ (j .2 ∙ j .1 .ensures)) (λ j. learned false _ (j .1)) (c .before .before .before .before .before .if3
-          .came),
-    )
+    run-turn (a .r) (a .p .zone) _ _ (a .p) (loop .flat)
+    q (loop .inv) (in-loop .loop-test .taken)
+    (placed .places .result) (placed .places .ensures) (framed .framed-of .result .entries) (framed .framed-of .ensures)
+    (compared .before .via .result) (compared .before .via .ensures) (compared .tighter .result) (compared .tighter .ensures)
+    (asked .settled .result .kind) (asked .settled .ensures .0) (moved .turned .result) (moved .turned .ensures) _
+    (asked .settled .ensures .1)
 
 returns-2 : tie.Need-returns-2 Inv-loop μ-loop
 returns-2 c =
     let at-loop = c .before .before in
-    let a = at-loop .before .before .before .before .before .before .before .before .before .before .before .before .args in
-    let loop = at-loop .loop in (
-      λ b h. going-ends b (a .r) (a .p) (partOf (a .p .zone) (loop .new) (loop .test) (loop .tests) (loop .phase) (loop .halt))
-          (loop .inv .0 .going b (h .narrows)) (c .before .loop-test .left),
-      (refl, λ b h. knowing-hinted b (a .p .zone) (a .hint) (loop .known) (loop .inv .1) h),
-    )
+    let a = at-loop .before .before .before .before .before .before .before .before .before .before .before .args in
+    let loop = at-loop .loop in
+    λ b h. going-ends b (a .r) (a .p) (partOf (a .p .zone) (loop .new) (loop .test) (loop .tests) (loop .phase) (loop .halt))
+    (loop .inv .going b (h .narrows)) (c .before .loop-test .left)
 
 pub run-spec : {M : Type 1} → statement M
 run-spec =
@@ -228,7 +203,6 @@ run-spec =
     tighter-requires
     slice-aggregate-settled
     settled-requires
-    noted-requires
     mul-kept
     array-copy-out-kept
     turned-requires

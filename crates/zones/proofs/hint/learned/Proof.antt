@@ -10,8 +10,8 @@ with-requires c κs = search needs
 
 returns : tie.Need-returns
 returns c =
-    let h = c .before .before .before .args .h in
-    ap (λ (g : Nogoods). record { ranges = h .ranges; guess = h .guess; nogoods = g }) (c .with .ensures)
+    let h = c .before .before .before .before .args .h in
+    ap (λ (g : Nogoods). record { ranges = h .ranges; guess = h .guess; sure = h .sure; other = h .other; nogoods = g }) (c .with .ensures)
 
 pub learned-spec : {M : Type 1} → statement M
 learned-spec = tie.close (tie.spec with-requires returns)

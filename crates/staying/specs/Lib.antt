@@ -1,0 +1,2 @@
+-- What a step put to a zone where it stands comes to.
+pub mod Stays
