@@ -5,7 +5,7 @@ ghost use Rattle.answers.specs.Numbers.{refusal_as, checked_as};
 use crate::Numbered;
 
 // Why a file is refused, with the place where there is one: Size, 2; Contents, 3; Body, 4; Valuations, 16; Route, 5.
-#[derive(Drop)]
+#[derive(Clone, Copy)]
 pub enum Refusal {
     Size,
     Contents(usize),
@@ -15,7 +15,7 @@ pub enum Refusal {
 }
 
 // A file is fine, or it is refused.
-#[derive(Drop)]
+#[derive(Clone, Copy)]
 pub enum Checked {
     Fine,
     Refused(Refusal),

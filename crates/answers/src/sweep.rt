@@ -6,7 +6,7 @@ use crate::file::Refusal;
 use crate::{Numbered, file};
 
 // A run, void, the file refused by 2 to 5 or 16, or the parameter with this index outside its range (6).
-#[derive(Drop)]
+#[derive(Clone, Copy)]
 pub enum Answer {
     Run,
     Void,

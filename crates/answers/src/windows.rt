@@ -6,7 +6,7 @@ use crate::file::Refusal;
 use crate::{Numbered, file};
 
 // How many zones (paper: pieces), and how many valuations (paper: settings) are kept and cut.
-#[derive(Drop)]
+#[derive(Clone, Copy)]
 pub struct Counts {
     pub pieces: usize,
     pub kept: usize,
@@ -15,7 +15,7 @@ pub struct Counts {
 
 // The zones are listed; the table is too small (1); the file is refused (2 to 5, 16); or at a visit a guard would list a 33rd zone (7), or
 // a split would give its parts a 25th inequality (8). 9 was a number that leaves its range; no sheet meets it, and it is not used again.
-#[derive(Drop)]
+#[derive(Clone, Copy)]
 pub enum Answer {
     Listed(Counts),
     Small,

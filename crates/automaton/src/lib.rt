@@ -2,13 +2,15 @@
 // body 3, its transitions (paper: moves).
 //
 // Every public function is total, and its contract is an equation with a definition of specs/Automaton.
+#![tactic(auto)]
+
 pub mod locations;
 pub mod transitions;
 
 use guards::Guard;
 
 // A location (paper: stage) with its invariants (paper: standing limits).
-#[derive(Drop)]
+#[derive(Clone, Copy)]
 pub struct Location {
     pub count: usize,
     pub guards: [Guard; 6],
@@ -23,7 +25,7 @@ impl Location {
 }
 
 // A transition (paper: move) from one location to another. Bit i - 1 of `resets` is for clock i.
-#[derive(Drop)]
+#[derive(Clone, Copy)]
 pub struct Transition {
     pub from: usize,
     pub to: usize,

@@ -7,7 +7,7 @@ use cursor::{Cursor, byte_field, finished};
 use guard_lists::guards_at;
 
 // Body 2: where reading stands after it, how many clocks and locations, and the locations.
-#[derive(Drop)]
+#[derive(Clone, Copy)]
 pub struct LocationsAt {
     pub cursor: Cursor,
     pub clocks: u8,

@@ -14,14 +14,14 @@ use cursor::{Cursor, below_field, byte_field, finished, judged};
 use guard_lists::guards_at;
 
 // A transition, and where reading stands after it.
-#[derive(Drop)]
+#[derive(Clone, Copy)]
 pub struct TransitionAt {
     pub cursor: Cursor,
     pub transition: Transition,
 }
 
 // Body 3: where reading stands after it, how many transitions, and the transitions.
-#[derive(Drop)]
+#[derive(Clone, Copy)]
 pub struct TransitionsAt {
     pub cursor: Cursor,
     pub count: u8,

@@ -1,6 +1,8 @@
 // The part of a sheet file that is a body (paper 01, "The sheet file": "the body handed out for a kind").
 //
 // Every function is total, and its contract is an equation with a definition of specs/Body.
+#![tactic(auto)]
+
 mod parts;
 
 ghost use Rattle.std.specs.Prelude.{◌≡◌};

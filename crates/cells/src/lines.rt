@@ -8,7 +8,7 @@ ghost use Rattle.cells.specs.Cells.{cells_in, no_cell, put_ineq};
 use expr::{Expr, PARAMETERS};
 
 // The first inequalities of a place in a list of their own, with room for one more.
-#[derive(Drop)]
+#[derive(Clone, Copy)]
 pub struct Rows {
     pub numbers: [i32; 125],
 }

@@ -7,7 +7,7 @@ ghost use Rattle.constrain.specs.Rules.{places_at, framed_c, inside_c, via_at, o
 use expr::Bound;
 
 // A guard left - right with a bound, for a sheet's clocks, and the matrix that it finds.
-#[derive(Drop)]
+#[derive(Clone, Copy)]
 pub struct Rule {
     pub clocks: usize,
     pub left: usize,
@@ -18,7 +18,7 @@ pub struct Rule {
 
 // Where the entries of a phase stand in the matrix, 25 for none: the first and the last of its sum, and the one that is compared with it;
 // and where the sum goes if it is tighter, 0 where the phase is no entry's.
-#[derive(Drop)]
+#[derive(Clone, Copy)]
 pub struct Reads {
     pub first: usize,
     pub last: usize,
@@ -63,7 +63,7 @@ pub fn places(left: usize, right: usize, phase: usize) -> Reads
 }
 
 // A matrix with a place behind it, 25, which is zero, not strict: what is read outside the matrix.
-#[derive(Drop)]
+#[derive(Clone, Copy)]
 pub struct Framed {
     pub entries: [Bound; 26],
 }

@@ -1,4 +1,6 @@
 // How many valuations of ranges meet inequalities.
+#![tactic(auto)]
+
 mod counted;
 
 pub use counted::count;

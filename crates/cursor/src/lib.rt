@@ -1,6 +1,8 @@
 // The fields of a file (paper 01, "The sheet file"), read by a cursor that stops at the first wrong one. Each function takes where
 // reading stands and returns where it stands then; a stopped cursor passes through. Every function is total, and its contract is an
 // equation with a definition of specs/Cursor.
+#![tactic(auto)]
+
 ghost use Rattle.std.specs.Prelude.{◌≡◌, get_or};
 ghost use Rattle.cursor.specs.Cursor.{
   within,
@@ -14,7 +16,7 @@ ghost use Rattle.cursor.specs.Cursor.{
 
 // Where reading stands. If `ok`, `at` is the next byte, and the field read last is in `byte` or in
 // `word`; otherwise `at` is the place of the first wrong field, and nothing more is read.
-#[derive(Drop)]
+#[derive(Clone, Copy)]
 pub struct Cursor {
     pub ok: bool,
     pub at: usize,

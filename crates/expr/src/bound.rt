@@ -6,7 +6,7 @@ ghost use Rattle.expr.specs.Records.{bound_as, bound_of, test};
 use crate::number::Expr;
 
 // A bound: none, or an expression with a strict mark. None has a zero expression and is not strict.
-#[derive(Drop)]
+#[derive(Clone, Copy)]
 pub struct Bound {
     pub none: bool,
     pub strict: bool,
@@ -14,7 +14,7 @@ pub struct Bound {
 }
 
 // What a comparison of two bounds asks: nothing, the answer being yes or no; or whether an expression is at least 0.
-#[derive(Drop)]
+#[derive(Clone, Copy)]
 pub enum Asked {
     Yes,
     No,
@@ -22,7 +22,7 @@ pub enum Asked {
 }
 
 // Whether a bound is tighter than another: yes or no without a test, the expression being zero; or exactly if it is at least 0.
-#[derive(Drop)]
+#[derive(Clone, Copy)]
 pub struct Test {
     pub asked: Asked,
     pub expr: Expr,

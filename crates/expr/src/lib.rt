@@ -1,4 +1,6 @@
 // Expressions over parameters, their ranges and bounds: the arithmetic under Windows and Sweep.
+#![tactic(auto)]
+
 mod bound;
 mod number;
 mod range;

@@ -11,14 +11,14 @@ use saturating::{difference, sum};
 pub const PARAMETERS: usize = 4;
 
 // An expression: a constant, and a coefficient for each parameter.
-#[derive(Drop)]
+#[derive(Clone, Copy)]
 pub struct Expr {
     pub constant: i32,
     pub coefs: [i32; PARAMETERS],
 }
 
 // A valuation of the parameters (paper: setting).
-#[derive(Drop)]
+#[derive(Clone, Copy)]
 pub struct Valuation {
     pub numbers: [i16; PARAMETERS],
 }

@@ -2,14 +2,14 @@
 use crate::number::PARAMETERS;
 
 // A parameter's range, both ends included.
-#[derive(Drop)]
+#[derive(Clone, Copy)]
 pub struct Range {
     pub low: i16,
     pub high: i16,
 }
 
 // The ranges of the parameters; one that a sheet lacks has 0 to 0.
-#[derive(Drop)]
+#[derive(Clone, Copy)]
 pub struct Ranges {
     pub list: [Range; PARAMETERS],
 }

@@ -1,4 +1,6 @@
 // The first valuation of ranges that meets inequalities.
+#![tactic(auto)]
+
 mod search;
 
 pub use search::{Solution, first};

@@ -10,7 +10,7 @@ ghost use Rattle.valuations.specs.Valuations.{first};
 use expr::{PARAMETERS, Ranges, Valuation};
 
 // The first valuation that was found; zeros if nothing was.
-#[derive(Drop)]
+#[derive(Clone, Copy)]
 pub struct Solution {
     pub found: bool,
     pub valuation: Valuation,

@@ -1,5 +1,7 @@
 // Guards whose fields are all right, read straight from their bytes: no cursor is moved field by field. Where a field is wrong, or the end
 // is passed, the guards are read by fields, which finds the place.
+#![tactic(auto)]
+
 ghost use Rattle.std.specs.Prelude.{◌≡◌, true, cond, ℕ, ◌+◌, ◌*◌, ◌<◌, ◌≤◌, ltb, ℤ, length, List};
 ghost use Rattle.guards.specs.Guards.{guard_expr};
 ghost use Rattle.guard_bytes.specs.Plain.{number_at, head_right, Kept, PlainRead};
@@ -10,7 +12,7 @@ use guards::{Guard, bound_of, one_zero, signed_of};
 use words::{shifted, word_of};
 
 // The coefficients of a guard: whether all are right, the last word, plus 32,768, and the numbers.
-#[derive(Drop)]
+#[derive(Clone, Copy)]
 struct Coefs {
     pub ok: bool,
     pub word: u16,
@@ -18,7 +20,7 @@ struct Coefs {
 }
 
 // A guard: whether all its fields are right, its last word, plus 32,768, and the guard.
-#[derive(Drop)]
+#[derive(Clone, Copy)]
 pub struct Plain {
     pub ok: bool,
     pub word: u16,

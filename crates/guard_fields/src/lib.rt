@@ -1,6 +1,8 @@
 // A guard (paper: limit) read field by field: the first wrong field stops the cursor there.
 //
 // Every public function is total, and its contract is an equation with a definition of guards/specs/Guards.
+#![tactic(auto)]
+
 ghost use Rattle.std.specs.Prelude.{◌≡◌, ◌<◌};
 ghost use Rattle.guards.specs.Guards.{guard_expr, coef_step, coefs_at, zero_step, zeros_at, guard_at};
 

@@ -1,6 +1,8 @@
 // Counted lists of guards (paper 01, "The sheet file"): straight from their bytes where all fields are right, else field by field.
 //
 // Every public function is total, and its contract is an equation with a definition of guards/specs/Guards.
+#![tactic(auto)]
+
 ghost use Rattle.std.specs.Prelude.{◌≡◌, ◌<◌};
 ghost use Rattle.guards.specs.Guards.{guard_step, guards_at};
 ghost use Rattle.guard_lists.specs.Listed.{guards_from};

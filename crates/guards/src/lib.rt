@@ -3,6 +3,8 @@
 // mean.
 //
 // Every public function is total, and its contract is an equation with a definition of specs/Guards.
+#![tactic(auto)]
+
 ghost use Rattle.std.specs.Prelude.{◌≡◌};
 ghost use Rattle.cursor.specs.Cursor.{signed_of};
 ghost use Rattle.guards.specs.Guards.{one_zero, guard_bound, right_field};
@@ -12,7 +14,7 @@ use expr::{Bound, Expr, PARAMETERS};
 
 // A guard (paper: limit): clock `left` - clock `right` is at most, or below, the bound's
 // expression. Clock 0 is always zero.
-#[derive(Drop)]
+#[derive(Clone, Copy)]
 pub struct Guard {
     pub left: u8,
     pub right: u8,
@@ -29,21 +31,21 @@ impl Guard {
 }
 
 // The coefficients of a guard, and where reading stands after them.
-#[derive(Drop)]
+#[derive(Clone, Copy)]
 pub struct CoefsAt {
     pub cursor: Cursor,
     pub coefs: [i32; PARAMETERS],
 }
 
 // A guard, and where reading stands after it.
-#[derive(Drop)]
+#[derive(Clone, Copy)]
 pub struct GuardAt {
     pub cursor: Cursor,
     pub guard: Guard,
 }
 
 // The guards of a location or a transition, how many, and where reading stands after them.
-#[derive(Drop)]
+#[derive(Clone, Copy)]
 pub struct GuardsAt {
     pub cursor: Cursor,
     pub count: usize,

@@ -1,4 +1,6 @@
 // Whether some valuation of ranges meets inequalities, by halves.
+#![tactic(auto)]
+
 mod search;
 mod widest;
 

@@ -1,4 +1,6 @@
 // What a zone (paper: piece) holds of the valuations (paper: settings) of ranges: the first.
+#![tactic(auto)]
+
 ghost use Rattle.std.specs.Prelude.{◌≡◌, map, take};
 ghost use Rattle.expr.specs.Records.{affine, range_list, valuation_of};
 ghost use Rattle.valuations.specs.Valuations.{first, numbers_in};

@@ -1,4 +1,6 @@
 // Guards (paper: limits) that are seen to leave a zone (paper: piece) as it is, without a search: most do.
+#![tactic(auto)]
+
 ghost use Rattle.std.specs.Prelude.{◌≡◌, true, ℕ, ◌<◌, length, get_or};
 ghost use Rattle.cells.specs.Cells.{cells_in, no_cell, zone_of};
 ghost use Rattle.expr.specs.declared.range.Ranges.{Ranges};

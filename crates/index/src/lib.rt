@@ -3,6 +3,8 @@
 //
 // Every public function is total, and its contract is an equation with the definitions of crates sheet and route, of the sheet that
 // specs/SheetIn gives to an index.
+#![tactic(auto)]
+
 ghost use Rattle.std.specs.Prelude.{◌≡◌};
 ghost use Rattle.cursor.specs.Cursor.{advanced};
 ghost use Rattle.sheet.specs.Lookup.{at, location_c, transition_c};
@@ -16,7 +18,7 @@ use guard_lists::guards_at;
 
 // The index of a file: its version, how many parameters, clocks, locations, transitions and moves, the ends of bodies 2 and 3, the
 // ranges, the places of locations and transitions in the file, and the route.
-#[derive(Drop)]
+#[derive(Clone, Copy)]
 pub struct Index {
     pub version: u8,
     pub parameters: u8,

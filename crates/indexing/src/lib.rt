@@ -1,4 +1,6 @@
 // The index of a file: the whole file is read and judged, and of its locations and transitions only the places are kept.
+#![tactic(auto)]
+
 ghost use Rattle.std.specs.Prelude.{◌≡◌};
 ghost use Rattle.answers.specs.Numbers.{checked_as, refusal_as};
 ghost use Rattle.reading.specs.File.{judged_bodies, read_of};
@@ -16,14 +18,14 @@ use reading::few_valuations;
 use route::route_at;
 
 // What reading a file gives: that it is fine, and its index; or why it is refused, and a blank index.
-#[derive(Drop)]
+#[derive(Clone, Copy)]
 pub struct Indexing {
     pub checked: Checked,
     pub index: Index,
 }
 
 // The four bodies: where reading them ended, and the index.
-#[derive(Drop)]
+#[derive(Clone, Copy)]
 pub struct IndexAt {
     pub cursor: Cursor,
     pub index: Index,

@@ -1,1 +1,2 @@
 // No code: integers for proofs. The laws are in specs/.
+#![tactic(auto)]

@@ -4,14 +4,14 @@ ghost use Rattle.expr.specs.declared.range.Ranges.{Ranges};
 ghost use Rattle.kept.specs.Stacks.{held_in, no_item, held_on, top_of, step_of, zones_in};
 
 // The first `count` inequalities of the zone at place `at`.
-#[derive(Drop)]
+#[derive(Clone, Copy)]
 pub(crate) struct Item {
     pub at: usize,
     pub count: usize,
 }
 
 // The first `count` items of the list, and the place of the zone that comes next.
-#[derive(Drop)]
+#[derive(Clone, Copy)]
 pub(crate) struct Stack {
     pub next: usize,
     pub count: usize,
@@ -27,7 +27,7 @@ impl Stack {
 }
 
 // The two items on top, if they have as many inequalities: their places, and how many; zeros otherwise.
-#[derive(Drop)]
+#[derive(Clone, Copy)]
 struct Top {
     below: usize,
     top: usize,

@@ -1,4 +1,6 @@
 // Whether the route of an index links: only where each transition starts and arrives is read.
+#![tactic(auto)]
+
 ghost use Rattle.std.specs.Prelude.{◌≡◌, ◌<◌};
 ghost use Rattle.route.specs.Route.{ends_at, link_step, links_of};
 ghost use Rattle.index.specs.SheetIn.{sheet_in};

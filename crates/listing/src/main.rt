@@ -1,6 +1,8 @@
 // Reads a sheet from standard input and prints what Windows found (paper 01, "Sheets to try"): how many pieces, kept and cut, and each
 // piece; or the refusal and its place. If the input cannot be read or the output cannot be written, it says why on standard error and
 // prints no more.
+#![tactic(auto)]
+
 mod text;
 mod zone;
 

@@ -1,4 +1,6 @@
 // Nogoods: expressions that were found to be below 0 wherever some inequalities hold, kept so that the same is not asked again.
+#![tactic(auto)]
+
 ghost use Rattle.std.specs.Prelude.{◌≡◌, true, false, ℤ, pos, ◌-ℤ◌, ◌≤ℤ◌, List};
 ghost use Rattle.std.specs.Int.Signed.{le_z};
 ghost use Rattle.expr.specs.Affine.{value};
@@ -8,7 +10,7 @@ ghost use Rattle.nogoods.specs.Nogoods.{Below, Same, with_c};
 use expr::{Expr, PARAMETERS};
 
 // The last three, and the place that the next one takes.
-#[derive(Drop)]
+#[derive(Clone, Copy)]
 pub struct Nogoods {
     pub list: [Expr; 3],
     pub next: usize,

@@ -1,4 +1,6 @@
 // Functions on machine numbers that several crates use.
+#![tactic(auto)]
+
 ghost use Rattle.std.specs.Prelude.{◌≡◌, min, ◌-◌};
 
 // n, or most where n is more.

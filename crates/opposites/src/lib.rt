@@ -1,4 +1,6 @@
 // Pairs of inequalities of opposite coefficients.
+#![tactic(auto)]
+
 mod pairs;
 
 pub use pairs::{apart, halves};

@@ -1,6 +1,8 @@
 // Body 1 of a sheet file (paper 01, "The sheet file"): the parameters (paper: allowances) with their ranges.
 //
 // Every public function is total, and its contract is an equation with a definition of specs/Parameters.
+#![tactic(auto)]
+
 ghost use Rattle.std.specs.Prelude.{◌≡◌, ◌<◌};
 ghost use Rattle.cursor.specs.Cursor.{signed_of};
 ghost use Rattle.parameters.specs.Parameters.{
@@ -17,7 +19,7 @@ use expr::{PARAMETERS, Range, Ranges};
 use words::signed_field;
 
 // Body 1: where reading stands after it, how many parameters, and their ranges.
-#[derive(Drop)]
+#[derive(Clone, Copy)]
 pub struct ParametersAt {
     pub cursor: Cursor,
     pub count: u8,

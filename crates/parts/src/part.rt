@@ -10,7 +10,7 @@ use zones::Zone;
 
 // A part: the test that comes next (27: none); whether it goes on (0), is cut (1), is kept (2), splits by the test (3), or is refused
 // (8); how many tests were asked on its way; and its zone, whose matrix is the new one.
-#[derive(Drop)]
+#[derive(Clone, Copy)]
 pub struct Part {
     pub phase: usize,
     pub halt: usize,
@@ -20,7 +20,7 @@ pub struct Part {
 }
 
 // Where a part stands after a test: the next phase, and whether it goes on, as in `Part`.
-#[derive(Drop)]
+#[derive(Clone, Copy)]
 pub struct Next {
     pub phase: usize,
     pub halt: usize,
@@ -183,7 +183,7 @@ fn question_after(kind: usize, t: Test, was: Expr) -> Expr
 
 // What a turn of a part makes of it: its phase, whether it goes on, its tests and its question, as in `Part`; and the entry that the phase
 // may put in.
-#[derive(Drop)]
+#[derive(Clone, Copy)]
 pub struct Turn {
     pub phase: usize,
     pub halt: usize,

@@ -6,7 +6,7 @@ use steps::Step;
 
 // Where a pass stands: at step j, of whose n zones the first i are taken up, `kept` are listed so far, and `depth` parts wait; and at
 // which visit.
-#[derive(Drop)]
+#[derive(Clone, Copy)]
 pub struct Pass {
     pub j: usize,
     pub n: usize,

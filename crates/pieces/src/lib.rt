@@ -1,5 +1,7 @@
 // A place of the table that the caller lends: the piece of a zone, or a blank one. Every function is total, and its contract is an
 // equation with a definition of specs/Table.
+#![tactic(auto)]
+
 ghost use Rattle.std.specs.Prelude.{◌≡◌, ◌<◌, length, get_or};
 ghost use Rattle.cells.specs.Cells.{no_cell, cells_in, zone_of};
 ghost use Rattle.windows_route.specs.Places.{zone_in};
@@ -10,7 +12,7 @@ use expr::{Bound, Expr, Ranges, Valuation};
 // A place of the table (paper: piece): whether it is used; the first valuation that it holds (paper: the setting to start from); its
 // inequalities, the first `count` of the list, each an expression that is at least 0, zeros past them; and its matrix, five rows of
 // five: entry 5i + j bounds clock i - clock j.
-#[derive(Drop)]
+#[derive(Clone, Copy)]
 pub struct Piece {
     pub used: bool,
     pub first: Valuation,

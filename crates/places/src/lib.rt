@@ -1,4 +1,6 @@
 // Where the locations and transitions of a file stand: bodies 2 and 3 are read as ever, and of each entry its place is kept.
+#![tactic(auto)]
+
 ghost use Rattle.std.specs.Prelude.{◌≡◌};
 ghost use Rattle.places.specs.Places.{short_of, location_places, transition_places};
 
@@ -7,7 +9,7 @@ use cursor::{Cursor, byte_field, finished};
 use guard_lists::guards_at;
 
 // Body 2: where reading stands after it, how many clocks and locations, and the locations' places.
-#[derive(Drop)]
+#[derive(Clone, Copy)]
 pub struct LocationPlaces {
     pub cursor: Cursor,
     pub clocks: u8,
@@ -16,7 +18,7 @@ pub struct LocationPlaces {
 }
 
 // Body 3: where reading stands after it, how many transitions, and their places.
-#[derive(Drop)]
+#[derive(Clone, Copy)]
 pub struct TransitionPlaces {
     pub cursor: Cursor,
     pub count: u8,

@@ -1,6 +1,8 @@
 // The sheet file (paper 01, "The sheet file") read whole: `read` gives the sheet by value, or why the file is refused, with the place.
 //
 // Every function is total, and its contract is an equation with a definition of specs/File.
+#![tactic(auto)]
+
 ghost use Rattle.std.specs.Prelude.{◌≡◌, leb};
 ghost use Rattle.reading.specs.File.{blank_sheet, bodies_of, judged_route, judged_widths, judged_bodies, read_of, read_as};
 ghost use Rattle.expr.specs.Records.{range_list};
@@ -20,14 +22,14 @@ use route::{links_of, route_at};
 use sheet::Sheet;
 
 // What reading a file gives: that it is fine, and its sheet; or why it is refused, and a blank sheet.
-#[derive(Drop)]
+#[derive(Clone, Copy)]
 pub struct Reading {
     pub checked: Checked,
     pub sheet: Sheet,
 }
 
 // The four bodies: where reading them ended, and the sheet.
-#[derive(Drop)]
+#[derive(Clone, Copy)]
 pub struct SheetAt {
     pub cursor: Cursor,
     pub sheet: Sheet,

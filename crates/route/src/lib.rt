@@ -2,6 +2,8 @@
 // where the last arrived.
 //
 // Every public function is total, and its contract is an equation with a definition of specs/Route.
+#![tactic(auto)]
+
 ghost use Rattle.std.specs.Prelude.{◌≡◌, ◌<◌};
 ghost use Rattle.route.specs.Route.{route_read, route_at, ends_at, link_step, links_of};
 
@@ -9,7 +11,7 @@ use automaton::Transition;
 use cursor::{Cursor, below_field, byte_field, finished};
 
 // Body 4: where reading stands after it, how many moves, and their transitions' numbers.
-#[derive(Drop)]
+#[derive(Clone, Copy)]
 pub struct RouteAt {
     pub cursor: Cursor,
     pub count: u8,
@@ -17,7 +19,7 @@ pub struct RouteAt {
 }
 
 // Where a transition starts and where it arrives.
-#[derive(Drop)]
+#[derive(Clone, Copy)]
 pub struct Ends {
     pub from: usize,
     pub to: usize,
@@ -25,7 +27,7 @@ pub struct Ends {
 
 // Following a route: where it has arrived if `ok`; otherwise the index of the first move that does
 // not start where the last arrived.
-#[derive(Drop)]
+#[derive(Clone, Copy)]
 pub struct Link {
     pub ok: bool,
     pub index: u8,

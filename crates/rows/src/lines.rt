@@ -8,7 +8,7 @@ ghost use Rattle.rows.specs.Lines.{ValueOf, line_at, row_from};
 use expr::{Range, Valuation};
 
 // constant + first · x + second · y ≥ 0.
-#[derive(Drop)]
+#[derive(Clone, Copy)]
 struct Line {
     constant: i64,
     first: i32,
@@ -16,7 +16,7 @@ struct Line {
 }
 
 // The constants of lines, in order.
-#[derive(Drop)]
+#[derive(Clone, Copy)]
 pub(crate) struct Constants {
     pub numbers: [i64; 25],
 }

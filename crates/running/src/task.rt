@@ -7,7 +7,7 @@ use guards::Guard;
 
 // A part but for its zone: the test that comes next (27: none); whether it goes on (0), is cut (1), is kept (2), splits by the test (3), or
 // is refused (8); how many tests were asked on its way; and the test that it splits by.
-#[derive(Drop)]
+#[derive(Clone, Copy)]
 pub struct Task {
     pub phase: usize,
     pub halt: usize,
@@ -16,7 +16,7 @@ pub struct Task {
 }
 
 // A guard left - right with a bound, for a sheet's clocks.
-#[derive(Drop)]
+#[derive(Clone, Copy)]
 pub struct Guarding {
     pub clocks: usize,
     pub left: usize,

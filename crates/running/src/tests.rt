@@ -15,14 +15,14 @@ use zones::Hint;
 
 // Where a part stops, and what is known of its zone then: where it splits, the guess may lie in one of the two parts and the other
 // valuation in the other.
-#[derive(Drop)]
+#[derive(Clone, Copy)]
 pub struct Stop {
     pub task: Task,
     pub hint: Hint,
 }
 
 // What a phase compares, the test whether that is tighter, and where it goes then.
-#[derive(Drop)]
+#[derive(Clone, Copy)]
 struct Asking {
     via: Bound,
     test: Test,

@@ -1,4 +1,6 @@
 // Numbers without a wrap: a number past ±(2^30 - 1) counts as that end in a sum, and a product is taken at a width that holds it.
+#![tactic(auto)]
+
 ghost use Rattle.std.specs.Prelude.{◌≡◌, ◌+ℤ◌, ◌-ℤ◌, ◌*ℤ◌};
 ghost use Rattle.weight.specs.Upper.{saturate};
 ghost use Rattle.saturating.specs.Largest.{LARGEST};

@@ -1,6 +1,8 @@
 // Satisfiability of inequalities over the ranges of parameters: whether a valuation meets them, at a glance or by a search; and, from the
 // crates below, the first that does, whether a given one does, and what they leave of the ranges.
 // Inequalities stand in a flat list, 1 + PARAMETERS numbers each: the constant, then the coefficients; past the end every number is 0.
+#![tactic(auto)]
+
 ghost use Rattle.std.specs.Prelude.{◌≡◌, true};
 ghost use Rattle.std.proofs.Math.Option.{none};
 ghost use Rattle.expr.specs.Ranges.{Inside};

@@ -1,6 +1,8 @@
 // The satisfiability search for programs in other languages: slices of numbers in, one number out.
 // The ranges: low and high of each parameter. The inequalities: the constant and a coefficient for each parameter, one after another.
 // Past the end of a slice every number is 0; numbers left over do not count.
+#![tactic(auto)]
+
 ghost use Rattle.std.specs.Prelude.{◌≡◌, ◌<◌, min};
 ghost use Rattle.expr.specs.Records.{range_list, valuation_of};
 ghost use Rattle.first_met.specs.Solutions.{solution_of};

@@ -10,7 +10,7 @@ use index::Index;
 use steps::{Step, Steps};
 
 // The steps of a segment, and the location where it ends.
-#[derive(Drop)]
+#[derive(Clone, Copy)]
 pub struct Segment {
     pub steps: Steps,
     pub there: Location,

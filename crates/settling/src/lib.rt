@@ -1,4 +1,6 @@
 // A test on a zone (paper: piece): settled if all or none of its valuations (paper: settings) satisfy it; otherwise it splits the zone.
+#![tactic(auto)]
+
 ghost use Rattle.std.specs.Prelude.{◌≡◌, true, cond, ltb, pos, ◌<ℤ◌};
 ghost use Rattle.std.specs.Int.Signed.{le_z};
 ghost use Rattle.expr.specs.Affine.{value};
@@ -12,7 +14,7 @@ use expr::{Asked, Expr, Test, Valuation};
 use zones::Hint;
 
 // Whether a search found nothing, or it was known before; whether there was a search; and the valuation that was found, else the guess.
-#[derive(Drop)]
+#[derive(Clone, Copy)]
 struct Seen {
     never: bool,
     searched: bool,
@@ -21,7 +23,7 @@ struct Seen {
 
 // A verdict: no (0), yes (1), a split by the test (3), a 25th inequality (8); whether a search told so of 0 or 1; and a valuation: where
 // the test splits, the guess is on one side of it and this one may be on the other.
-#[derive(Drop)]
+#[derive(Clone, Copy)]
 pub struct Verdict {
     pub kind: usize,
     pub searched: bool,

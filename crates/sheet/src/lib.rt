@@ -2,6 +2,8 @@
 // for the first place. What lies past a count is zero, so that a file has one sheet.
 //
 // Every function is total, and its contract is an equation with a definition of specs/Lookup.
+#![tactic(auto)]
+
 ghost use Rattle.std.specs.Prelude.{◌≡◌};
 ghost use Rattle.sheet.specs.Lookup.{location_c, transition_c};
 
@@ -10,7 +12,7 @@ use expr::Ranges;
 
 // A sheet: its version, 1 or 2, parameters (paper: allowances) with their ranges, clocks (paper: watches), locations (paper: stages),
 // transitions (paper: moves), and the route, a list of transition numbers.
-#[derive(Drop)]
+#[derive(Clone, Copy)]
 pub struct Sheet {
     pub version: usize,
     pub parameters: usize,

@@ -1,4 +1,6 @@
 // The inequalities that do not hold throughout a box.
+#![tactic(auto)]
+
 mod sift;
 
 pub use sift::sifted;

@@ -1,1 +1,2 @@
 // What the zones of the cutting are worth against Sweep and against runs: specs/. No code.
+#![tactic(auto)]

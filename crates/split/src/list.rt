@@ -6,7 +6,7 @@ use zones::{Zone, Zones};
 
 // Zones that a guard lists, or its refusal; and for each of them, at the same place, how many tests were asked on the way to it, from
 // the guard's first test on. Past the zones, and with a refusal, the counts are 0.
-#[derive(Drop)]
+#[derive(Clone, Copy)]
 pub struct Counted {
     pub zones: Zones,
     pub tests: [usize; 32],

@@ -1,4 +1,6 @@
 // A step put to a zone (paper: piece) where it stands (crate cells): most steps leave one zone of it, which stays there.
+#![tactic(auto)]
+
 ghost use Rattle.std.specs.Prelude.{◌≡◌, ◌<◌, ◌≤◌, length, get_or, true, false};
 ghost use Rattle.cells.specs.Cells.{cells_in, no_cell, zone_of};
 ghost use Rattle.steps.specs.Steps.{asks_c};
@@ -10,7 +12,7 @@ use steps::Step;
 use zones::Hint;
 
 // Whether one zone is left, which stands where the zone stood, and what is known of it; if not, the zone is as it was.
-#[derive(Drop)]
+#[derive(Clone, Copy)]
 pub struct Stood {
     pub kept: bool,
     pub hint: Hint,

@@ -1,5 +1,7 @@
 // Steps along a route: waits, guards (paper: limits) and resets, in lists; and what a step makes of one zone (paper: piece)
 // before its tests.
+#![tactic(auto)]
+
 mod step;
 
 pub use step::{Step, Steps, asks, changed, taken, with_guards, with_step};

@@ -8,7 +8,7 @@ use guards::Guard;
 use running::Task;
 
 // A step: a wait (0), a guard (1), or the resets of a transition (2), with which its move is made: the visit is then the one given.
-#[derive(Drop)]
+#[derive(Clone, Copy)]
 pub struct Step {
     pub kind: usize,
     pub bits: u8,
@@ -17,7 +17,7 @@ pub struct Step {
 }
 
 // Steps in order, the first `count` of the list; what lies past them does not matter.
-#[derive(Drop)]
+#[derive(Clone, Copy)]
 pub struct Steps {
     pub count: usize,
     pub list: [Step; 20],

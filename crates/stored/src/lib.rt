@@ -1,4 +1,6 @@
 // What the programs share: a stored length, a number's magnitude, and digests of results, which start at 0.
+#![tactic(auto)]
+
 ghost use Rattle.std.specs.Prelude.{◌+◌, ◌*◌, ◌<◌, ◌≡◌, nat_abs};
 ghost use Rattle.stored.specs.Digest.{with_number, with_signed};
 

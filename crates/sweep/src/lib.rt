@@ -2,6 +2,8 @@
 //
 // The contract of `sweep` is an equation with `replyOf` of specs/Reply, for every file and all numbers; specs/Theorems says what
 // that reply is worth: void exactly if no run exists, and else the matrix of tightest bounds over the end states of all runs.
+#![tactic(auto)]
+
 mod reply;
 
 ghost use Rattle.std.specs.Prelude.{◌≡◌};

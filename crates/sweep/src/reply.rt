@@ -12,26 +12,26 @@ use index::Index;
 use weight::Weight;
 
 // A row of Sweep's matrix: entry j of row i bounds clock i - clock j.
-#[derive(Drop)]
+#[derive(Clone, Copy)]
 pub struct Row {
     pub entries: [Weight; 5],
 }
 
 // The answer, and with a run the matrix of tightest bounds; else every entry is zero, not strict.
-#[derive(Drop)]
+#[derive(Clone, Copy)]
 pub struct Reply {
     pub answer: Answer,
     pub rows: [Row; 5],
 }
 
 // A number for each parameter; 0 for one that the sheet lacks.
-#[derive(Drop)]
+#[derive(Clone, Copy)]
 pub struct Numbers {
     pub list: [i64; PARAMETERS],
 }
 
 // Numbers that lie in the ranges, as a valuation, with index 0; or the index of the first one outside its range, with zeros.
-#[derive(Drop)]
+#[derive(Clone, Copy)]
 pub(crate) struct Placed {
     pub inside: bool,
     pub index: usize,

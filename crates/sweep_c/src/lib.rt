@@ -1,4 +1,6 @@
 // Sweep for programs in C: see include/sweep.h.
+#![tactic(auto)]
+
 ghost use Rattle.std.specs.Prelude.{◌≡◌, pos, ◌<◌, ◌^◌, [], ◌∷◌};
 ghost use Rattle.sweep.specs.Reply.{reply_of};
 

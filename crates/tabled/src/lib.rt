@@ -1,4 +1,6 @@
 // Windows on a table by value, for programs: they have no table to lend of their own.
+#![tactic(auto)]
+
 ghost use Rattle.std.specs.Prelude.{◌≡◌, ◌≤◌, min};
 ghost use Rattle.tabled.specs.On.{tabled_as, windows_on};
 
@@ -6,7 +8,7 @@ use answers::windows::Answer;
 use windows::Piece;
 
 // What Windows answers, and the table after it.
-#[derive(Drop)]
+#[derive(Clone, Copy)]
 pub struct Reply {
     pub answer: Answer,
     pub table: [Piece; 40],

@@ -1,4 +1,6 @@
 // Expressions and bounds with a valuation put in (paper: a setting).
+#![tactic(auto)]
+
 ghost use Rattle.std.specs.Prelude.{◌≡◌};
 ghost use Rattle.expr.specs.Affine.{value};
 ghost use Rattle.expr.specs.Bounds.{at_v};

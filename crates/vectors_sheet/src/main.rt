@@ -3,6 +3,8 @@
 // `read P C L T R digest D` with the counts of parameters, clocks, locations, transitions and route
 // entries and a digest of the whole sheet; then `bodies D` with a digest of what `body` hands out.
 // The lines that it must write come from reference/.
+#![tactic(auto)]
+
 mod digest;
 
 use libc::STDOUT_FILENO;

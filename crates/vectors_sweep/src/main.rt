@@ -3,6 +3,8 @@
 // as four numbers of eight bytes. It writes a line for each record: the length, and what Sweep
 // answers at each valuation as N/P/D, the answer's number, its place and a digest of its matrix. The
 // lines that it must write come from reference/.
+#![tactic(auto)]
+
 mod digest;
 mod number;
 

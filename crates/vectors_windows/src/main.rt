@@ -3,6 +3,8 @@
 // Windows answers as R/P, the number and the place, then how many pieces, kept and cut, a digest of the lent places, and one of the
 // tests of single guards on the pieces (`tests`). No place of the table is blank before the call. The lines that it must write come from
 // reference/.
+#![tactic(auto)]
+
 mod digest;
 mod tests;
 

@@ -1,4 +1,6 @@
 // The walk along a sheet's route at one valuation, in plain numbers.
+#![tactic(auto)]
+
 mod route;
 
 pub use route::walk;

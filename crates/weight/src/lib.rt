@@ -1,10 +1,12 @@
 // Weights: bounds at one valuation, in plain numbers.
+#![tactic(auto)]
+
 ghost use Rattle.std.specs.Prelude.{◌≡◌};
 ghost use Rattle.weight.specs.Upper.{MOST, sum_w, tighter_w, saturate, saturated};
 ghost use Rattle.weight.specs.Records.{weight_as, weight_of};
 
 // A weight: none, or a number with a strict mark. None has the number 0 and is not strict.
-#[derive(Drop)]
+#[derive(Clone, Copy)]
 pub struct Weight {
     pub none: bool,
     pub strict: bool,

@@ -1,4 +1,6 @@
 // Sweep's rules for a wait and for resets, on matrices of weights by value.
+#![tactic(auto)]
+
 ghost use Rattle.std.specs.Prelude.{◌≡◌, get_or, set, ◌<◌};
 ghost use Rattle.weight.specs.Records.{zero_weight};
 ghost use Rattle.weight_matrix.specs.Tables.{delayed_row, delayed_table, reset_entry, reset_row, reset_line, reset_table, reset_if, resets_table};

@@ -1,4 +1,6 @@
 // Sweep's rules for a guard on a matrix of weights.
+#![tactic(auto)]
+
 ghost use Rattle.std.specs.Prelude.{◌≡◌, ◌<◌, cond, ltb};
 ghost use Rattle.weight_matrix.specs.Tables.{sum_c, limited_entry, limited_row, limited_table, guarded_table};
 

@@ -1,5 +1,7 @@
 // Matrices of weights, five rows of five, by value: which are void, and whether a guard changes one. A void matrix is marked by a strict
 // zero at (0, 0).
+#![tactic(auto)]
+
 ghost use Rattle.std.specs.Prelude.{◌≡◌};
 ghost use Rattle.weight_matrix.specs.Tables.{void_table, is_void, guard_changes};
 

@@ -1,4 +1,6 @@
 // How many numbers a range has and how many valuations a box, sums and products of such counts, and a range in two.
+#![tactic(auto)]
+
 mod halves;
 mod product;
 mod ranges;

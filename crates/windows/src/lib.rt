@@ -2,6 +2,8 @@
 //
 // The contract of `windows` is an equation with `replyOf` of windows_reply/specs/Reply and `table_of` of pieces/specs/Pieces, for every
 // file and every table.
+#![tactic(auto)]
+
 mod table;
 
 ghost use Rattle.std.specs.Prelude.{◌≡◌, length};

@@ -1,4 +1,6 @@
 // How many pieces Windows lists, for the benchmark, which calls it from outside.
+#![tactic(auto)]
+
 ghost use Rattle.std.specs.Prelude.{◌≡◌, pos, neg_ℤ, ◌≤◌};
 ghost use Rattle.answers.specs.Numbers.{counts_of};
 ghost use Rattle.windows_reply.specs.Reply.{answered_as, answered_of, reply_of};

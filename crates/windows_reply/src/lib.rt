@@ -1,4 +1,6 @@
 // What Windows works out for a file: the answer, and the zones in lists that are lent (crate cells).
+#![tactic(auto)]
+
 ghost use Rattle.std.specs.Prelude.{◌≡◌, List, ℕ, ◌≤◌, ℤ, length};
 ghost use Rattle.valuations.specs.Valuations.{widths};
 ghost use Rattle.expr.specs.Records.{range_list};
@@ -15,7 +17,7 @@ use index::Index;
 use windows_route::Ended;
 
 // What is worked out: the answer, the ranges that were cut, and how many pieces; their zones are the first in the lists.
-#[derive(Drop)]
+#[derive(Clone, Copy)]
 pub struct Worked {
     pub answer: Answer,
     pub ranges: Ranges,

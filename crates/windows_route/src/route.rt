@@ -10,7 +10,7 @@ use running::Task;
 use zones::{Hint, Zone};
 
 // How the walk ends: the refusal, 0 for none, its visit, and how many zones are listed.
-#[derive(Drop)]
+#[derive(Clone, Copy)]
 pub struct Ended {
     pub refusal: usize,
     pub visit: usize,

@@ -1,5 +1,7 @@
 // The fields of two bytes (paper 01, "The sheet file"), with and without sign. Every function is total, and its contract is an equation
 // with a definition of cursor/specs/Cursor.
+#![tactic(auto)]
+
 ghost use Rattle.std.specs.Prelude.{◌≡◌, ◌+◌, ◌*◌};
 ghost use Rattle.cursor.specs.Cursor.{shifted, word_taken, signed_taken, word_field, signed_field};
 

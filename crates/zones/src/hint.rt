@@ -16,7 +16,7 @@ use nogoods::Nogoods;
 
 // What is known of a zone: the ranges that its inequalities leave; a valuation that it holds, where that is sure, else one that it may
 // hold; another one, that it may hold too; and expressions that no valuation of the zone makes 0 or more.
-#[derive(Drop)]
+#[derive(Clone, Copy)]
 pub struct Hint {
     pub ranges: Ranges,
     pub guess: Valuation,

@@ -1,4 +1,6 @@
 // Zones (paper: pieces) by value, their inequalities as the list that the search takes, and what is known of a zone before its tests.
+#![tactic(auto)]
+
 mod hint;
 mod system;
 mod zone;

@@ -8,7 +8,7 @@ use crate::zone::Zone;
 use expr::{Expr, PARAMETERS};
 
 // The first `count` inequalities of the list, 24 at most; there is room for one more, a test.
-#[derive(Drop)]
+#[derive(Clone, Copy)]
 pub struct Flat {
     pub count: usize,
     pub numbers: [i32; 125],

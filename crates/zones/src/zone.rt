@@ -7,7 +7,7 @@ use expr::{Bound, Expr};
 
 // A zone: its inequalities, the first `count` of the list, each an expression that is at least 0, zeros past them; and its matrix, five
 // rows of five: entry 5i + j bounds clock i - clock j.
-#[derive(Drop)]
+#[derive(Clone, Copy)]
 pub struct Zone {
     pub count: usize,
     pub ineqs: [Expr; 24],
@@ -15,7 +15,7 @@ pub struct Zone {
 }
 
 // Zones in order at a visit (moves made), the first `count` of the list, blank past them; or a refusal, 7 or 8, and no zones.
-#[derive(Drop)]
+#[derive(Clone, Copy)]
 pub struct Zones {
     pub refusal: usize,
     pub visit: usize,
