@@ -1,0 +1,12 @@
+-- `locations::location_step` meets its contract: the test on the way picks the definition's case. Assumes nothing.
+use borrow.Author.Tests.{lt-ltb, le-ltb}
+use Rattle.automaton.specs.Automaton.{location_step}
+use Rattle.automaton.proofs.locations.location_step.Goals as goal
+
+pub returns-then-i-all : goal.returns-then-i-all
+unfolding location_step
+returns-then-i-all c = simp (lt-ltb _ _ c.if-i-all.true, c.guards_at-read.ensures)
+
+pub returns-else-i-all : goal.returns-else-i-all
+unfolding location_step
+returns-else-i-all c = simp (le-ltb _ _ c.if-i-all.false)

@@ -1,0 +1,19 @@
+-- The plain sum, or the sum without some parameter, is below 0 throughout.
+use Prim.Native.Nat.{◌-◌}
+use Rattle.clashes.proofs.Sums.{one_time, seen, unseen}
+use Rattle.clashes.proofs.pair.clash.Goals as goal
+
+pub mixed-requires : goal.mixed-requires
+mixed-requires c = (one_time, one_time)
+
+pub returns-then-mixed-lt0 : goal.returns-then-mixed-lt0
+returns-then-mixed-lt0 c =
+    let mixed = c.mixed in
+    let s = c.args in
+    λ q. seen _ _ mixed.result s.t2 s.t3 s.b.list one_time one_time mixed.ensures.0 mixed.ensures.1 c.if-mixed-lt0.true
+
+pub returns-then-without : goal.returns-then-without
+returns-then-without c = λ q. c.without.ensures c.if-without.true
+
+pub returns : goal.returns
+returns c = unseen

@@ -1,0 +1,24 @@
+-- 64 bits hold a multiplier times a number of 32 bits.
+use mathlib.Core.Path.{refl, subst, sym}
+use lib.IntN.{ℤ, ◌*ℤ◌}
+use mir.Facts.{sfits_widen}
+use mir.Syntax.{w32, w64}
+use Rattle.integer.specs.Bits.{passed, op_fits, op_back}
+use Rattle.clashes.specs.Sizes.{SizedTerm}
+use Rattle.clashes.proofs.Sums.{times_size, times_fits}
+use Rattle.clashes.proofs.sum.times.Goals as goal
+
+pub overflow_mul-result : goal.overflow_mul-result
+overflow_mul-result c =
+    let s = c.before in
+    let f = s.ranges.x in
+    op_fits ◌*ℤ◌ w64 _ _ s.args.l s.args.x refl (passed w32 _ _ c.wide.ensures f) s.ranges.l (sfits_widen {w = w32} tt f)
+    (times_fits _ _ s.requires f)
+
+pub returns : goal.returns
+returns c =
+    let s = c.before in
+    let f = s.ranges.x in
+    let e = op_back ◌*ℤ◌ w64 _ _ s.args.l s.args.x refl (passed w32 _ _ c.wide.ensures f) s.ranges.l
+    (sfits_widen {w = w32} tt f) (times_fits _ _ s.requires f) in
+    (e, subst (λ (z : ℤ). SizedTerm z) (sym e) (times_size _ _ s.requires f))

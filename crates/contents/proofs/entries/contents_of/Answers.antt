@@ -1,0 +1,20 @@
+-- `entries::contents_of` meets its contract: code and definition are one composition. Each length is below 65,536, so the sums fit.
+-- Assumes nothing.
+use Rattle.contents.specs.Contents.{contents_of, version_of, head_of, one_of, first_of, two_of, second_of, three_of, third_of, four_of}
+use Rattle.contents.proofs.entries.contents_of.Goals as goal
+
+pub returns : goal.returns
+unfolding contents_of version_of head_of one_of first_of two_of second_of three_of third_of four_of
+returns c =
+    let three = c.before.before.before in
+    let two = three.before.before in
+    let one = two.before.before in
+    simp (
+      c.entry_field-four.ensures,
+      c.less-rest.ensures,
+      three.entry_field-three.ensures,
+      two.entry_field-two.ensures,
+      one.entry_field-one.ensures,
+      one.byte_field-count.ensures,
+      one.byte_field-version.ensures,
+    )

@@ -1,0 +1,23 @@
+-- A pair of inequalities that no valuation meets, or the search of the whole box.
+use mathlib.Core.Path.{ap, ◌∙◌}
+use Prim.Native.Nat.{ℕ, min}
+use lib.ListN.{length-map}
+use Rattle.counting.proofs.Nodes.{count_never}
+use Rattle.systems.specs.BoxLaws.{count_listed}
+use Rattle.widths.specs.Cap.{CAP}
+use Rattle.counting.proofs.counted.count.Goals as goal
+
+pub returns-then-opposed : goal.returns-then-opposed
+returns-then-opposed c =
+    let s = c.before.before.before in
+    count_never s.args.b.list s.args.flat.now s.args.n c.at_most-m.result
+    c.at_most-m.ensures
+    (simp length-map at s.well_formed.0.1.1.0.1.0.1) (c.opposed.ensures c.if-opposed.true)
+
+pub returns : goal.returns
+returns c =
+    let s = c.before.before.before.before in
+    let m = c.at_most-m in
+    c.count_from.ensures
+    ∙ ap (λ (k : ℕ). min k CAP) (count_listed s.args.b.list s.args.flat.now s.args.n m.result m.ensures
+    (simp length-map at s.well_formed.0.1.1.0.1.0.1))

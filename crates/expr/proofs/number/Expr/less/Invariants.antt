@@ -1,0 +1,16 @@
+use mathlib.Core.Path.{◌≡◌}
+use Prim.Native.Nat.{◌≤◌, ◌-◌}
+use lib.IntN.{pos}
+use lib.ListN.{get_or}
+use Rattle.expr.proofs.Records.{filled_e}
+use Rattle.saturating.specs.Sums.{difference_c}
+use Rattle.expr.proofs.number.Expr.less.Given as goal
+
+-- Each coefficient is the difference of the two, as the constant is.
+abbrev pub invariant-loop-i : goal.invariant-loop-i
+invariant-loop-i l = (l.i ≤ 4)
+    × (l.r ≡ filled_e (difference_c l.self.constant l.other.constant)
+    (λ k. difference_c (get_or l.self.coefs k (pos 0)) (get_or l.other.coefs k (pos 0))) l.i)
+
+abbrev pub decreases-loop-i : goal.decreases-loop-i
+decreases-loop-i l = 4 - l.i

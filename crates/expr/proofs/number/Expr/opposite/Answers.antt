@@ -1,0 +1,36 @@
+-- The constant turned round less one, and each coefficient turned round.
+use Prim.Native.Nat.{ℕ, ◌-◌}
+use native.Mathlib.Omega.{arith}
+use lib.IntN.{ℤ, pos, negsuc, neg_ℤ, ◌-ℤ◌}
+use lib.ListN.{get_or}
+use Rattle.weight.specs.Upper.{saturate}
+use Rattle.saturating.specs.Largest.{LARGEST}
+use Rattle.saturating.specs.Sums.{negated_stored}
+use Rattle.expr.specs.Affine.{opposite, saturated_e}
+use Rattle.expr.specs.declared.number.Expr.{Expr}
+use Rattle.expr.proofs.Records.{expr_turn, expr_all}
+use borrow.Author.Rules.{rules}
+use Rattle.expr.proofs.number.Expr.opposite.Goals as goal
+
+abbrev turnedC : Expr → ℤ
+turnedC e = negsuc 0 -ℤ saturate LARGEST e.constant
+
+abbrev negatedC : Expr → ℕ → ℤ
+negatedC e k = neg_ℤ (saturate LARGEST (get_or e.coefs k (pos 0)))
+
+pub loop-i-preserved : goal.loop-i-preserved
+loop-i-preserved c =
+    let turn = c.before.before in
+    let loop = turn.loop-i in
+    let start = turn.args in (
+      omega arith,
+      expr_turn _ _ loop.i loop.r _ loop.invariant.1
+          (negated_stored _ (get_or start.t1.coefs loop.i (pos 0))
+          (record { sfits = c.difference-arg-1.given }) c.difference-in-loop-i.ensures),
+    )
+
+pub returns : goal.returns
+unfolding opposite saturated_e
+returns c =
+    let loop = c.loop-i in
+    expr_all _ _ loop.i loop.r loop.invariant.1 loop.invariant.0 (search rules)

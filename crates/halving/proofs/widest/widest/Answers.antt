@@ -1,0 +1,26 @@
+-- The loop's invariant: the widest of the ranges before i.
+use mathlib.Core.Logic.{⊎_elim}
+use Prim.Native.Nat.{◌-◌}
+use borrow.Author.Rules.{rules}
+use Rattle.halving.proofs.Loops.{widest_start, widest_here, widest_not, widest_all}
+use Rattle.halving.proofs.widest.widest.Goals as goal
+
+pub loop-i-init : goal.loop-i-init
+loop-i-init c = widest_start _
+
+pub loop-i-preserved : goal.loop-i-preserved
+loop-i-preserved c =
+    let wide = c.before in
+    let loop = wide.loop-i in
+    let rs = wide.args.t1.list in
+    ⊎_elim
+    (λ t. rw (t.1, t.2)
+    (widest_here rs loop.i loop.w loop.most loop.invariant (search rules) wide.width-n.result wide.width-n.ensures.0
+    t.0.taken))
+    (λ t. rw (t.1, t.2)
+    (widest_not rs loop.i loop.w loop.most loop.invariant (search rules) wide.width-n.result wide.width-n.ensures.0
+    t.0.left))
+    c.if-most-n.branch
+
+pub returns : goal.returns
+returns c = widest_all _ c.loop-i.i _ _ c.loop-i.invariant (search rules)

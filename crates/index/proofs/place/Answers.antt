@@ -1,0 +1,9 @@
+-- `index::place` meets its contract: the test on the way picks the definition's case. Assumes nothing.
+use borrow.Author.Tests.{lt-ltb, le-ltb}
+use Rattle.index.proofs.place.Goals as goal
+
+pub returns-then-i-n : goal.returns-then-i-n
+returns-then-i-n c = simp (lt-ltb _ _ c.if-i-n.true)
+
+pub returns-else-i-n : goal.returns-else-i-n
+returns-else-i-n c = simp (le-ltb _ _ c.if-i-n.false)

@@ -1,0 +1,24 @@
+-- `index::transition_at` meets its contract: what it reads is what the index's sheet has there. Assumes nothing.
+use native.Mathlib.Omega.{arith}
+use Rattle.guards.specs.Guards.{blank_guard, blank_guards}
+use Rattle.automaton.specs.Automaton.{blank_transition}
+use Rattle.index.specs.SheetLaws.{place_below}
+use Rattle.index.proofs.Steps.{transition_here, transition_past}
+use borrow.Author.Rules.{rules}
+use Rattle.index.proofs.transition_at.Goals as goal
+
+pub bounds-ix-k : goal.bounds-ix-k
+bounds-ix-k c =
+    let h = place_below 32 c.args.n _ c.place-k.ensures (omega arith) in
+    search rules
+
+pub returns-then-k-ix : goal.returns-then-k-ix
+returns-then-k-ix c =
+    let read = c.before in
+    let most = read.before.before.before in
+    transition_here _ _ _ _ _ most.place-k.ensures most.if-k-ix.true
+    (rw (read.standing.ensures, most.most_parameters.ensures) at read.transition_at-read.ensures)
+
+pub returns-else-k-ix : goal.returns-else-k-ix
+unfolding blank_transition blank_guards blank_guard
+returns-else-k-ix c = transition_past _ _ _ _ c.place-k.ensures c.if-k-ix.false

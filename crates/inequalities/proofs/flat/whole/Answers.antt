@@ -1,0 +1,30 @@
+-- The numbers one after another.
+use Prim.Native.Nat.{◌-◌, ◌+◌}
+use native.Mathlib.Omega.{arith}
+use lib.IntN.{pos}
+use lib.ListN.{get_or}
+use mir.Syntax.{w32}
+use mir.Val.{SFits}
+use mir.ValLaws.{to_z-of_z}
+use Rattle.inequalities.proofs.Reading.{read_start, read_turn, read_all}
+use borrow.Author.Rules.{rules}
+use Rattle.inequalities.proofs.flat.whole.Goals as goal
+
+pub loop-i-init : goal.loop-i-init
+loop-i-init c =
+    let s = c.args in
+    let f : SFits w32 (get_or s.flat.now s.at (pos 0)) = record { sfits = c.e-1.given } in
+    (omega arith, read_start s.flat.now s.at _ (to_z-of_z w32 _ f))
+
+pub loop-i-preserved : goal.loop-i-preserved
+loop-i-preserved c =
+    let loop = c.loop-i in
+    let s = c.args in
+    let f : SFits w32 (get_or s.flat.now (s.at + 1 + loop.i) (pos 0)) = record { sfits = c.e-in-loop-i-1.given } in
+    (omega arith, read_turn s.flat.now s.at loop.i loop.e _ loop.invariant.1 (to_z-of_z w32 _ f))
+
+pub returns : goal.returns
+returns c =
+    let s = c.args in
+    let loop = c.loop-i in
+    read_all s.flat.now s.at loop.i loop.e loop.invariant.1 loop.invariant.0 (search rules)

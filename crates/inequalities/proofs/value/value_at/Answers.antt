@@ -1,0 +1,43 @@
+-- The loop's invariant: the sum so far, with the products still to come, is the value.
+use mathlib.Core.Path.{◌≡◌}
+use Prim.Native.Nat.{◌+◌, ◌-◌}
+use native.Mathlib.Omega.{arith}
+use lib.IntN.{pos, ◌+ℤ◌, ◌*ℤ◌}
+use lib.ListN.{length, get_or, length-map}
+use mir.Syntax.{w16, w32, w64}
+use mir.Val.{SFits, to_z, of_z}
+use mir.ValLaws.{to_z-of_z}
+use Rattle.integer.specs.Bits.{heard}
+use Rattle.integer.specs.Product.{size_fits}
+use Rattle.expr.specs.Records.{PARAMETERS}
+use Rattle.inequalities.proofs.Values.{ValueTo, value_turn, value_all, sum_fits}
+use borrow.Author.Rules.{rules}
+use Rattle.inequalities.proofs.value.value_at.Goals as goal
+
+-- the sum with one product more
+sum-next : (c : goal.After-term-total)
+    → let loop = c.loop-j in let s = c.args in
+    ValueTo s.t2 s.t1.numbers (loop.j + 1) (to_z w64 loop.total +ℤ to_z w64 (of_z w64 c.term-total.result))
+sum-next c =
+    let loop = c.loop-j in
+    let start = c.before.before.before.before.before.before.before in
+    let s = start.args in
+    let l : length s.t1.numbers ≡ PARAMETERS = simp length-map at start.well_formed.0.1.1.0.1.0.1 in
+    let f : SFits w64 c.term-total.result = size_fits w64 _ (omega (arith, c.term-total.ensures.1)) in
+    let a = get_or s.t2.coefs loop.j (pos 0) in
+    let x = get_or s.t1.numbers loop.j (pos 0) in
+    let g : SFits w32 a = record { sfits = c.term-arg-1.given } in
+    let h : SFits w16 x = record { sfits = c.term-arg-in-loop-j-1.given } in
+    rw (to_z-of_z w64 c.term-total.result f) (value_turn s.t2 s.t1.numbers loop.j _ c.term-total.result loop.invariant.1 (omega arith) l
+    (heard ◌*ℤ◌ w32 w16 _ a x c.term-total.ensures.0 g h) c.term-total.ensures.1)
+
+pub overflow_add-total : goal.overflow_add-total
+overflow_add-total c = sum_fits (c.loop-j.j + 1) _ (omega arith) (sum-next c).size
+
+pub loop-j-preserved : goal.loop-j-preserved
+loop-j-preserved c = (omega arith, rw (to_z-of_z w64 _ (overflow_add-total c)) (sum-next c))
+
+pub returns : goal.returns
+returns c =
+    let s = c.args in
+    value_all s.t2 s.t1.numbers c.loop-j.j _ c.loop-j.invariant.1 c.loop-j.invariant.0 (search rules)

@@ -1,0 +1,84 @@
+-- The loop's invariant: what the stack and the zones still to come hold together is what all zones hold.
+use mathlib.Core.Path.{◌≡◌, refl, sym, ap}
+use mathlib.Core.Bool.{true}
+use Prim.Native.Nat.{◌<◌}
+use native.Mathlib.Omega.{arith}
+use lib.ListN.{length, get_or, length-take}
+use Rattle.siblings.specs.Siblings.{Siblings}
+use Rattle.zones.specs.declared.zone.Zone.{Zone}
+use Rattle.kept.specs.Stacks.{no_zone, zones_in, zones_long, zones_at_lem}
+use Rattle.kept.specs.StackLaws.{top_bound, step_keeps, step_less, stacked_start, stacked_end, sib_at}
+use Rattle.kept.proofs.stack.stacked.Goals as goal
+
+pub loop-s-init : goal.loop-s-init
+loop-s-init c =
+    let a = c.args in
+    let z = zones_in a.cells.now a.counts.now in
+    let l : length z ≡ 32 = zones_long a.cells.now a.counts.now 32 0 in
+    let e = c.at_most-m.ensures in
+    (omega arith, omega (arith, length-take a.n z), stacked_start z a.n _ _ refl)
+
+pub highest-t-requires : goal.highest-t-requires
+highest-t-requires c =
+    let v = c.loop-s.invariant in
+    omega (arith, v.0, v.2.fits)
+
+-- the two on top lie in the list
+below-fits : (c : goal.After-highest-t) → c.highest-t.result.below < 32
+below-fits c = rw c.highest-t.ensures (top_bound _ _ _ _ c.loop-s.invariant.2).0
+
+top-fits : (c : goal.After-highest-t) → c.highest-t.result.top < 32
+top-fits c = rw c.highest-t.ensures (top_bound _ _ _ _ c.loop-s.invariant.2).1
+
+pub siblings-joined-requires : goal.siblings-joined-requires
+siblings-joined-requires c =
+    let s = c.before.before.before.before.before.before in
+    (s.requires.0, (omega (arith, below-fits c), omega (arith, top-fits c)))
+
+pub bounds-counts-next : goal.bounds-counts-next
+bounds-counts-next c =
+    let v = c.loop-s.invariant in
+    let s = c.before.before.before.before.before.before.before.before in
+    omega (arith, v.0, c.loop-s-test.true, s.requires.1)
+
+pub step-s-requires : goal.step-s-requires
+step-s-requires c =
+    let v = c.loop-s.invariant in
+    (v.2.fits, (v.0, c.loop-s-test.true))
+
+-- two zones that are found to be halves
+joined : (c : goal.After-siblings-joined) →
+    let a = c.args in
+    let z = zones_in a.cells.now a.counts.now in
+    let t = c.highest-t.result in
+    c.siblings-joined.result ≡ true → Siblings (get_or z t.below no_zone).ineqs (get_or z t.top no_zone).ineqs t.level
+joined c e =
+    let a = c.args in
+    sib_at a.cells.now a.counts.now _ _ _ (below-fits c.before) (top-fits c.before) (c.siblings-joined.ensures e)
+
+pub loop-s-smaller : goal.loop-s-smaller
+loop-s-smaller c =
+    let loop = c.loop-s in
+    let v = loop.invariant in
+    rw c.step-s.ensures (step_less _ _ _ v.1 v.0 loop.s v.2 c.loop-s-test.true _ _ _
+    c.highest-t.ensures (joined c.before.before))
+
+pub loop-s-preserved : goal.loop-s-preserved
+loop-s-preserved c =
+    let loop = c.loop-s in
+    let v = loop.invariant in
+    let a = c.args in (
+      v.0,
+      v.1,
+      rw c.step-s.ensures (step_keeps _ _ _ v.1 v.0 loop.s v.2 c.loop-s-test.true _ _ _
+          c.highest-t.ensures (joined c.before.before)
+          (λ h. ap (λ (z : Zone). z.count) (sym (zones_at_lem a.cells.now a.counts.now loop.s.next (omega (arith, v.0)))))),
+    )
+
+pub returns : goal.returns
+returns c =
+    let loop = c.loop-s in
+    let v = loop.invariant in (
+      (omega (arith, v.0, v.2.fits), v.2.bound),
+      stacked_end _ _ _ loop.s v.1 v.2 (omega (arith, c.loop-s-test.false)),
+    )

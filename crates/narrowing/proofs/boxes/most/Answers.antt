@@ -1,0 +1,15 @@
+-- The product at the end at which it is the most.
+use lib.IntN.{◌*ℤ◌}
+use mir.Syntax.{w16, w32}
+use mir.ValLaws.{to_z-of_z}
+use Rattle.integer.specs.Bits.{heard}
+use Rattle.narrowing.proofs.Terms.{most_is}
+use borrow.Author.Rules.{rules}
+use Rattle.narrowing.proofs.boxes.most.Goals as goal
+
+pub returns : goal.returns
+returns c =
+    let s = c.before.before in
+    let y = c.end.result in
+    most_is s.args.a s.args.r _ y (rw (to_z-of_z w32 _ s.ranges.a) at c.end.ensures)
+    (heard ◌*ℤ◌ w32 w16 _ s.args.a y c.term.ensures.0 s.ranges.a (search rules)) c.term.ensures.1

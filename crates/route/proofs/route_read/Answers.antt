@@ -1,0 +1,26 @@
+-- `route::route_read` meets its contract. The invariant: after i bytes the route is what `iterate` gives. Assumes nothing.
+use Prim.Native.Nat.{◌-◌}
+use native.Mathlib.Omega.{arith}
+use borrow.Author.Rules.{rules}
+use Rattle.route.proofs.RouteSteps.{read_begun, read_more, read_done}
+use Rattle.route.proofs.route_read.Goals as goal
+
+pub loop-i-init : goal.loop-i-init
+loop-i-init c = (omega arith, read_begun _ _ _ _)
+
+pub bounds-list-i : goal.bounds-list-i
+bounds-list-i c =
+    let few = c.at_most-n.ensures in
+    search rules
+
+pub loop-i-preserved : goal.loop-i-preserved
+loop-i-preserved c =
+    let at-loop = c.before.before in
+    let few = at-loop.at_most-n.ensures in
+    (omega arith, read_more _ _ _ _ _ _ _ _ (omega arith) at-loop.loop-i.invariant.1 c.below_field-number.ensures)
+
+pub returns : goal.returns
+returns c =
+    let at-loop = c.before in
+    read_done _ _ _ _ _ at-loop.loop-i.i _ _ _ at-loop.byte_field-count.ensures at-loop.at_most-n.ensures
+    at-loop.loop-i.invariant.0 (λ h. omega arith) at-loop.loop-i.invariant.1

@@ -1,0 +1,56 @@
+-- A range at whose ends the line holds stays; else its interval is left.
+use mathlib.Core.Path.{◌≡◌, ap, ◌∙◌}
+use native.Mathlib.Omega.{arith}
+use lib.IntN.{ℤ, ◌+ℤ◌, ◌*ℤ◌}
+use mir.Facts.{sfits_widen}
+use mir.Syntax.{w16, w32, w64}
+use mir.Val.{SFits, to_z, of_z}
+use mir.ValLaws.{to_z-of_z}
+use Rattle.integer.specs.Bits.{held, passed}
+use Rattle.integer.specs.Product.{size_fits}
+use Rattle.intervals.specs.Interval.{interval}
+use Rattle.intervals.specs.IntervalLaws.{slope_tame}
+use Rattle.rows.proofs.Ends.{end_asks, sized_tame}
+use Rattle.rows.proofs.lines.held.Goals as goal
+
+pub overflow_add-c : goal.overflow_add-c
+overflow_add-c c = end_asks 5 _ _ (omega arith) c.at-c.ensures.1 c.term.ensures.1
+
+pub overflow_add-c-then-c-term-ge0 : goal.overflow_add-c-then-c-term-ge0
+overflow_add-c-then-c-term-ge0 c = end_asks 5 _ _ (omega arith) c.at-c.ensures.1 c.term-then-c-term-ge0.ensures.1
+
+-- what the line is at x
+at-is : (c : goal.After-at-c) →
+    let s = c.args in
+    c.at-c.result ≡ s.q.constant +ℤ (s.q.first *ℤ s.x)
+at-is c =
+    let s = c.before in
+    c.at-c.ensures.0 ∙ ap (λ (z : ℤ). s.args.q.constant +ℤ (s.args.q.first *ℤ z)) (to_z-of_z w16 _ s.ranges.x)
+
+-- what `interval` is asked, each held as its bits
+value-is : (c : goal.After-wide) → let x = c.at-c.result in to_z w64 (of_z w64 x) ≡ x
+value-is c = to_z-of_z w64 _ (size_fits w64 _ (omega (arith, c.at-c.ensures.1)))
+
+slope-fits : (c : goal.After-wide) →
+    let s = c.args in
+    SFits w32 s.q.second
+slope-fits c = record { sfits = c.struct_told-1.given.1.1.0.1 }
+
+slope-is : (c : goal.After-wide) →
+    let s = c.args in
+    to_z w64 (of_z w64 c.wide.result) ≡ s.q.second
+slope-is c =
+    let f = slope-fits c in
+    held w64 _ _ (passed w32 _ _ c.wide.ensures f) (sfits_widen {w = w32} tt f)
+
+pub interval-requires : goal.interval-requires
+interval-requires c =
+    let v = c.at-c in
+    rw (value-is c, slope-is c) (sized_tame _ v.ensures.1, slope_tame _ (slope-fits c))
+
+pub returns : goal.returns
+returns c =
+    let n = c.before in
+    let s = n.args in
+    c.interval.ensures
+    ∙ (λ i. interval s.r ((value-is n ∙ at-is n.before.before.before.before.before) i) (slope-is n i))

@@ -1,0 +1,33 @@
+-- The last inequality is below 0 at its best.
+use mathlib.Core.Path.{◌≡◌, ap, ◌∙◌}
+use native.Mathlib.Omega.{arith}
+use lib.IntN.{ℤ, pos}
+use lib.Signed.{◌<ℤ◌}
+use mir.Syntax.{w64}
+use mir.Val.{to_z, of_z}
+use mir.ValLaws.{to_z-of_z}
+use Rattle.integer.specs.Apart.{apart}
+use Rattle.integer.specs.Order.{lt_z_true}
+use Rattle.integer.specs.Product.{size_fits}
+use Rattle.expr.specs.Affine.{Affine}
+use Rattle.narrowing.specs.Best.{best_of}
+use Rattle.systems.specs.BoxLaws.{best_nothing}
+use Rattle.search.proofs.fails.Goals as goal
+
+pub returns-then-n-eq0 : goal.returns-then-n-eq0
+returns-then-n-eq0 c = λ e. apart cc
+
+below-is : (x y : ℤ) → x ≡ y → x <ℤ pos 0 → y <ℤ pos 0
+below-is x y e h = rw e at h
+
+-- the local holds what `best` gave
+best-is : (c : goal.After-best) → to_z w64 (of_z w64 c.best.result) ≡ c.best.result
+best-is c = to_z-of_z w64 _ (size_fits w64 _ (omega (arith, c.best.ensures.1)))
+
+pub returns : goal.returns
+returns c =
+    let at = c.before in
+    let s = at.args in
+    let e = c.best.ensures.0 ∙ ap (λ (a : Affine). best_of a s.b.list) at.inequality.ensures in
+    λ q. best_nothing s.flat.now s.n _ s.b.list (omega (arith, at.if-n-eq0.false))
+    (below-is _ _ e (lt_z_true (rw (best-is c) at q)))

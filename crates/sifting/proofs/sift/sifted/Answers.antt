@@ -1,0 +1,52 @@
+-- Inequality by inequality: those so far are met exactly where the kept ones are.
+use mathlib.Core.Logic.{⊎_elim}
+use mathlib.Core.Path.{◌≡◌, sym, ◌∙◌}
+use Prim.Native.Nat.{◌-◌}
+use native.Mathlib.Omega.{arith}
+use mir.Syntax.{w64}
+use mir.Val.{to_z, of_z}
+use mir.ValLaws.{to_z-of_z}
+use Rattle.integer.specs.Order.{lt_z_false}
+use Rattle.integer.specs.Product.{size_fits}
+use Rattle.sifting.specs.Sifting.{sifted_start, sifted_skip, sifted_keep, sifted_all}
+use Rattle.sifting.proofs.sift.sifted.Goals as goal
+
+pub loop-k-init : goal.loop-k-init
+loop-k-init c = sifted_start _ _ _ _ c.requires
+
+pub overflow_add-m : goal.overflow_add-m
+overflow_add-m c =
+    let at-loop = c.before.before.before.before.before.before.before in
+    omega (arith, at-loop.loop-k.invariant.few, at-loop.loop-k.invariant.fewer)
+
+-- the best is a number of 64 bits
+best-is : (c : goal.After-best) → to_z w64 (of_z w64 c.best.result) ≡ c.best.result
+best-is c = to_z-of_z w64 _ (size_fits w64 _ (omega (arith, c.best.ensures.1)))
+
+pub loop-k-preserved : goal.loop-k-preserved
+loop-k-preserved c =
+    let best = c.before in
+    let read = best.before in
+    let at-loop = read.before.before in
+    let i = at-loop.loop-k in
+    let a = at-loop.args in
+    let e = read.inequality-e.result in
+    let turned = at-loop.turned-worst.result.list in
+    ⊎_elim
+    (λ w.
+    rw w.5
+    (sifted_keep a.flat.now a.n turned i.auto i.m i.k i.invariant read.loop-k-test.true e
+    read.inequality-e.ensures c.if-best-lt0.auto (w.4 ∙ w.2.ensures)))
+    (λ w.
+    rw (w.1, w.2)
+    (sifted_skip a.flat.now a.n turned i.auto i.m i.k i.invariant read.loop-k-test.true e
+    read.inequality-e.ensures best.best.result best.best.ensures.0 (lt_z_false (rw (best-is best) at w.0.left))))
+    c.if-best-lt0.branch
+
+pub shape_of-kept : goal.shape_of-kept
+shape_of-kept c = c.loop-k.invariant.long ∙ sym c.requires
+
+pub returns : goal.returns
+returns c =
+    let turned = c.before.before in
+    sifted_all _ _ _ _ c.loop-k.m c.loop-k.k _ c.loop-k.invariant c.loop-k-test.false turned.turned-worst.ensures

@@ -1,0 +1,37 @@
+-- The constant, and behind it the coefficients one after another.
+use mathlib.Core.Path.{sym, ◌∙◌}
+use Prim.Native.Nat.{◌-◌, ◌*◌}
+use native.Mathlib.Omega.{arith}
+use lib.IntN.{pos}
+use mir.Syntax.{w32}
+use mir.ValLaws.{to_z-of_z}
+use lib.ListN.{get_or, length-set}
+use Rattle.sifting.specs.Sifting.{writing_start, writing_turn}
+use Rattle.sifting.specs.Sifting.{stored_past, stored_short, room_set}
+use Rattle.sifting.proofs.sift.store.Goals as goal
+
+pub loop-i-init : goal.loop-i-init
+loop-i-init c =
+    let a = c.args in
+    writing_start a.t3 (5 * a.k) _
+    (room_set a.list.now (5 * a.k) _ _ (omega (arith, c.if-list-ge125.true, c.if-k-lt25.true)))
+
+pub loop-i-preserved : goal.loop-i-preserved
+loop-i-preserved c =
+    let loop = c.loop-i in
+    let a = c.args in
+    writing_turn a.t3 (5 * a.k) _ loop.i loop.list _ loop.invariant c.loop-i-test.true
+    (to_z-of_z w32 (get_or a.t3.coefs loop.i (pos 0)) (record { sfits = c.x-1.given }))
+
+pub shape_of-list : goal.shape_of-list
+shape_of-list c =
+    let a = c.args in
+    c.loop-i.invariant.long ∙ length-set a.list.now (5 * a.k) _
+
+pub returns-else-list-ge125 : goal.returns-else-list-ge125
+returns-else-list-ge125 c =
+    let a = c.args in
+    sym (stored_short a.list.now a.k a.t3 c.if-k-lt25.true c.if-list-ge125.false)
+
+pub returns-else-k-lt25 : goal.returns-else-k-lt25
+returns-else-k-lt25 c = let a = c.args in sym (stored_past a.list.now a.k a.t3 c.if-k-lt25.false)

@@ -1,0 +1,6 @@
+-- The record is `startC`.
+use mathlib.Core.Path.{refl}
+use Rattle.split.proofs.cut.start.Goals as goal
+
+pub returns : goal.returns
+returns c = refl

@@ -1,0 +1,8 @@
+-- The record is `noneAt`.
+use Rattle.split.specs.Listed.{none_at}
+use mathlib.Core.Path.{refl}
+use Rattle.split.proofs.list.none_at.Goals as goal
+
+pub returns : goal.returns
+unfolding none_at
+returns c = refl

@@ -1,0 +1,70 @@
+-- The part is run where it stands; where it does not stay, the copy is put back.
+use mathlib.Core.Path.{sym, subst, ◌∙◌}
+use native.Mathlib.Omega.{arith}
+use Rattle.cells.specs.Cells.{Cell, cells_in, zone_of}
+use Rattle.cells.specs.CellLaws.{cells_long}
+use Rattle.split.specs.Stack.{start_live}
+use Rattle.zones.specs.Hinted.{Trusted}
+use Rattle.staying.specs.Stays.{copied_here, stays_left, stays_back}
+use Rattle.staying.proofs.guarded.Goals as goal
+
+pub run-stop-requires : goal.run-stop-requires
+run-stop-requires c =
+    let start = c.before.before.before.before.before.before.before.before.before.before in
+    let a = start.args in
+    let cs = cells_in a.cells.now a.marks.now in
+    let copied = c.copy.ensures in
+    let pre = start.requires.0.1.1 in (
+      (
+        c.cells-1.given ∙ start.requires.0.0,
+        (
+          c.marks-1.given ∙ start.requires.0.1.0,
+          (
+            (omega (arith, pre.0), omega arith),
+            (
+              λ e. omega
+                  (arith, pre.0),
+              pre.1.0,
+            ),
+          ),
+        ),
+      ),
+      (
+        start_live _,
+        subst (λ (x : Cell). Trusted (zone_of a.n x) a.hint) (sym (copied_here cs _ a.p pre.0 copied)) start.requires.1,
+      ),
+    )
+
+pub returns-then-task-eq2 : goal.returns-then-task-eq2
+returns-then-task-eq2 c =
+    let start = c.before.before.before.before.before.before.before.before.before.before.before.before.before.before.before.before.before.before in
+    let a = start.args in
+    let cs = cells_in a.cells.now a.marks.now in
+    let copied = c.copy.ensures in
+    let ran = c.run-stop in
+    let full = cells_long a.cells.now a.marks.now in
+    let pre = start.pre.0.1.1 in
+    stays_left cs a.p a.clocks a.step a.n a.hint full pre.0 pre.1.1 _ _ copied _ c.of_guard.ensures
+    ran.result.task ran.result.hint ran.ensures.0 ran.ensures.1.0 ran.ensures.1.1 c.if-task-eq2.true
+
+pub copy-requires-2 : goal.copy-requires-2
+copy-requires-2 c =
+    let start = c.before.before.before.before.before.before.before.before.before.before.before.before.before.before.before.before.before.before.before.before in (
+      c.cells-2-1.given ∙ c.cells-1.given ∙ start.pre.0.0,
+      (
+        c.marks-2-1.given ∙ c.marks-1.given ∙ start.pre.0.1.0,
+        (omega arith, omega (arith, start.pre.0.1.1.0)),
+      ),
+    )
+
+pub returns : goal.returns
+returns c =
+    let start = c.before.before.before.before.before.before.before.before.before.before.before.before.before.before.before.before.before.before.before.before.before.before.before.before in
+    let a = start.args in
+    let cs = cells_in a.cells.now a.marks.now in
+    let copied = c.copy.ensures in
+    let ran = c.run-stop in
+    let full = cells_long a.cells.now a.marks.now in
+    let pre = start.pre.0.1.1 in
+    stays_back cs a.p a.clocks a.step a.n a.hint full pre.0 pre.1.1 _ _ copied _ c.of_guard.ensures
+    ran.result.task ran.result.hint ran.ensures.0 ran.ensures.1.0 ran.ensures.1.1 _ c.copy-2.ensures

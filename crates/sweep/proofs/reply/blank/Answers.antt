@@ -1,0 +1,8 @@
+-- The rows are those of `blankReply`.
+use Rattle.sweep.specs.Reply.{blank_reply}
+use mathlib.Core.Path.{refl}
+use Rattle.sweep.proofs.reply.blank.Goals as goal
+
+pub returns : goal.returns
+unfolding blank_reply
+returns c = refl

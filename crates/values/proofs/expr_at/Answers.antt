@@ -1,0 +1,53 @@
+-- The constant and a product for each parameter are small enough that 64 bits hold every sum; the last one is the value.
+use Prim.Native.Nat.{◌+◌, ◌-◌}
+use native.Mathlib.Omega.{arith}
+use lib.IntN.{pos, ◌+ℤ◌, ◌*ℤ◌}
+use lib.ListN.{get_or}
+use mir.Syntax.{w16, w32, w64}
+use mir.Val.{SFits, to_z, of_z}
+use Rattle.integer.specs.Bits.{held, heard}
+use Rattle.integer.specs.Product.{product_fits}
+use Rattle.values.proofs.Sums.{SumTo, sum_turn, turn_fits, turn_stored, sum_all}
+use borrow.Author.Rules.{rules}
+use Rattle.values.proofs.expr_at.Goals as goal
+
+-- the sum with one product more
+sum-next : (c : goal.After-product-sum)
+    → SumTo c.args.t1
+    c.args.t2
+    (c.loop-i.i + 1)
+    (to_z w64 c.loop-i.sum +ℤ to_z w64 (of_z w64 c.product-sum.result))
+sum-next c =
+    let turn = c.before.before.before in
+    let loop = turn.loop-i in
+    let start = turn.args in
+    let a = get_or start.t1.coefs loop.i (pos 0) in
+    let b = get_or start.t2.numbers loop.i (pos 0) in
+    let f : SFits w32 a = record { sfits = c.product-arg-1.given } in
+    let g : SFits w16 b = record { sfits = c.product-arg-in-loop-i-1.given } in
+    sum_turn start.t1 start.t2 loop.i _ _ loop.invariant.1 f g
+    (held w64 _ (a *ℤ b) (heard ◌*ℤ◌ w32 w16 _ a b c.product-sum.ensures f g) (product_fits f g))
+
+pub overflow_add-sum : goal.overflow_add-sum
+overflow_add-sum c =
+    let turn = c.before.before.before in
+    let loop = turn.loop-i in
+    let start = turn.args in
+    turn_fits start.t1 start.t2 loop.i (to_z w64 loop.sum) (to_z w64 (of_z w64 c.product-sum.result))
+    turn.loop-i-test.true (sum-next c)
+
+pub loop-i-preserved : goal.loop-i-preserved
+loop-i-preserved c =
+    let turn = c.before.before.before in
+    let loop = turn.loop-i in
+    let start = turn.args in (
+      omega arith,
+      turn_stored start.t1 start.t2 loop.i (to_z w64 loop.sum) (to_z w64 (of_z w64 c.product-sum.result))
+          turn.loop-i-test.true (sum-next c),
+    )
+
+pub returns : goal.returns
+returns c =
+    let loop = c.loop-i in
+    let start = c.args in
+    sum_all start.t1 start.t2 loop.i _ loop.invariant.1 loop.invariant.0 (search rules)
