@@ -6,6 +6,7 @@ use lib.ListN.{length, get_or, get_or-eq_default, length-map}
 use mir.Facts.{sfits_widen}
 use mir.Syntax.{w16, w64}
 use mir.Val.{SFits}
+use borrow.Author.Rules.{rules}
 use Rattle.integer.specs.Bits.{held, passed}
 use Rattle.expr.specs.Records.{PARAMETERS}
 use Rattle.search_c.proofs.number_in.Goals as goal
@@ -13,7 +14,7 @@ use Rattle.search_c.proofs.number_in.Goals as goal
 pub returns-then-k-lt-PARAMETERS : goal.returns-then-k-lt-PARAMETERS
 returns-then-k-lt-PARAMETERS c =
     let s = c.args in
-    let f : SFits w16 (get_or s.t1.numbers s.k (pos 0)) = record { sfits = c.wide16-arg-1.given } in
+    let f : SFits w16 (get_or s.t1.numbers s.k (pos 0)) = search rules in
     held w64 _ _ (passed w16 _ _ c.wide16.ensures f) (sfits_widen {w = w16} tt f)
 
 pub returns : goal.returns

@@ -1,7 +1,14 @@
 -- The reply by what `indexed` gave.
 use mathlib.Core.Path.{◌∙◌}
-use Rattle.sweep.proofs.Replies.{refused_reply_lem}
+use Rattle.sweep.proofs.Replies.{fine_reply, refused_reply_lem}
 use Rattle.sweep.proofs.sweep.Goals as goal
+
+pub returns-in-Fine : goal.returns-in-Fine
+returns-in-Fine c =
+    let after_read = c.before.before.before.before in
+    let s = after_read.before.before in
+    c.reply_for.ensures
+    ∙ fine_reply s.args.file.now _ _ after_read.indexed-reading.ensures c.enum_told-1.given.1
 
 pub returns-in-Refused : goal.returns-in-Refused
 returns-in-Refused c =

@@ -3,13 +3,23 @@ use Prim.Native.Nat.{◌+◌, ◌-◌}
 use native.Mathlib.Omega.{arith}
 use lib.IntN.{pos, ◌+ℤ◌, ◌*ℤ◌}
 use lib.ListN.{get_or}
+use mir.Facts.{sfits_widen}
 use mir.Syntax.{w16, w32, w64}
 use mir.Val.{SFits, to_z, of_z}
-use Rattle.integer.specs.Bits.{held, heard}
+use Rattle.integer.specs.Bits.{held, heard, passed}
 use Rattle.integer.specs.Product.{product_fits}
-use Rattle.values.proofs.Sums.{SumTo, sum_turn, turn_fits, turn_stored, sum_all}
+use Rattle.values.proofs.Sums.{SumTo, sum_start, sum_turn, turn_fits, turn_stored, sum_all}
 use borrow.Author.Rules.{rules}
 use Rattle.values.proofs.expr_at.Goals as goal
+
+pub loop-i-init : goal.loop-i-init
+loop-i-init c =
+    let start = c.args in
+    let f : SFits w32 start.t1.constant = search rules in (
+      omega arith,
+      rw (held w64 _ start.t1.constant (passed w32 _ _ c.wide-sum.ensures f) (sfits_widen {w = w32} tt f))
+          (sum_start start.t1 start.t2 f),
+    )
 
 -- the sum with one product more
 sum-next : (c : goal.After-product-sum)

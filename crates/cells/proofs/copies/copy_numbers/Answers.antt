@@ -7,6 +7,7 @@ use lib.ListN.{get_or}
 use mir.Syntax.{w32}
 use mir.ValLaws.{to_z-of_z}
 use Rattle.cells.specs.Copies.{Copying, copying_starts, copying_turn}
+use borrow.Author.Rules.{rules}
 use Rattle.cells.proofs.copies.copy_numbers.Goals as goal
 
 pub loop-i-init : goal.loop-i-init
@@ -20,7 +21,7 @@ loop-i-preserved c =
     let start = at-loop.before in (
       copying_turn (pos 0) start.args.cells.now loop.cells (250 * start.args.p) (250 * start.args.q) loop.i 250 loop.invariant.0
           c.loop-i-test.true (λ h. omega arith) (omega (arith, start.requires.0, start.requires.1.1)) _
-          (to_z-of_z w32 (get_or loop.cells (250 * start.args.p + loop.i) (pos 0)) (record { sfits = c.x-1.given })),
+          (to_z-of_z w32 (get_or loop.cells (250 * start.args.p + loop.i) (pos 0)) (search rules)),
       omega (arith, c.loop-i-test.true),
     )
 

@@ -5,7 +5,9 @@ use lib.IntN.{pos}
 use mir.Syntax.{w32}
 use mir.ValLaws.{to_z-of_z}
 use lib.ListN.{get_or, length-set}
-use Rattle.zones.specs.Put.{writing_start, writing_turn, room_set}
+use Rattle.zones.specs.Put.{writing_start, writing_turn, writing_all, room_set}
+use Rattle.cells.specs.CellLaws.{put_whole}
+use borrow.Author.Rules.{rules}
 use Rattle.cells.proofs.lines.put.Goals as goal
 
 pub loop-i-init : goal.loop-i-init
@@ -18,8 +20,18 @@ loop-i-preserved c =
     let loop = c.loop-i in
     let a = c.args in
     writing_turn a.t3 (5 * a.r) _ loop.i loop.cells _ loop.invariant c.loop-i-test.true
-    (to_z-of_z w32 (get_or a.t3.coefs loop.i (pos 0)) (record { sfits = c.x-1.given }))
+    (to_z-of_z w32 (get_or a.t3.coefs loop.i (pos 0)) (search rules))
 
 pub shape_of-cells : goal.shape_of-cells
 shape_of-cells c =
     let a = c.args in c.loop-i.invariant.long ∙ length-set a.cells.now (5 * a.r) _
+
+pub returns : goal.returns
+returns c =
+    let loop = c.loop-i in
+    let told = c.before.before in
+    let a = told.args in
+    put_whole a.cells.now a.r a.t3 _ loop.cells (to_z-of_z w32 a.t3.constant (record {
+      sfits = told.struct_told-1.given.0.1;
+    }))
+    (writing_all a.t3 (5 * a.r) _ loop.i loop.cells loop.invariant (search rules))

@@ -7,6 +7,7 @@ use lib.ListN.{get_or}
 use mir.Syntax.{w32}
 use mir.ValLaws.{to_z-of_z}
 use Rattle.cells.specs.CellLaws.{filling_turn, rows_copied}
+use borrow.Author.Rules.{rules}
 use Rattle.cells.proofs.lines.rows_at.Goals as goal
 
 pub loop-i-init : goal.loop-i-init
@@ -21,7 +22,7 @@ loop-i-preserved c =
     let a = start.args in
     filling_turn a.cells.now (250 * a.p) (5 * a.n) loop.i loop.numbers _ loop.invariant c.loop-i-test.true
     (omega (arith, start.requires.1.1))
-    (to_z-of_z w32 (get_or a.cells.now (250 * a.p + loop.i) (pos 0)) (record { sfits = c.x-1.given }))
+    (to_z-of_z w32 (get_or a.cells.now (250 * a.p + loop.i) (pos 0)) (search rules))
 
 pub returns : goal.returns
 returns c =

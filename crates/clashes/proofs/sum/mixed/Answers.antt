@@ -9,9 +9,22 @@ use mir.Val.{SFits, to_z, of_z}
 use mir.ValLaws.{to_z-of_z}
 use Rattle.expr.specs.Records.{PARAMETERS, blank_range}
 use Rattle.narrowing.specs.Best.{best}
-use Rattle.clashes.proofs.Sums.{SumTo, multiplier_held, weigh_heard, coef_fits, most_fits, sum_turn, sum_fits, sum_all}
+use Rattle.clashes.proofs.Sums.{SumTo, multiplier_held, weigh_heard, coef_fits, most_fits, sum_start, sum_turn, sum_fits, sum_all}
 use borrow.Author.Rules.{rules}
 use Rattle.clashes.proofs.sum.mixed.Goals as goal
+
+pub loop-i-init : goal.loop-i-init
+loop-i-init c =
+    let s = c.args in
+    let f : SFits w32 s.t3.constant = search rules in
+    let g : SFits w32 s.t5.constant = search rules in
+    let l = to_z w64 (of_z w64 s.l) in
+    let m = to_z w64 (of_z w64 s.m) in
+    let w = c.weighed-sum in (
+      omega arith,
+      rw (to_z-of_z w64 w.result (coef_fits _ w.ensures.1))
+          (sum_start l s.t3 m s.t5 s.t1.list w.result (weigh_heard l _ m _ _ w.ensures.0 f g) w.ensures.1),
+    )
 
 pub weighed-a-requires : goal.weighed-a-requires
 weighed-a-requires c =

@@ -13,14 +13,14 @@ use Rattle.inequalities.proofs.flat.whole.Goals as goal
 pub loop-i-init : goal.loop-i-init
 loop-i-init c =
     let s = c.args in
-    let f : SFits w32 (get_or s.flat.now s.at (pos 0)) = record { sfits = c.e-1.given } in
+    let f : SFits w32 (get_or s.flat.now s.at (pos 0)) = search rules in
     (omega arith, read_start s.flat.now s.at _ (to_z-of_z w32 _ f))
 
 pub loop-i-preserved : goal.loop-i-preserved
 loop-i-preserved c =
     let loop = c.loop-i in
     let s = c.args in
-    let f : SFits w32 (get_or s.flat.now (s.at + 1 + loop.i) (pos 0)) = record { sfits = c.e-in-loop-i-1.given } in
+    let f : SFits w32 (get_or s.flat.now (s.at + 1 + loop.i) (pos 0)) = search rules in
     (omega arith, read_turn s.flat.now s.at loop.i loop.e _ loop.invariant.1 (to_z-of_z w32 _ f))
 
 pub returns : goal.returns

@@ -4,15 +4,25 @@ use Prim.Native.Nat.{◌+◌, ◌-◌}
 use native.Mathlib.Omega.{arith}
 use lib.IntN.{pos, ◌+ℤ◌, ◌*ℤ◌}
 use lib.ListN.{length, get_or, length-map}
+use mir.Facts.{sfits_widen}
 use mir.Syntax.{w16, w32, w64}
 use mir.Val.{SFits, to_z, of_z}
 use mir.ValLaws.{to_z-of_z}
-use Rattle.integer.specs.Bits.{heard}
+use Rattle.integer.specs.Bits.{held, heard, passed}
 use Rattle.integer.specs.Product.{size_fits}
 use Rattle.expr.specs.Records.{PARAMETERS}
-use Rattle.inequalities.proofs.Values.{ValueTo, value_turn, value_all, sum_fits}
+use Rattle.inequalities.proofs.Values.{ValueTo, value_start, value_turn, value_all, sum_fits}
 use borrow.Author.Rules.{rules}
 use Rattle.inequalities.proofs.value.value_at.Goals as goal
+
+pub loop-j-init : goal.loop-j-init
+loop-j-init c =
+    let s = c.args in
+    let f : SFits w32 s.t2.constant = search rules in (
+      omega arith,
+      rw (held w64 _ s.t2.constant (passed w32 _ _ c.wide-total.ensures f) (sfits_widen {w = w32} tt f))
+          (value_start s.t2 s.t1.numbers f),
+    )
 
 -- the sum with one product more
 sum-next : (c : goal.After-term-total)

@@ -4,14 +4,25 @@ use Prim.Native.Nat.{◌+◌, ◌-◌}
 use native.Mathlib.Omega.{arith}
 use lib.IntN.{pos, ◌+ℤ◌}
 use lib.ListN.{length, get_or, length-map}
+use mir.Facts.{sfits_widen}
 use mir.Syntax.{w32, w64}
 use mir.Val.{SFits, to_z, of_z}
 use mir.ValLaws.{to_z-of_z}
+use Rattle.integer.specs.Bits.{held, passed}
 use Rattle.integer.specs.Product.{size_fits}
 use Rattle.expr.specs.Records.{PARAMETERS, blank_range}
-use Rattle.narrowing.proofs.Terms.{SumTo, Most, sum_turn, sum_fits, sum_all}
+use Rattle.narrowing.proofs.Terms.{SumTo, Most, sum_start, sum_turn, sum_fits, sum_all}
 use borrow.Author.Rules.{rules}
 use Rattle.narrowing.proofs.boxes.best.Goals as goal
+
+pub loop-i-init : goal.loop-i-init
+loop-i-init c =
+    let s = c.args in
+    let f : SFits w32 s.t2.constant = search rules in (
+      omega arith,
+      rw (held w64 _ s.t2.constant (passed w32 _ _ c.wide-sum.ensures f) (sfits_widen {w = w32} tt f))
+          (sum_start s.t2 s.t1.list f),
+    )
 
 -- the sum with one product more
 sum-next : (c : goal.After-most-sum)

@@ -11,6 +11,7 @@ use Rattle.integer.specs.Order.{lt_z_true}
 use Rattle.integer.specs.Product.{size_fits}
 use Rattle.expr.specs.Records.{PARAMETERS}
 use Rattle.narrowing.proofs.Terms.{cut_start, cut_turn, cut_none}
+use borrow.Author.Rules.{rules}
 use Rattle.narrowing.proofs.boxes.raise.Goals as goal
 
 -- the local holds what `best` gave
@@ -38,7 +39,7 @@ loop-i-preserved c =
     let t = best.before in
     let l : length t.args.t1.list ≡ PARAMETERS = simp length-map at t.well_formed.0.1.1.0.1.0.1 in
     let a = get_or t.args.t2.coefs loop.i (pos 0) in
-    let f : SFits w32 a = record { sfits = c.raised-arg-1.given } in (
+    let f : SFits w32 a = search rules in (
       omega arith,
       cut_turn t.args.t2 t.args.t1.list loop.i best.best-m.result loop.c.list c.raised.result (omega arith) l
           best.best-m.ensures.0 (rw (best-is best, to_z-of_z w32 a f) at c.raised.ensures) loop.invariant.1,

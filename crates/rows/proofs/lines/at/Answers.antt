@@ -1,9 +1,26 @@
 -- 64 bits hold the sum.
+use mathlib.Core.Path.{subst, sym, ap, ◌∙◌}
 use native.Mathlib.Omega.{arith}
-use Rattle.rows.proofs.Ends.{end_asks}
+use lib.IntN.{ℤ, ◌+ℤ◌, ◌*ℤ◌}
+use mir.Syntax.{w16, w32}
+use mir.Val.{SFits}
+use Rattle.integer.specs.Bits.{heard}
+use Rattle.inequalities.specs.Sizes.{SizedTo}
+use Rattle.rows.proofs.Ends.{end_asks, end_is, end_size}
+use borrow.Author.Rules.{rules}
 use Rattle.rows.proofs.lines.at.Goals as goal
 
 pub overflow_add-result : goal.overflow_add-result
 overflow_add-result c =
     let s = c.before.before.before.before in
     end_asks 4 _ _ (omega arith) s.requires c.term.ensures.1
+
+pub returns : goal.returns
+returns c =
+    let s = c.before.before.before.before in
+    let t = c.term in
+    let f : SFits w32 s.args.q.first = search rules in
+    let is = end_is 4 s.args.q.constant t.result (omega arith) s.requires t.ensures.1 in (
+      is ∙ ap (λ (z : ℤ). s.args.q.constant +ℤ z) (heard ◌*ℤ◌ w32 w16 _ s.args.q.first s.args.x t.ensures.0 f s.ranges.x),
+      subst (λ (z : ℤ). SizedTo 5 z) (sym is) (end_size 4 s.args.q.constant t.result (omega arith) s.requires t.ensures.1),
+    )

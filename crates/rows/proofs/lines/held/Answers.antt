@@ -6,11 +6,12 @@ use mir.Facts.{sfits_widen}
 use mir.Syntax.{w16, w32, w64}
 use mir.Val.{SFits, to_z, of_z}
 use mir.ValLaws.{to_z-of_z}
-use Rattle.integer.specs.Bits.{held, passed}
+use Rattle.integer.specs.Bits.{held, heard, passed}
 use Rattle.integer.specs.Product.{size_fits}
 use Rattle.intervals.specs.Interval.{interval}
-use Rattle.intervals.specs.IntervalLaws.{slope_tame}
-use Rattle.rows.proofs.Ends.{end_asks, sized_tame}
+use Rattle.intervals.specs.IntervalLaws.{interval_whole, slope_tame}
+use Rattle.rows.proofs.Ends.{end_asks, end_holds, sized_tame}
+use borrow.Author.Rules.{rules}
 use Rattle.rows.proofs.lines.held.Goals as goal
 
 pub overflow_add-c : goal.overflow_add-c
@@ -26,6 +27,24 @@ at-is : (c : goal.After-at-c) →
 at-is c =
     let s = c.before in
     c.at-c.ensures.0 ∙ ap (λ (z : ℤ). s.args.q.constant +ℤ (s.args.q.first *ℤ z)) (to_z-of_z w16 _ s.ranges.x)
+
+pub returns-then-c-term-ge0-2 : goal.returns-then-c-term-ge0-2
+returns-then-c-term-ge0-2 c =
+    let high = c.before in
+    let low = high.before.before.before in
+    let given = low.before.before.before in
+    let v = given.at-c in
+    let s = given.args in
+    let c₀ = s.q.constant +ℤ (s.q.first *ℤ s.x) in
+    let a = s.q.second in
+    let f : SFits w32 a = search rules in
+    let l : SFits w16 s.r.low = search rules in
+    let h : SFits w16 s.r.high = search rules in
+    interval_whole s.r c₀ a
+    (end_holds 5 v.result low.term.result (omega arith) v.ensures.1 low.term.ensures.1 c₀ a s.r.low (at-is given)
+    (heard ◌*ℤ◌ w32 w16 _ a s.r.low low.term.ensures.0 f l) high.if-c-term-ge0.true)
+    (end_holds 5 v.result high.term-then-c-term-ge0.result (omega arith) v.ensures.1 high.term-then-c-term-ge0.ensures.1 c₀ a s.r.high (at-is given)
+    (heard ◌*ℤ◌ w32 w16 _ a s.r.high high.term-then-c-term-ge0.ensures.0 f h) c.if-c-term-ge0-2.true)
 
 -- what `interval` is asked, each held as its bits
 value-is : (c : goal.After-wide) → let x = c.at-c.result in to_z w64 (of_z w64 x) ≡ x

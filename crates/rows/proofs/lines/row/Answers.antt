@@ -9,6 +9,7 @@ use mir.Val.{SFits}
 use mir.ValLaws.{to_z-of_z}
 use Rattle.rows.specs.Lines.{line_at, row_from}
 use Rattle.rows.proofs.Steps.{row_start, row_turn, row_done}
+use borrow.Author.Rules.{rules}
 use Rattle.rows.proofs.lines.row.Goals as goal
 
 pub loop-k-init : goal.loop-k-init
@@ -18,17 +19,17 @@ pub held-r-requires : goal.held-r-requires
 held-r-requires c =
     let loop = c.loop-k in
     let s = c.before.before.before.before.before in
-    let f : SFits w64 (get_or s.args.constants.now loop.k (pos 0)) = record { sfits = c.constant-1.given } in
+    let f : SFits w64 (get_or s.args.constants.now loop.k (pos 0)) = search rules in
     rw (to_z-of_z w64 _ f) (s.requires.1.1 loop.k (omega arith))
 
 pub loop-k-preserved : goal.loop-k-preserved
 loop-k-preserved c =
     let loop = c.loop-k in
     let s = c.before.before.before.before.before.before in
-    let a : SFits w64 (get_or s.args.constants.now loop.k (pos 0)) = record { sfits = c.constant-1.given } in
+    let a : SFits w64 (get_or s.args.constants.now loop.k (pos 0)) = search rules in
     let b : SFits w32 (get_or s.args.flat.now (5 * loop.k + 1 + s.args.w) (pos 0)) =
-    record { sfits = c.first-1.given } in
-    let d : SFits w32 (get_or s.args.flat.now (5 * loop.k + 1 + s.args.t) (pos 0)) = record { sfits = c.second-1.given } in (
+    search rules in
+    let d : SFits w32 (get_or s.args.flat.now (5 * loop.k + 1 + s.args.t) (pos 0)) = search rules in (
       omega arith,
       row_turn _ _ loop.k _ loop.r _ _ (omega arith) (to_z-of_z w64 _ a) (to_z-of_z w32 _ b) (to_z-of_z w32 _ d) c.held-r.ensures
           loop.invariant.1,

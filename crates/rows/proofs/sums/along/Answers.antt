@@ -5,12 +5,15 @@ use Prim.Native.Nat.{ℕ, ◌-◌}
 use native.Mathlib.Omega.{arith}
 use lib.IntN.{ℤ, pos}
 use lib.ListN.{length, get_or, set, length-map}
+use mir.Syntax.{w16}
+use mir.Val.{SFits}
+use mir.ValLaws.{to_z-of_z}
 use Rattle.expr.specs.Records.{PARAMETERS, blank_range}
 use Rattle.inequalities.specs.Flat.{expr_at}
 use Rattle.valuations.specs.Totals.{total_start}
 use Rattle.rows.specs.Lines.{ValueOf, line_at}
 use Rattle.rows.specs.RowLaws.{rows_counted}
-use Rattle.rows.proofs.Steps.{row_width, sum_of, sum_done, line_of}
+use Rattle.rows.proofs.Steps.{row_width, sum_of, sum_turn, sum_done, line_of}
 use borrow.Author.Rules.{rules}
 use Rattle.rows.proofs.sums.along.Goals as goal
 
@@ -34,6 +37,20 @@ pub overflow_add-total : goal.overflow_add-total
 overflow_add-total c =
     let loop = c.loop-i in
     omega (arith, loop.invariant.3, loop.invariant.1, c.width-total.ensures.1)
+
+pub loop-i-preserved : goal.loop-i-preserved
+loop-i-preserved c =
+    let point = c.before.before.before.before.before.before in
+    let loop = point.loop-i in
+    let a = point.args in
+    let f : SFits w16 point.point-p.result.low = search rules in (
+      omega arith,
+      loop.invariant.1,
+      loop.invariant.2,
+      omega (arith, loop.invariant.3, c.width-total.ensures.1),
+      sum_turn _ _ _ (get_or a.t1.list a.w blank_range) _ loop.i loop.total _ _ _ (omega arith) (to_z-of_z w16 _ f) point.point-p.ensures c.row.ensures
+          c.width-total.ensures.0 loop.invariant.4,
+    )
 
 pub returns : goal.returns
 returns c =

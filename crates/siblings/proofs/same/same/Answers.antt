@@ -8,6 +8,7 @@ use mir.Val.{SFits}
 use mir.ValLaws.{to_z-of_z}
 use Rattle.integer.specs.Apart.{apart}
 use Rattle.siblings.proofs.Steps.{neither, same_more}
+use borrow.Author.Rules.{rules}
 use Rattle.siblings.proofs.same.same.Goals as goal
 
 pub loop-i-init : goal.loop-i-init
@@ -27,8 +28,8 @@ loop-i-preserved c =
     let s = a.args in
     let x = get_or s.cells.now (s.a + loop.i) (pos 0) in
     let y = get_or s.cells.now (s.b + loop.i) (pos 0) in
-    let f : SFits w32 x = record { sfits = a.x-1.given } in
-    let g : SFits w32 y = record { sfits = b.y-1.given } in (
+    let f : SFits w32 x = search rules in
+    let g : SFits w32 y = search rules in (
       omega arith,
       same_more s.cells.now s.a s.b loop.i loop.invariant.1
           (neither x y _ _ (to_z-of_z w32 _ f) (to_z-of_z w32 _ g) c.if-x-y.false c.if-y-x.false),

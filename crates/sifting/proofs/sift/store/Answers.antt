@@ -6,8 +6,9 @@ use lib.IntN.{pos}
 use mir.Syntax.{w32}
 use mir.ValLaws.{to_z-of_z}
 use lib.ListN.{get_or, length-set}
-use Rattle.sifting.specs.Sifting.{writing_start, writing_turn}
+use Rattle.sifting.specs.Sifting.{writing_start, writing_turn, writing_all, written_whole}
 use Rattle.sifting.specs.Sifting.{stored_past, stored_short, room_set}
+use borrow.Author.Rules.{rules}
 use Rattle.sifting.proofs.sift.store.Goals as goal
 
 pub loop-i-init : goal.loop-i-init
@@ -21,12 +22,21 @@ loop-i-preserved c =
     let loop = c.loop-i in
     let a = c.args in
     writing_turn a.t3 (5 * a.k) _ loop.i loop.list _ loop.invariant c.loop-i-test.true
-    (to_z-of_z w32 (get_or a.t3.coefs loop.i (pos 0)) (record { sfits = c.x-1.given }))
+    (to_z-of_z w32 (get_or a.t3.coefs loop.i (pos 0)) (search rules))
 
 pub shape_of-list : goal.shape_of-list
 shape_of-list c =
     let a = c.args in
     c.loop-i.invariant.long ∙ length-set a.list.now (5 * a.k) _
+
+pub returns-after-loop-i : goal.returns-after-loop-i
+returns-after-loop-i c =
+    let loop = c.loop-i in
+    let told = c.before.before in
+    let a = told.args in
+    written_whole a.list.now a.k a.t3 _ loop.list told.if-k-lt25.true told.if-list-ge125.true
+    (to_z-of_z w32 a.t3.constant (search rules))
+    (writing_all a.t3 (5 * a.k) _ loop.i loop.list loop.invariant (search rules))
 
 pub returns-else-list-ge125 : goal.returns-else-list-ge125
 returns-else-list-ge125 c =

@@ -25,7 +25,7 @@ returns-then-not-in_range c =
     let l = a.t1.list in
     let xs = a.t2.list in
     placing_out l xs loop.i loop.v turn.loop-i-test.true loop.invariant
-    (told_outside (get_or l loop.i blank_range) (get_or xs loop.i (pos 0)) _ (record { sfits = c.x-1.given })
+    (told_outside (get_or l loop.i blank_range) (get_or xs loop.i (pos 0)) _ (search rules)
     c.in_range.ensures c.if-not-in_range.true)
 
 number-inside : (c : goal.Else-not-in_range) →
@@ -46,7 +46,7 @@ value_in-requires c =
     let loop = turn.loop-i in
     let a = turn.args in
     bits_inside (get_or a.t1.list loop.i blank_range) (get_or a.t2.list loop.i (pos 0))
-    (record { sfits = c.x-1.given }) (number-inside c)
+    (search rules) (number-inside c)
 
 pub loop-i-preserved : goal.loop-i-preserved
 loop-i-preserved c =
@@ -54,7 +54,7 @@ loop-i-preserved c =
     let loop = turn.loop-i in
     let a = turn.args in
     let x = get_or a.t2.list loop.i (pos 0) in
-    let f : SFits w64 x = record { sfits = c.x-1.given } in
+    let f : SFits w64 x = search rules in
     placing_turn a.t1.list a.t2.list loop.i loop.v _ turn.loop-i-test.true loop.invariant (number-inside c.before)
     (to_z-of_z w16 c.value_in.result (search rules) ∙ c.value_in.ensures ∙ to_z-of_z w64 x f)
 

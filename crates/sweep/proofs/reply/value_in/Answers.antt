@@ -10,12 +10,12 @@ use Rattle.sweep.proofs.reply.value_in.Goals as goal
 
 pub overflow_cast-result : goal.overflow_cast-result
 overflow_cast-result c =
-    let f = in_range_fits c.args.range c.args.x c.requires (record { sfits = c.well_formed.0.1.1.0.1 })
-    (record { sfits = c.well_formed.0.1.1.1.0.1 }) in
+    let f = in_range_fits c.args.range c.args.x c.requires (search rules)
+    (search rules) in
     subst (λ (z : ℤ). SFits w16 z) (sym (to_z-of_z w64 c.args.x c.ranges.x)) f
 
 pub returns : goal.returns
 returns c =
-    let f = in_range_fits c.args.range c.args.x c.requires (record { sfits = c.well_formed.0.1.1.0.1 })
-    (record { sfits = c.well_formed.0.1.1.1.0.1 }) in
+    let f = in_range_fits c.args.range c.args.x c.requires (search rules)
+    (search rules) in
     held w16 _ c.args.x (to_z-of_z w64 c.args.x c.ranges.x) f

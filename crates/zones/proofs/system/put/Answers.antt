@@ -6,7 +6,8 @@ use lib.IntN.{pos}
 use mir.Syntax.{w32}
 use mir.ValLaws.{to_z-of_z}
 use lib.ListN.{get_or, length-set}
-use Rattle.zones.specs.Put.{writing_start, writing_turn, put_past, put_short, room_set}
+use Rattle.zones.specs.Put.{writing_start, writing_turn, writing_all, written_whole, put_past, put_short, room_set}
+use borrow.Author.Rules.{rules}
 use Rattle.zones.proofs.system.put.Goals as goal
 
 pub loop-i-init : goal.loop-i-init
@@ -20,11 +21,20 @@ loop-i-preserved c =
     let loop = c.loop-i in
     let a = c.args in
     writing_turn a.t3 (5 * a.k) _ loop.i loop.flat _ loop.invariant c.loop-i-test.true
-    (to_z-of_z w32 (get_or a.t3.coefs loop.i (pos 0)) (record { sfits = c.x-1.given }))
+    (to_z-of_z w32 (get_or a.t3.coefs loop.i (pos 0)) (search rules))
 
 pub shape_of-flat : goal.shape_of-flat
 shape_of-flat c = let a = c.args in c.loop-i.invariant.long ∙ length-set a.flat.now
     (5 * a.k) _
+
+pub returns-after-loop-i : goal.returns-after-loop-i
+returns-after-loop-i c =
+    let loop = c.loop-i in
+    let told = c.before.before in
+    let a = told.args in
+    written_whole a.flat.now a.k a.t3 _ loop.flat told.if-k-lt25.true told.if-flat-ge125.true
+    (to_z-of_z w32 a.t3.constant (search rules))
+    (writing_all a.t3 (5 * a.k) _ loop.i loop.flat loop.invariant (search rules))
 
 pub returns-else-flat-ge125 : goal.returns-else-flat-ge125
 returns-else-flat-ge125 c =

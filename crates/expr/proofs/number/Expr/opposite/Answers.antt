@@ -5,10 +5,10 @@ use lib.IntN.{ℤ, pos, negsuc, neg_ℤ, ◌-ℤ◌}
 use lib.ListN.{get_or}
 use Rattle.weight.specs.Upper.{saturate}
 use Rattle.saturating.specs.Largest.{LARGEST}
-use Rattle.saturating.specs.Sums.{negated_stored}
+use Rattle.saturating.specs.Sums.{turned_stored, negated_stored}
 use Rattle.expr.specs.Affine.{opposite, saturated_e}
 use Rattle.expr.specs.declared.number.Expr.{Expr}
-use Rattle.expr.proofs.Records.{expr_turn, expr_all}
+use Rattle.expr.proofs.Records.{expr_start, expr_turn, expr_all}
 use borrow.Author.Rules.{rules}
 use Rattle.expr.proofs.number.Expr.opposite.Goals as goal
 
@@ -18,6 +18,14 @@ turnedC e = negsuc 0 -ℤ saturate LARGEST e.constant
 abbrev negatedC : Expr → ℕ → ℤ
 negatedC e k = neg_ℤ (saturate LARGEST (get_or e.coefs k (pos 0)))
 
+pub loop-i-init : goal.loop-i-init
+loop-i-init c =
+    let start = c.args in (
+      omega arith,
+      expr_start _ _ _
+          (turned_stored _ start.t1.constant (search rules) c.difference.ensures),
+    )
+
 pub loop-i-preserved : goal.loop-i-preserved
 loop-i-preserved c =
     let turn = c.before.before in
@@ -26,7 +34,7 @@ loop-i-preserved c =
       omega arith,
       expr_turn _ _ loop.i loop.r _ loop.invariant.1
           (negated_stored _ (get_or start.t1.coefs loop.i (pos 0))
-          (record { sfits = c.difference-arg-1.given }) c.difference-in-loop-i.ensures),
+          (search rules) c.difference-in-loop-i.ensures),
     )
 
 pub returns : goal.returns

@@ -4,10 +4,21 @@ use native.Mathlib.Omega.{arith}
 use lib.IntN.{pos}
 use lib.ListN.{get_or}
 use Rattle.expr.specs.Affine.{plus, plus_l, saturated_e}
-use Rattle.expr.proofs.Records.{expr_turn, expr_all}
+use Rattle.expr.proofs.Records.{expr_start, expr_turn, expr_all}
 use Rattle.saturating.specs.Sums.{sum_stored}
 use borrow.Author.Rules.{rules}
 use Rattle.expr.proofs.number.Expr.plus.Goals as goal
+
+pub loop-i-init : goal.loop-i-init
+loop-i-init c =
+    let start = c.args in
+    let t = c.struct_told-1.given in
+    let u = c.struct_told-2-1.given in (
+      omega arith,
+      expr_start _ _ _
+          (sum_stored _ start.t1.constant start.t2.constant
+          (search rules) (search rules) c.sum.ensures),
+    )
 
 pub loop-i-preserved : goal.loop-i-preserved
 loop-i-preserved c =
@@ -17,7 +28,7 @@ loop-i-preserved c =
       omega arith,
       expr_turn _ _ loop.i loop.r _ loop.invariant.1
           (sum_stored _ (get_or start.t1.coefs loop.i (pos 0)) (get_or start.t2.coefs loop.i (pos 0))
-          (record { sfits = c.sum-arg-1.given }) (record { sfits = c.sum-arg-in-loop-i-1.given }) c.sum-in-loop-i.ensures),
+          (search rules) (search rules) c.sum-in-loop-i.ensures),
     )
 
 pub returns : goal.returns

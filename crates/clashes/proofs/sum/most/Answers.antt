@@ -1,0 +1,44 @@
+-- The coefficient's sign says which end of the range gives the most.
+use mathlib.Core.Path.{refl}
+use mathlib.Core.Bool.{true, false}
+use lib.IntN.{◌*ℤ◌}
+use mir.Facts.{sfits_widen}
+use mir.Syntax.{w16, w64}
+use mir.Val.{SFits}
+use mir.ValLaws.{to_z-of_z}
+use Rattle.integer.specs.Bits.{passed, op_fits, op_back}
+use Rattle.clashes.proofs.Sums.{end_fits, most_is}
+use borrow.Author.Rules.{rules}
+use Rattle.clashes.proofs.sum.most.Goals as goal
+
+pub overflow_mul-result : goal.overflow_mul-result
+overflow_mul-result c =
+    let s = c.before.before.before in
+    let g : SFits w16 s.args.r.high = search rules in
+    op_fits ◌*ℤ◌ w64 _ _ s.args.a s.args.r.high refl (passed w16 _ _ c.wide16.ensures g) s.ranges.a
+    (sfits_widen {w = w16} tt g) (end_fits _ _ s.requires g)
+
+pub returns-then-a-ge0 : goal.returns-then-a-ge0
+returns-then-a-ge0 c =
+    let s = c.before.before.before in
+    let g : SFits w16 s.args.r.high = search rules in
+    most_is s.args.a s.args.r true _ s.args.r.high refl
+    (rw (to_z-of_z w64 _ s.ranges.a) at c.if-a-ge0.true)
+    (op_back ◌*ℤ◌ w64 _ _ s.args.a s.args.r.high refl (passed w16 _ _ c.wide16.ensures g) s.ranges.a
+    (sfits_widen {w = w16} tt g) (end_fits _ _ s.requires g)) s.requires g
+
+pub overflow_mul-result-2 : goal.overflow_mul-result-2
+overflow_mul-result-2 c =
+    let s = c.before.before.before in
+    let g : SFits w16 s.args.r.low = search rules in
+    op_fits ◌*ℤ◌ w64 _ _ s.args.a s.args.r.low refl (passed w16 _ _ c.wide16-2.ensures g) s.ranges.a
+    (sfits_widen {w = w16} tt g) (end_fits _ _ s.requires g)
+
+pub returns : goal.returns
+returns c =
+    let s = c.before.before.before in
+    let g : SFits w16 s.args.r.low = search rules in
+    most_is s.args.a s.args.r false _ s.args.r.low refl
+    (rw (to_z-of_z w64 _ s.ranges.a) at c.if-a-ge0.false)
+    (op_back ◌*ℤ◌ w64 _ _ s.args.a s.args.r.low refl (passed w16 _ _ c.wide16-2.ensures g) s.ranges.a
+    (sfits_widen {w = w16} tt g) (end_fits _ _ s.requires g)) s.requires g
