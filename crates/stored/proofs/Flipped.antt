@@ -15,6 +15,7 @@ use Rattle.integer.specs.Apart.{apart}
 
 chosen : (c : Bool) (x y : ℤ) → T (not c) → cond c x y ≡ y
 chosen false x y t = refl
+chosen true x y t = elim t [ ]
 
 -- -1 - z of a negative z
 flip_is : (z : ℤ) → lt_z z (pos 0) ≡ true → negsuc 0 -ℤ z ≡ pos (mag z)

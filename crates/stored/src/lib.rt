@@ -1,8 +1,26 @@
-// What the programs share: a stored length, a number's magnitude, and digests of results, which start at 0.
+// What the programs share: reading a stored length and what it counts, a number's magnitude, and digests of results, which start at 0.
 #![tactic(auto)]
 
-ghost use Rattle.std.specs.Prelude.{◌+◌, ◌*◌, ◌<◌, ◌≡◌, nat_abs};
+ghost use Rattle.std.specs.Prelude.{◌+◌, ◌*◌, ◌<◌, ◌≤◌, ◌≡◌, IfOk, length, nat_abs};
 ghost use Rattle.stored.specs.Digest.{with_number, with_signed};
+
+use std::io;
+use std::io::Read;
+
+// Reads until buf is full or the input ends, and answers how many bytes it put at the start of buf.
+pub fn read_full<R: Read>(input: &mut R, buf: &mut [u8]) -> io::Result<usize>
+    ensures { IfOk result (λ n. n ≤ length buf.new) }
+{
+    let mut done = 0;
+    while done < buf.len() {
+        let n = input.read(&mut buf[done..])?;
+        if n == 0 {
+            break;
+        }
+        done += n;
+    }
+    Ok(done)
+}
 
 // The number of two bytes, the low one first.
 pub fn two_bytes(low: u8, high: u8) -> usize

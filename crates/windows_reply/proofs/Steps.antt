@@ -35,7 +35,7 @@ use Rattle.kept.specs.Stacks as K
 use Rattle.kept.specs.Stacks.{held_in}
 use Rattle.windows_route.specs.Ended.{ended_z, ended_refused, ended_listed, rows_there}
 use Rattle.windows_route.specs.Places.{zones_from, list_of, list_long}
-use Rattle.windows_route.specs.declared.route.Ended.{Ended}
+use Rattle.windows_route.specs.declared.along.Ended.{Ended}
 use Rattle.zones.specs.Zone.{blank_zone}
 
 -- ---- the reply

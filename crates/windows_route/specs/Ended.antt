@@ -7,7 +7,7 @@ use Rattle.cells.specs.CellLaws.{cells_at}
 use Rattle.passing.specs.State.{refused_z}
 use Rattle.steps.specs.Steps.{closed}
 use Rattle.windows_route.specs.Places.{list_of}
-use Rattle.windows_route.specs.declared.route.Ended.{Ended}
+use Rattle.windows_route.specs.declared.along.Ended.{Ended}
 use Rattle.zones.specs.declared.zone.Zones.{Zones}
 
 -- lists that are all zeros

@@ -2,6 +2,6 @@
 // invariants again, then the transition's guards and resets.
 #![tactic(auto)]
 
-mod route;
+mod along;
 
-pub use route::{Ended, walk};
+pub use along::{Ended, walk};

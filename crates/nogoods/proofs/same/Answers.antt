@@ -27,12 +27,12 @@ loop-i-preserved c =
     let sum = c.difference-t in
     let f : SFits w64 sum.result = search rules in
     let s = c.args in
-    let x = get_or s.t1.coefs loop.i (pos 0) in
-    let y = get_or s.t2.coefs loop.i (pos 0) in
+    let x = get_or s.e.coefs loop.i (pos 0) in
+    let y = get_or s.f.coefs loop.i (pos 0) in
     let g : SFits w32 x = search rules in
     let h : SFits w32 y = search rules in (
       omega arith,
-      same_more s.t1.coefs s.t2.coefs loop.i loop.invariant.1
+      same_more s.e.coefs s.f.coefs loop.i loop.invariant.1
           (is_same x y _ _ (heard ◌-ℤ◌ w32 w32 _ x y sum.ensures g h) (to_z-of_z w64 _ f) c.if-t-lt0.false c.if-t-gt0.false),
     )
 

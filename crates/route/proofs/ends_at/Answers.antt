@@ -15,6 +15,6 @@ returns-then-i-lt32 c = refl
 pub returns-else-i-lt32 : goal.returns-else-i-lt32
 unfolding ends_at
 returns-else-i-lt32 c =
-    let long : length c.args.t1 ≡ 32 = search rules in
-    let h : length c.args.t1 ≤ c.args.number = omega arith in
-    simp (get_or-eq_default c.args.t1 no_transition h)
+    let long : length c.args.transition ≡ 32 = search rules in
+    let h : length c.args.transition ≤ c.args.number = omega arith in
+    simp (get_or-eq_default c.args.transition no_transition h)

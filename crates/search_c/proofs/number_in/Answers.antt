@@ -14,11 +14,11 @@ use Rattle.search_c.proofs.number_in.Goals as goal
 pub returns-then-k-lt-PARAMETERS : goal.returns-then-k-lt-PARAMETERS
 returns-then-k-lt-PARAMETERS c =
     let s = c.args in
-    let f : SFits w16 (get_or s.t1.numbers s.k (pos 0)) = search rules in
+    let f : SFits w16 (get_or s.v.numbers s.k (pos 0)) = search rules in
     held w64 _ _ (passed w16 _ _ c.wide16.ensures f) (sfits_widen {w = w16} tt f)
 
 pub returns : goal.returns
 returns c =
     let s = c.args in
-    let l : length s.t1.numbers ≡ PARAMETERS = simp length-map at c.well_formed.0.1.1.0.1.0.1 in
-    sym (get_or-eq_default s.t1.numbers (pos 0) (omega arith))
+    let l : length s.v.numbers ≡ PARAMETERS = simp length-map at c.well_formed.0.1.1.0.1.0.1 in
+    sym (get_or-eq_default s.v.numbers (pos 0) (omega arith))

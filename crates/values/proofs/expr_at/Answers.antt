@@ -15,27 +15,27 @@ use Rattle.values.proofs.expr_at.Goals as goal
 pub loop-i-init : goal.loop-i-init
 loop-i-init c =
     let start = c.args in
-    let f : SFits w32 start.t1.constant = search rules in (
+    let f : SFits w32 start.e.constant = search rules in (
       omega arith,
-      rw (held w64 _ start.t1.constant (passed w32 _ _ c.wide-sum.ensures f) (sfits_widen {w = w32} tt f))
-          (sum_start start.t1 start.t2 f),
+      rw (held w64 _ start.e.constant (passed w32 _ _ c.wide-sum.ensures f) (sfits_widen {w = w32} tt f))
+          (sum_start start.e start.v f),
     )
 
 -- the sum with one product more
 sum-next : (c : goal.After-product-sum)
-    → SumTo c.args.t1
-    c.args.t2
+    → SumTo c.args.e
+    c.args.v
     (c.loop-i.i + 1)
-    (to_z w64 c.loop-i.sum +ℤ to_z w64 (of_z w64 c.product-sum.result))
+    (to_z w64 c.loop-i.sum-bits +ℤ to_z w64 (of_z w64 c.product-sum.result))
 sum-next c =
     let turn = c.before.before.before in
     let loop = turn.loop-i in
     let start = turn.args in
-    let a = get_or start.t1.coefs loop.i (pos 0) in
-    let b = get_or start.t2.numbers loop.i (pos 0) in
-    let f : SFits w32 a = record { sfits = c.product-arg-1.given } in
-    let g : SFits w16 b = record { sfits = c.product-arg-in-loop-i-1.given } in
-    sum_turn start.t1 start.t2 loop.i _ _ loop.invariant.1 f g
+    let a = get_or start.e.coefs loop.i (pos 0) in
+    let b = get_or start.v.numbers loop.i (pos 0) in
+    let f : SFits w32 a = search rules in
+    let g : SFits w16 b = search rules in
+    sum_turn start.e start.v loop.i _ _ loop.invariant.1 f g
     (held w64 _ (a *ℤ b) (heard ◌*ℤ◌ w32 w16 _ a b c.product-sum.ensures f g) (product_fits f g))
 
 pub overflow_add-sum : goal.overflow_add-sum
@@ -43,7 +43,7 @@ overflow_add-sum c =
     let turn = c.before.before.before in
     let loop = turn.loop-i in
     let start = turn.args in
-    turn_fits start.t1 start.t2 loop.i (to_z w64 loop.sum) (to_z w64 (of_z w64 c.product-sum.result))
+    turn_fits start.e start.v loop.i (to_z w64 loop.sum-bits) (to_z w64 (of_z w64 c.product-sum.result))
     turn.loop-i-test.true (sum-next c)
 
 pub loop-i-preserved : goal.loop-i-preserved
@@ -52,7 +52,7 @@ loop-i-preserved c =
     let loop = turn.loop-i in
     let start = turn.args in (
       omega arith,
-      turn_stored start.t1 start.t2 loop.i (to_z w64 loop.sum) (to_z w64 (of_z w64 c.product-sum.result))
+      turn_stored start.e start.v loop.i (to_z w64 loop.sum-bits) (to_z w64 (of_z w64 c.product-sum.result))
           turn.loop-i-test.true (sum-next c),
     )
 
@@ -60,4 +60,4 @@ pub returns : goal.returns
 returns c =
     let loop = c.loop-i in
     let start = c.args in
-    sum_all start.t1 start.t2 loop.i _ loop.invariant.1 loop.invariant.0 (search rules)
+    sum_all start.e start.v loop.i _ loop.invariant.1 loop.invariant.0 (omega arith)

@@ -2,10 +2,11 @@
 use mathlib.Core.Path.{◌≡◌, ap, ◌∙◌}
 use mathlib.Core.List.{List}
 use lib.IntN.{ℤ}
-use lib.ListN.{length, length-map, set}
+use lib.ListN.{length, set}
 use Prim.Native.Nat.{◌+◌, ◌*◌}
 use Rattle.cells.specs.Cells.{cells_in}
 use Rattle.cells.specs.CellLaws.{written_bound}
+use borrow.Author.Rules.{rules}
 use Rattle.cells.proofs.entries.put_bound.Goals as goal
 
 pub returns : goal.returns
@@ -13,7 +14,7 @@ returns c =
     let marked = c.before.before.before.before in
     let start = marked.before.before in
     let a = start.args in
-    let four : length a.b.expr.coefs ≡ 4 = simp length-map at start.well_formed.1.1.1.1.0.1.1.1.1.0.1.1.1.0.1.0.1 in
+    let four : length a.b.expr.coefs ≡ 4 = search rules in
     ap (λ (l : List ℤ). cells_in l (set a.marks.now (25 * a.p + a.k) marked.mark_of-mark.result)) c.put.ensures
     ∙ written_bound a.cells.now a.marks.now a.p a.k a.b marked.mark_of-mark.result start.requires.1.1.0
     start.requires.1.1.1 start.requires.0 start.requires.1.0 four marked.mark_of-mark.ensures

@@ -13,14 +13,14 @@ use Rattle.cells.proofs.lines.put.Goals as goal
 pub loop-i-init : goal.loop-i-init
 loop-i-init c =
     let a = c.args in
-    writing_start a.t3 (5 * a.r) _ (room_set a.cells.now (5 * a.r) _ _ c.requires)
+    writing_start a.e (5 * a.r) _ (room_set a.cells.now (5 * a.r) _ _ c.requires)
 
 pub loop-i-preserved : goal.loop-i-preserved
 loop-i-preserved c =
     let loop = c.loop-i in
     let a = c.args in
-    writing_turn a.t3 (5 * a.r) _ loop.i loop.cells _ loop.invariant c.loop-i-test.true
-    (to_z-of_z w32 (get_or a.t3.coefs loop.i (pos 0)) (search rules))
+    writing_turn a.e (5 * a.r) _ loop.i loop.cells _ loop.invariant c.loop-i-test.true
+    (to_z-of_z w32 (get_or a.e.coefs loop.i (pos 0)) (search rules))
 
 pub shape_of-cells : goal.shape_of-cells
 shape_of-cells c =
@@ -31,7 +31,7 @@ returns c =
     let loop = c.loop-i in
     let told = c.before.before in
     let a = told.args in
-    put_whole a.cells.now a.r a.t3 _ loop.cells (to_z-of_z w32 a.t3.constant (record {
+    put_whole a.cells.now a.r a.e _ loop.cells (to_z-of_z w32 a.e.constant (record {
       sfits = told.struct_told-1.given.0.1;
     }))
-    (writing_all a.t3 (5 * a.r) _ loop.i loop.cells loop.invariant (search rules))
+    (writing_all a.e (5 * a.r) _ loop.i loop.cells loop.invariant (search rules))

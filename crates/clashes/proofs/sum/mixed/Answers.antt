@@ -16,14 +16,14 @@ use Rattle.clashes.proofs.sum.mixed.Goals as goal
 pub loop-i-init : goal.loop-i-init
 loop-i-init c =
     let s = c.args in
-    let f : SFits w32 s.t3.constant = search rules in
-    let g : SFits w32 s.t5.constant = search rules in
+    let f : SFits w32 s.e.constant = search rules in
+    let g : SFits w32 s.f.constant = search rules in
     let l = to_z w64 (of_z w64 s.l) in
     let m = to_z w64 (of_z w64 s.m) in
     let w = c.weighed-sum in (
       omega arith,
       rw (to_z-of_z w64 w.result (coef_fits _ w.ensures.1))
-          (sum_start l s.t3 m s.t5 s.t1.list w.result (weigh_heard l _ m _ _ w.ensures.0 f g) w.ensures.1),
+          (sum_start l s.e m s.f s.b.list w.result (weigh_heard l _ m _ _ w.ensures.0 f g) w.ensures.1),
     )
 
 pub weighed-a-requires : goal.weighed-a-requires
@@ -40,24 +40,24 @@ most-sum-requires c =
 sum-next : (c : goal.After-most-sum)
     → let loop = c.loop-i in
     let s = c.args in
-    SumTo (to_z w64 (of_z w64 s.l)) s.t3 (to_z w64 (of_z w64 s.m)) s.t5 s.t1.list (loop.i + 1)
+    SumTo (to_z w64 (of_z w64 s.l)) s.e (to_z w64 (of_z w64 s.m)) s.f s.b.list (loop.i + 1)
     (to_z w64 loop.sum +ℤ to_z w64 (of_z w64 c.most-sum.result))
 sum-next c =
     let loop = c.loop-i in
     let start = c.before.before.before.before.before.before.before.before.before.before in
     let s = start.args in
-    let k : length s.t1.list ≡ PARAMETERS = simp length-map at start.well_formed.0.1.1.0.1.0.1 in
+    let k : length s.b.list ≡ PARAMETERS = simp length-map at start.well_formed.0.1.1.0.1.0.1 in
     let w = c.weighed-a in
-    let x = get_or s.t3.coefs loop.i (pos 0) in
-    let y = get_or s.t5.coefs loop.i (pos 0) in
+    let x = get_or s.e.coefs loop.i (pos 0) in
+    let y = get_or s.f.coefs loop.i (pos 0) in
     let f : SFits w32 x = record { sfits = c.weighed-arg-1.given } in
     let g : SFits w32 y = record { sfits = c.weighed-arg-in-loop-i-1.given } in
     let l = to_z w64 (of_z w64 s.l) in
     let m = to_z w64 (of_z w64 s.m) in
     let e = to_z-of_z w64 w.result (coef_fits _ w.ensures.1) ∙ weigh_heard l x m y w.result w.ensures.0 f g in
     rw (to_z-of_z w64 c.most-sum.result (most_fits _ c.most-sum.ensures.1))
-    (sum_turn l s.t3 m s.t5 s.t1.list loop.i _ c.most-sum.result loop.invariant.1 (omega arith) k
-    (c.most-sum.ensures.0 ∙ ap (λ (z : ℤ). best z (get_or s.t1.list loop.i blank_range)) e) c.most-sum.ensures.1)
+    (sum_turn l s.e m s.f s.b.list loop.i _ c.most-sum.result loop.invariant.1 (omega arith) k
+    (c.most-sum.ensures.0 ∙ ap (λ (z : ℤ). best z (get_or s.b.list loop.i blank_range)) e) c.most-sum.ensures.1)
 
 pub overflow_add-sum : goal.overflow_add-sum
 overflow_add-sum c = sum_fits (c.loop-i.i + 1) _ (omega arith) (sum-next c).size
@@ -71,4 +71,4 @@ returns c =
     let start = c.before.before.before.before.before in
     let s = start.args in
     rw (to_z-of_z w64 _ start.ranges.l, to_z-of_z w64 _ start.ranges.m) at
-    (sum_all _ s.t3 _ s.t5 s.t1.list loop.i _ loop.invariant.1 loop.invariant.0 (search rules))
+    (sum_all _ s.e _ s.f s.b.list loop.i _ loop.invariant.1 loop.invariant.0 (search rules))

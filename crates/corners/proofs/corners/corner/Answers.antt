@@ -14,13 +14,13 @@ use Rattle.corners.proofs.corners.corner.Goals as goal
 
 pub loop-k-init : goal.loop-k-init
 loop-k-init c =
-    let l : length c.args.t1.list ≡ PARAMETERS = simp length-map at c.well_formed.0.1.1.0.1.0.1 in
+    let l : length c.args.b.list ≡ PARAMETERS = simp length-map at c.well_formed.0.1.1.0.1.0.1 in
     (omega arith, l, built_start _ _ _ _ _ (rw l refl))
 
 pub loop-k-preserved : goal.loop-k-preserved
 loop-k-preserved c =
     let loop = c.loop-k in
-    let b = c.args.t1 in (
+    let b = c.args.b in (
       omega arith,
       loop.invariant.1,
       built_turn low_of blank_range (pos 0) b.list loop.k loop.v.numbers _ loop.invariant.2 (omega (arith, loop.invariant.1))

@@ -13,13 +13,13 @@ use Rattle.corners.proofs.corners.turned.Goals as goal
 
 pub loop-i-init : goal.loop-i-init
 loop-i-init c =
-    let l : length c.args.t1.list ≡ PARAMETERS = simp length-map at c.well_formed.0.1.1.0.1.0.1 in
+    let l : length c.args.b.list ≡ PARAMETERS = simp length-map at c.well_formed.0.1.1.0.1.0.1 in
     (omega arith, l, built_start _ _ _ _ _ refl)
 
 pub loop-i-preserved : goal.loop-i-preserved
 loop-i-preserved c =
     let loop = c.loop-i in
-    let b = c.args.t1 in (
+    let b = c.args.b in (
       omega arith,
       loop.invariant.1,
       built_turn turn blank_range blank_range b.list loop.i loop.c.list _ loop.invariant.2 (omega (arith, loop.invariant.1))

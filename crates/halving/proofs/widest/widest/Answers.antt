@@ -12,7 +12,7 @@ pub loop-i-preserved : goal.loop-i-preserved
 loop-i-preserved c =
     let wide = c.before in
     let loop = wide.loop-i in
-    let rs = wide.args.t1.list in
+    let rs = wide.args.b.list in
     ⊎_elim
     (λ t. rw (t.1, t.2)
     (widest_here rs loop.i loop.w loop.most loop.invariant (search rules) wide.width-n.result wide.width-n.ensures.0

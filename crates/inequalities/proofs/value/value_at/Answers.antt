@@ -18,27 +18,27 @@ use Rattle.inequalities.proofs.value.value_at.Goals as goal
 pub loop-j-init : goal.loop-j-init
 loop-j-init c =
     let s = c.args in
-    let f : SFits w32 s.t2.constant = search rules in (
+    let f : SFits w32 s.e.constant = search rules in (
       omega arith,
-      rw (held w64 _ s.t2.constant (passed w32 _ _ c.wide-total.ensures f) (sfits_widen {w = w32} tt f))
-          (value_start s.t2 s.t1.numbers f),
+      rw (held w64 _ s.e.constant (passed w32 _ _ c.wide-total.ensures f) (sfits_widen {w = w32} tt f))
+          (value_start s.e s.v.numbers f),
     )
 
 -- the sum with one product more
 sum-next : (c : goal.After-term-total)
     → let loop = c.loop-j in let s = c.args in
-    ValueTo s.t2 s.t1.numbers (loop.j + 1) (to_z w64 loop.total +ℤ to_z w64 (of_z w64 c.term-total.result))
+    ValueTo s.e s.v.numbers (loop.j + 1) (to_z w64 loop.total +ℤ to_z w64 (of_z w64 c.term-total.result))
 sum-next c =
     let loop = c.loop-j in
     let start = c.before.before.before.before.before.before.before in
     let s = start.args in
-    let l : length s.t1.numbers ≡ PARAMETERS = simp length-map at start.well_formed.0.1.1.0.1.0.1 in
+    let l : length s.v.numbers ≡ PARAMETERS = simp length-map at start.well_formed.0.1.1.0.1.0.1 in
     let f : SFits w64 c.term-total.result = size_fits w64 _ (omega (arith, c.term-total.ensures.1)) in
-    let a = get_or s.t2.coefs loop.j (pos 0) in
-    let x = get_or s.t1.numbers loop.j (pos 0) in
+    let a = get_or s.e.coefs loop.j (pos 0) in
+    let x = get_or s.v.numbers loop.j (pos 0) in
     let g : SFits w32 a = record { sfits = c.term-arg-1.given } in
     let h : SFits w16 x = record { sfits = c.term-arg-in-loop-j-1.given } in
-    rw (to_z-of_z w64 c.term-total.result f) (value_turn s.t2 s.t1.numbers loop.j _ c.term-total.result loop.invariant.1 (omega arith) l
+    rw (to_z-of_z w64 c.term-total.result f) (value_turn s.e s.v.numbers loop.j _ c.term-total.result loop.invariant.1 (omega arith) l
     (heard ◌*ℤ◌ w32 w16 _ a x c.term-total.ensures.0 g h) c.term-total.ensures.1)
 
 pub overflow_add-total : goal.overflow_add-total
@@ -50,4 +50,4 @@ loop-j-preserved c = (omega arith, rw (to_z-of_z w64 _ (overflow_add-total c)) (
 pub returns : goal.returns
 returns c =
     let s = c.args in
-    value_all s.t2 s.t1.numbers c.loop-j.j _ c.loop-j.invariant.1 c.loop-j.invariant.0 (search rules)
+    value_all s.e s.v.numbers c.loop-j.j _ c.loop-j.invariant.1 c.loop-j.invariant.0 (search rules)

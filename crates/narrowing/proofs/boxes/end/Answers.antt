@@ -1,4 +1,5 @@
 -- The coefficient's sign says which end it is.
+use borrow.Author.Rules.{rules}
 use mir.Syntax.{w16, w32}
 use mir.ValLaws.{to_z-of_z}
 use Rattle.narrowing.proofs.Terms.{end_high, end_low}

@@ -21,12 +21,12 @@ best-is c = to_z-of_z w64 _ (size_fits w64 _ (omega (arith, c.best-m.ensures.1))
 pub returns-then-m-lt0 : goal.returns-then-m-lt0
 returns-then-m-lt0 c =
     let t = c.before.before in
-    let l : length t.args.t1.list ≡ PARAMETERS = simp length-map at t.well_formed.0.1.1.0.1.0.1 in
-    cut_none t.args.t2 t.args.t1.list c.best-m.result l c.best-m.ensures.0
+    let l : length t.args.b.list ≡ PARAMETERS = simp length-map at t.well_formed.0.1.1.0.1.0.1 in
+    cut_none t.args.e t.args.b.list c.best-m.result l c.best-m.ensures.0
     (lt_z_true (rw (best-is c.before) at c.if-m-lt0.true))
 
 pub loop-i-init : goal.loop-i-init
-loop-i-init c = (omega arith, cut_start c.args.t2 c.args.t1.list)
+loop-i-init c = (omega arith, cut_start c.args.e c.args.b.list)
 
 pub raised-requires : goal.raised-requires
 raised-requires c =
@@ -37,11 +37,11 @@ loop-i-preserved c =
     let loop = c.loop-i in
     let best = c.before.before.before.before.before.before in
     let t = best.before in
-    let l : length t.args.t1.list ≡ PARAMETERS = simp length-map at t.well_formed.0.1.1.0.1.0.1 in
-    let a = get_or t.args.t2.coefs loop.i (pos 0) in
+    let l : length t.args.b.list ≡ PARAMETERS = simp length-map at t.well_formed.0.1.1.0.1.0.1 in
+    let a = get_or t.args.e.coefs loop.i (pos 0) in
     let f : SFits w32 a = search rules in (
       omega arith,
-      cut_turn t.args.t2 t.args.t1.list loop.i best.best-m.result loop.c.list c.raised.result (omega arith) l
+      cut_turn t.args.e t.args.b.list loop.i best.best-m.result loop.c.list c.raised.result (omega arith) l
           best.best-m.ensures.0 (rw (best-is best, to_z-of_z w32 a f) at c.raised.ensures) loop.invariant.1,
     )
 

@@ -3,6 +3,7 @@ use mathlib.Core.Path.{◌≡◌, refl}
 use lib.ListN.{length, get_or, length-map}
 use Rattle.cells.specs.Cells.{cells_in, no_cell, zone_of}
 use Rattle.zones.specs.FlatLaws.{narrows_zone, holds_zone}
+use borrow.Author.Rules.{rules}
 use Rattle.parting.proofs.hints.hint_at.Goals as goal
 
 pub returns : goal.returns
@@ -13,7 +14,7 @@ returns c =
     let listed = c.rows_at-rows in
     let cut = c.narrowed-ranges in
     let four : length a.b.list ≡ 4 = simp length-map at start.good.0.1.1.0.1.0.1 in
-    let left : length cut.result.list ≡ 4 = simp length-map at cut.type-inv.1.1.0.1.0.1 in (
+    let left : length cut.result.list ≡ 4 = search rules in (
       narrows_zone a.b cut.result z _ listed.result.numbers listed.ensures four cut.ensures,
       (
         λ e. holds_zone cut.result z _ listed.result.numbers _ listed.ensures left (c.holds-sure.ensures e),

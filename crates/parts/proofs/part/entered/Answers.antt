@@ -1,8 +1,9 @@
 -- The branches are the two cases.
 use mathlib.Core.Path.{◌≡◌}
-use lib.ListN.{length, length-map}
+use lib.ListN.{length}
 use native.Mathlib.Omega.{arith}
 use Rattle.parts.proofs.Steps.{entered_yes, entered_past}
+use borrow.Author.Rules.{rules}
 use Rattle.parts.proofs.part.entered.Goals as goal
 
 pub returns-then-x-lt25 : goal.returns-then-x-lt25
@@ -15,5 +16,5 @@ pub returns-else-x-lt25 : goal.returns-else-x-lt25
 returns-else-x-lt25 c =
     let a = c.args in
     let long : length a.p.zone.bounds ≡ 25 =
-    simp length-map at c.well_formed.1.0.1.1.1.1.1.1.0.1.1.1.1.0.1.0.1 in
+    search rules in
     entered_past a.r a.p a.x _ c.if-yes.true (omega (arith, long, c.if-x-lt25.false))

@@ -48,7 +48,7 @@ loop-i-preserved c =
       loop.invariant.1,
       loop.invariant.2,
       omega (arith, loop.invariant.3, c.width-total.ensures.1),
-      sum_turn _ _ _ (get_or a.t1.list a.w blank_range) _ loop.i loop.total _ _ _ (omega arith) (to_z-of_z w16 _ f) point.point-p.ensures c.row.ensures
+      sum_turn _ _ _ (get_or a.b.list a.w blank_range) _ loop.i loop.total _ _ _ (omega arith) (to_z-of_z w16 _ f) point.point-p.ensures c.row.ensures
           c.width-total.ensures.0 loop.invariant.4,
     )
 
@@ -58,15 +58,15 @@ returns c =
     let lines = c.before.before.before.before.before in
     let start = lines.before.before in
     let a = start.args in
-    let l : length a.t1.list ≡ PARAMETERS = simp length-map at start.well_formed.0.1.1.0.1.0.1 in
+    let l : length a.b.list ≡ PARAMETERS = simp length-map at start.well_formed.0.1.1.0.1.0.1 in
     let m = c.width-m.result in
-    let low = (get_or a.t1.list a.w blank_range).low in
+    let low = (get_or a.b.list a.w blank_range).low in
     let cs = lines.all_put_in-l.result.numbers in
-    let f = row_width (line_at cs a.flat.now a.w a.t) a.n (get_or a.t1.list a.t blank_range) in
+    let f = row_width (line_at cs a.flat.now a.w a.t) a.n (get_or a.b.list a.t blank_range) in
     let all = sum_done f low m loop.i loop.total (sum_of f low m) (omega arith) loop.invariant.4 in
     let two = start.requires.0 in (
       all ∙ ap (λ (k : ℕ). sum_of f low k) loop.invariant.2
-          ∙ rows_counted a.w a.t a.t1.list two.1.0 two.1.1 two.0.1.1 (omega (arith, two.0.0))
+          ∙ rows_counted a.w a.t a.b.list two.1.0 two.1.1 two.0.1.1 (omega (arith, two.0.0))
           (omega (arith, two.0.1.0)) a.flat.now a.n (line_at cs a.flat.now a.w a.t)
           (λ j h. line_of cs a.flat.now _ a.w a.t j two.0.0 two.0.1.0
           (subst (λ (u : List ℤ). ValueOf (expr_at a.flat.now j) (set (set u a.t (pos 0)) a.w (pos 0)) (get_or cs j (pos 0)))

@@ -11,7 +11,7 @@ returns c =
     let found = c.before.before in
     let at-index = found.before in
     let a = at-index.args in
-    let s = sheet_in a.file.now a.t2 in
+    let s = sheet_in a.file.now a.ix in
     record {
       t = found.transition_at-t.result;
       found = found.transition_at-t.ensures ∙ ap (λ (n : ℕ). transition_c s n) at-index.index.ensures;

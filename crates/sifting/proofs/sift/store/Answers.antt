@@ -14,15 +14,15 @@ use Rattle.sifting.proofs.sift.store.Goals as goal
 pub loop-i-init : goal.loop-i-init
 loop-i-init c =
     let a = c.args in
-    writing_start a.t3 (5 * a.k) _
+    writing_start a.e (5 * a.k) _
     (room_set a.list.now (5 * a.k) _ _ (omega (arith, c.if-list-ge125.true, c.if-k-lt25.true)))
 
 pub loop-i-preserved : goal.loop-i-preserved
 loop-i-preserved c =
     let loop = c.loop-i in
     let a = c.args in
-    writing_turn a.t3 (5 * a.k) _ loop.i loop.list _ loop.invariant c.loop-i-test.true
-    (to_z-of_z w32 (get_or a.t3.coefs loop.i (pos 0)) (search rules))
+    writing_turn a.e (5 * a.k) _ loop.i loop.list _ loop.invariant c.loop-i-test.true
+    (to_z-of_z w32 (get_or a.e.coefs loop.i (pos 0)) (search rules))
 
 pub shape_of-list : goal.shape_of-list
 shape_of-list c =
@@ -34,14 +34,14 @@ returns-after-loop-i c =
     let loop = c.loop-i in
     let told = c.before.before in
     let a = told.args in
-    written_whole a.list.now a.k a.t3 _ loop.list told.if-k-lt25.true told.if-list-ge125.true
-    (to_z-of_z w32 a.t3.constant (search rules))
-    (writing_all a.t3 (5 * a.k) _ loop.i loop.list loop.invariant (search rules))
+    written_whole a.list.now a.k a.e _ loop.list told.if-k-lt25.true told.if-list-ge125.true
+    (to_z-of_z w32 a.e.constant (search rules))
+    (writing_all a.e (5 * a.k) _ loop.i loop.list loop.invariant (search rules))
 
 pub returns-else-list-ge125 : goal.returns-else-list-ge125
 returns-else-list-ge125 c =
     let a = c.args in
-    sym (stored_short a.list.now a.k a.t3 c.if-k-lt25.true c.if-list-ge125.false)
+    sym (stored_short a.list.now a.k a.e c.if-k-lt25.true c.if-list-ge125.false)
 
 pub returns-else-k-lt25 : goal.returns-else-k-lt25
-returns-else-k-lt25 c = let a = c.args in sym (stored_past a.list.now a.k a.t3 c.if-k-lt25.false)
+returns-else-k-lt25 c = let a = c.args in sym (stored_past a.list.now a.k a.e c.if-k-lt25.false)

@@ -1,10 +1,11 @@
 -- The loop's invariant: the part on its way comes to what the first one comes to, and the list has its zone's inequalities.
 use mathlib.Core.Path.{◌≡◌, sym, ◌∙◌}
 use native.Mathlib.Omega.{arith}
-use lib.ListN.{length, length-map}
+use lib.ListN.{length}
 use Rattle.split.specs.Runs.{going_starts, going_ends}
 use Rattle.split.specs.Turns.{part_of, way_starts, way_skips, skip_less, few_at, run_turn, run_less}
 use Rattle.split.specs.Turns.{knowing_starts, knowing_fits}
+use borrow.Author.Rules.{rules}
 use Rattle.split.proofs.tests.run.Goals as goal
 
 pub returns-then-p-gt0 : goal.returns-then-p-gt0
@@ -18,8 +19,8 @@ loop-halt-init c =
     let listed = c.before.before.before.before.before.before in
     let start = listed.before.before.before.before in
     let a = start.args in
-    let long : length a.r.old ≡ 25 = simp length-map at start.well_formed.1.0.1.1.1.1.1.1.0.1.0.1 in
-    let room : length listed.flat_of-list.result.numbers ≡ 125 = simp length-map at listed.flat_of-list.type-inv.1.1.1.0.1.0.1 in
+    let long : length a.r.old ≡ 25 = search rules in
+    let room : length listed.flat_of-list.result.numbers ≡ 125 = search rules in
     way_starts a.r _ _ a.p _ start.requires.0 long listed.flat_of-list.ensures.1 room listed.flat_of-list.ensures.0
 
 pub loop-halt-smaller-then-outside : goal.loop-halt-smaller-then-outside

@@ -9,7 +9,7 @@ use Rattle.steps.proofs.step.with_guards.Goals as goal
 pub loop-i-init : goal.loop-i-init
 loop-i-init c =
     let a = c.args in
-    let h = size_is _ a.count 6 a.t3 c.at_most-n.ensures (search rules) in
+    let h = size_is _ a.count 6 a.guards c.at_most-n.ensures (search rules) in
     (h.0, h.1, refl)
 
 pub returns-then-at-ge20 : goal.returns-then-at-ge20
@@ -34,7 +34,7 @@ loop-i-preserved c =
     let v = at-loop.loop-i.invariant in (
       v.0,
       v.1,
-      guards_turn a.t3 a.count at-loop.loop-i.i at-loop.loop-i.more _ _
+      guards_turn a.guards a.count at-loop.loop-i.i at-loop.loop-i.more _ _
           (omega (arith, c.loop-i-test.true, v.1)) v.2
           (put_step at-loop.loop-i.more _ c.if-at-ge20.false),
     )
@@ -44,4 +44,4 @@ returns c =
     let at-loop = c.before in
     let a = c.args in
     let v = at-loop.loop-i.invariant in
-    guards_done a.t3 a.count at-loop.loop-i.i at-loop.loop-i.more _ (omega (arith, c.loop-i-test.false, v.1)) v.2
+    guards_done a.guards a.count at-loop.loop-i.i at-loop.loop-i.more _ (omega (arith, c.loop-i-test.false, v.1)) v.2

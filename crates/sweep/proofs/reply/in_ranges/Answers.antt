@@ -15,15 +15,15 @@ use borrow.Author.Rules.{rules}
 use Rattle.sweep.proofs.reply.in_ranges.Goals as goal
 
 pub loop-i-init : goal.loop-i-init
-loop-i-init c = placing_start c.args.t1.list c.args.t2.list
+loop-i-init c = placing_start c.args.b.list c.args.numbers.list
 
 pub returns-then-not-in_range : goal.returns-then-not-in_range
 returns-then-not-in_range c =
     let turn = c.before.before.before.before in
     let loop = turn.loop-i in
     let a = turn.args in
-    let l = a.t1.list in
-    let xs = a.t2.list in
+    let l = a.b.list in
+    let xs = a.numbers.list in
     placing_out l xs loop.i loop.v turn.loop-i-test.true loop.invariant
     (told_outside (get_or l loop.i blank_range) (get_or xs loop.i (pos 0)) _ (search rules)
     c.in_range.ensures c.if-not-in_range.true)
@@ -32,12 +32,12 @@ number-inside : (c : goal.Else-not-in_range) →
     let turn = c.before.before.before.before in
     let i = turn.loop-i.i in
     let a = turn.args in
-    in_range (get_or a.t1.list i blank_range) (get_or a.t2.list i (pos 0)) ≡ true
+    in_range (get_or a.b.list i blank_range) (get_or a.numbers.list i (pos 0)) ≡ true
 number-inside c =
     let turn = c.before.before.before.before in
     let i = turn.loop-i.i in
     let a = turn.args in
-    told_inside (get_or a.t1.list i blank_range) (get_or a.t2.list i (pos 0)) _ (record { sfits = c.x-1.given })
+    told_inside (get_or a.b.list i blank_range) (get_or a.numbers.list i (pos 0)) _ (record { sfits = c.x-1.given })
     c.in_range.ensures c.if-not-in_range.false
 
 pub value_in-requires : goal.value_in-requires
@@ -45,7 +45,7 @@ value_in-requires c =
     let turn = c.before.before.before.before in
     let loop = turn.loop-i in
     let a = turn.args in
-    bits_inside (get_or a.t1.list loop.i blank_range) (get_or a.t2.list loop.i (pos 0))
+    bits_inside (get_or a.b.list loop.i blank_range) (get_or a.numbers.list loop.i (pos 0))
     (search rules) (number-inside c)
 
 pub loop-i-preserved : goal.loop-i-preserved
@@ -53,13 +53,13 @@ loop-i-preserved c =
     let turn = c.before.before.before.before.before in
     let loop = turn.loop-i in
     let a = turn.args in
-    let x = get_or a.t2.list loop.i (pos 0) in
+    let x = get_or a.numbers.list loop.i (pos 0) in
     let f : SFits w64 x = search rules in
-    placing_turn a.t1.list a.t2.list loop.i loop.v _ turn.loop-i-test.true loop.invariant (number-inside c.before)
+    placing_turn a.b.list a.numbers.list loop.i loop.v _ turn.loop-i-test.true loop.invariant (number-inside c.before)
     (to_z-of_z w16 c.value_in.result (search rules) ∙ c.value_in.ensures ∙ to_z-of_z w64 x f)
 
 pub returns : goal.returns
 returns c =
     let loop = c.loop-i in
     let a = c.args in
-    placing_all a.t1.list a.t2.list loop.i loop.v (search rules) loop.invariant
+    placing_all a.b.list a.numbers.list loop.i loop.v (search rules) loop.invariant

@@ -1,4 +1,5 @@
 -- A number in the range fits as the range's ends do.
+use borrow.Author.Rules.{rules}
 use Rattle.integer.specs.Bits.{held}
 use lib.IntN.{ℤ}
 use mathlib.Core.Path.{subst, sym}

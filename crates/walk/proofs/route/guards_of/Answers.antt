@@ -14,8 +14,8 @@ use Rattle.walk.proofs.route.guards_of.Goals as goal
 pub loop-k-init : goal.loop-k-init
 loop-k-init c =
     let a = c.args in
-    let l : length a.t5 ≡ 6 = search rules in
-    let h = size_is _ a.count 6 a.t5 c.at_most-n.ensures l in
+    let l : length a.guards ≡ 6 = search rules in
+    let h = size_is _ a.count 6 a.guards c.at_most-n.ensures l in
     (h.0, h.1, refl)
 
 pub offset_bounds-guards-k : goal.offset_bounds-guards-k
@@ -40,7 +40,7 @@ loop-k-preserved c =
     let a = at-loop.args in
     let i = at-loop.loop-k in
     let v = i.invariant in
-    let g = get_or a.t5 i.k no_guard in
+    let g = get_or a.guards i.k no_guard in
     let next : c.if-changes.now ≡ guard_table i.now a.clocks (point a.v) g =
     ⊎_elim
     (λ w. w.4 ∙ guard_made i.now a.clocks (point a.v) g _ e.bound_at-e.ensures _ w.3.ensures)
@@ -51,10 +51,10 @@ loop-k-preserved c =
     c.if-changes.branch in (
       v.0,
       v.1,
-      guards_turn a.clocks (point a.v) a.t5 a.count i.k _ _ _ _ (omega arith) v.2 next,
+      guards_turn a.clocks (point a.v) a.guards a.count i.k _ _ _ _ (omega arith) v.2 next,
     )
 
 pub returns : goal.returns
 returns c =
     let a = c.args in
-    guards_done a.clocks (point a.v) a.t5 a.count c.loop-k.k _ _ (omega arith) c.loop-k.invariant.2
+    guards_done a.clocks (point a.v) a.guards a.count c.loop-k.k _ _ (omega arith) c.loop-k.invariant.2

@@ -14,8 +14,8 @@ pub loop-k-init : goal.loop-k-init
 unfolding sheet_in
 loop-k-init c =
     let a = c.args in
-    let l : length a.t2.route ≡ 32 = search rules in
-    let h = size_is _ a.t2.moves 32 a.t2.route c.at_most-n.ensures l in
+    let l : length a.ix.route ≡ 32 = search rules in
+    let h = size_is _ a.ix.moves 32 a.ix.route c.at_most-n.ensures l in
     (h.0, h.1, (0, (c.location_at-here.ensures, walk_begun _ _ _ _ c.location_at-here.ensures c.start-m.ensures)))
 
 pub bounds-ix-k : goal.bounds-ix-k
@@ -39,7 +39,7 @@ loop-k-preserved c =
     let a = at-loop.args in
     let i = at-loop.loop-k in
     let v = i.invariant in
-    let s = sheet_in a.file.now a.t2 in (
+    let s = sheet_in a.file.now a.ix in (
       v.0,
       v.1,
       (
@@ -59,5 +59,5 @@ returns c =
     let at-loop = c.before.before in
     let a = at-loop.args in
     let i = at-loop.loop-k in
-    walk_done (sheet_in a.file.now a.t2) (point a.v) i.k i.invariant.2.0 i.m _ _ _ (omega arith) i.invariant.2.1.1
+    walk_done (sheet_in a.file.now a.ix) (point a.v) i.k i.invariant.2.0 i.m _ _ _ (omega arith) i.invariant.2.1.1
     i.invariant.2.1.0 c.stay-2.ensures

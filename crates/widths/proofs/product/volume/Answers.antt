@@ -9,13 +9,13 @@ use Rattle.widths.proofs.product.volume.Goals as goal
 
 pub loop-i-init : goal.loop-i-init
 loop-i-init c =
-    let l : length c.args.t1.list ≡ PARAMETERS = simp length-map at c.well_formed.0.1.1.0.1.0.1 in
+    let l : length c.args.b.list ≡ PARAMETERS = simp length-map at c.well_formed.0.1.1.0.1.0.1 in
     (omega arith, l, omega arith, omega arith)
 
 pub loop-i-preserved : goal.loop-i-preserved
 loop-i-preserved c =
     let loop = c.loop-i in
-    let b = c.args.t1 in (
+    let b = c.args.b in (
       omega arith,
       loop.invariant.1,
       omega (arith, c.times-total.ensures),
@@ -26,4 +26,4 @@ loop-i-preserved c =
 pub returns : goal.returns
 returns c =
     let v = c.loop-i.invariant in
-    volume_all c.args.t1.list c.loop-i.i _ (omega (arith, v.1)) v.2 v.3
+    volume_all c.args.b.list c.loop-i.i _ (omega (arith, v.1)) v.2 v.3

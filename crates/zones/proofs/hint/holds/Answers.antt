@@ -4,7 +4,7 @@ use Rattle.integer.specs.Apart.{apart}
 use Rattle.zones.proofs.hint.holds.Goals as goal
 
 pub returns-then-inside : goal.returns-then-inside
-returns-then-inside c = λ e. (c.inside.ensures.0 c.if-inside.true, sym c.meets.ensures ∙ e)
+returns-then-inside c = λ e. (c.inside.ensures.yes c.if-inside.true, sym c.meets.ensures ∙ e)
 
 pub returns : goal.returns
 returns c = λ e. apart cc

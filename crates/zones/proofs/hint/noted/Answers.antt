@@ -5,12 +5,12 @@ use Rattle.zones.proofs.hint.noted.Goals as goal
 
 pub returns-in-Yes : goal.returns-in-Yes
 unfolding noted_c
-returns-in-Yes c = rw c.enum_told-1.given.1 refl
+returns-in-Yes c = rw c.in-Yes.is refl
 
 pub returns-in-No : goal.returns-in-No
 unfolding noted_c
-returns-in-No c = rw c.enum_told-in-No-1.given.1 refl
+returns-in-No c = rw c.in-No.is refl
 
 pub returns-in-Ask : goal.returns-in-Ask
 unfolding noted_c
-returns-in-Ask c = rw c.enum_told-in-Ask-1.given.1 c.told.ensures
+returns-in-Ask c = rw c.in-Ask.is c.told.ensures

@@ -2,15 +2,16 @@
 use mathlib.Core.Path.{◌≡◌, refl, subst, sym}
 use Prim.Native.Nat.{◌-◌}
 use native.Mathlib.Omega.{arith}
-use lib.ListN.{length, length-map}
+use lib.ListN.{length}
 use Rattle.inequalities.specs.Flat.{exprs_from}
 use Rattle.zones.proofs.Steps.{Copied, copied_turn, copied_all}
+use borrow.Author.Rules.{rules}
 use Rattle.zones.proofs.system.flat_of.Goals as goal
 
 pub loop-i-init : goal.loop-i-init
 unfolding exprs_from
 loop-i-init c =
-    let l : length c.args.t1.ineqs ≡ 24 = simp length-map at c.well_formed.0.1.1.1.0.1.0.1 in
+    let l : length c.args.zone.ineqs ≡ 24 = search rules in
     record { few = omega (arith, c.at_most-n.ensures); within = omega arith; long = refl; zone_long = l; same = refl }
 
 pub offset_bounds-zone-i : goal.offset_bounds-zone-i
@@ -26,15 +27,15 @@ pub loop-i-preserved : goal.loop-i-preserved
 loop-i-preserved c =
     let at-loop = c.before.before.before.before.before in
     let a = at-loop.args in
-    subst (Copied a.t1.ineqs _ _) (sym c.put.ensures)
-    (copied_turn a.t1.ineqs _ at-loop.loop-i.i at-loop.loop-i.flat at-loop.loop-i.invariant
+    subst (Copied a.zone.ineqs _ _) (sym c.put.ensures)
+    (copied_turn a.zone.ineqs _ at-loop.loop-i.i at-loop.loop-i.flat at-loop.loop-i.invariant
     c.loop-i-test.true)
 
 pub returns : goal.returns
 returns c =
     let loop = c.loop-i in
     let asked = c.before.before in
-    let a = asked.args in (
-      copied_all a.t1.ineqs _ loop.i a.t1.count loop.flat asked.at_most-n.ensures loop.invariant c.loop-i-test.false,
-      asked.at_most-n.ensures,
-    )
+    let a = asked.args in record {
+      count_value = copied_all a.zone.ineqs _ loop.i a.zone.count loop.flat asked.at_most-n.ensures loop.invariant c.loop-i-test.false;
+      counted = asked.at_most-n.ensures;
+    }

@@ -13,15 +13,15 @@ use Rattle.zones.proofs.system.put.Goals as goal
 pub loop-i-init : goal.loop-i-init
 loop-i-init c =
     let a = c.args in
-    writing_start a.t3 (5 * a.k) _
+    writing_start a.e (5 * a.k) _
     (room_set a.flat.now (5 * a.k) _ _ (omega (arith, c.if-flat-ge125.true, c.if-k-lt25.true)))
 
 pub loop-i-preserved : goal.loop-i-preserved
 loop-i-preserved c =
     let loop = c.loop-i in
     let a = c.args in
-    writing_turn a.t3 (5 * a.k) _ loop.i loop.flat _ loop.invariant c.loop-i-test.true
-    (to_z-of_z w32 (get_or a.t3.coefs loop.i (pos 0)) (search rules))
+    writing_turn a.e (5 * a.k) _ loop.i loop.flat _ loop.invariant c.loop-i-test.true
+    (to_z-of_z w32 (get_or a.e.coefs loop.i (pos 0)) (search rules))
 
 pub shape_of-flat : goal.shape_of-flat
 shape_of-flat c = let a = c.args in c.loop-i.invariant.long ∙ length-set a.flat.now
@@ -32,14 +32,14 @@ returns-after-loop-i c =
     let loop = c.loop-i in
     let told = c.before.before in
     let a = told.args in
-    written_whole a.flat.now a.k a.t3 _ loop.flat told.if-k-lt25.true told.if-flat-ge125.true
-    (to_z-of_z w32 a.t3.constant (search rules))
-    (writing_all a.t3 (5 * a.k) _ loop.i loop.flat loop.invariant (search rules))
+    written_whole a.flat.now a.k a.e _ loop.flat told.if-k-lt25.true told.if-flat-ge125.true
+    (to_z-of_z w32 a.e.constant (search rules))
+    (writing_all a.e (5 * a.k) _ loop.i loop.flat loop.invariant (search rules))
 
 pub returns-else-flat-ge125 : goal.returns-else-flat-ge125
 returns-else-flat-ge125 c =
     let a = c.args in
-    sym (put_short a.flat.now a.k a.t3 c.if-k-lt25.true c.if-flat-ge125.false)
+    sym (put_short a.flat.now a.k a.e c.if-k-lt25.true c.if-flat-ge125.false)
 
 pub returns-else-k-lt25 : goal.returns-else-k-lt25
-returns-else-k-lt25 c = let a = c.args in sym (put_past a.flat.now a.k a.t3 c.if-k-lt25.false)
+returns-else-k-lt25 c = let a = c.args in sym (put_past a.flat.now a.k a.e c.if-k-lt25.false)

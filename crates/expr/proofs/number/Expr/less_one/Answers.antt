@@ -1,4 +1,5 @@
 -- The constant is one less, which fits; the coefficients stay.
+use borrow.Author.Rules.{rules}
 use mathlib.Core.Path.{ap}
 use lib.IntN.{ℤ}
 use Rattle.expr.proofs.Sizes.{less_fits, less_is}

@@ -12,18 +12,12 @@ use Rattle.expr.proofs.Records.{expr_start, expr_turn, expr_all}
 use borrow.Author.Rules.{rules}
 use Rattle.expr.proofs.number.Expr.opposite.Goals as goal
 
-abbrev turnedC : Expr → ℤ
-turnedC e = negsuc 0 -ℤ saturate LARGEST e.constant
-
-abbrev negatedC : Expr → ℕ → ℤ
-negatedC e k = neg_ℤ (saturate LARGEST (get_or e.coefs k (pos 0)))
-
 pub loop-i-init : goal.loop-i-init
 loop-i-init c =
     let start = c.args in (
       omega arith,
       expr_start _ _ _
-          (turned_stored _ start.t1.constant (search rules) c.difference.ensures),
+          (turned_stored _ start.self.constant (search rules) c.difference.ensures),
     )
 
 pub loop-i-preserved : goal.loop-i-preserved
@@ -33,7 +27,7 @@ loop-i-preserved c =
     let start = turn.args in (
       omega arith,
       expr_turn _ _ loop.i loop.r _ loop.invariant.1
-          (negated_stored _ (get_or start.t1.coefs loop.i (pos 0))
+          (negated_stored _ (get_or start.self.coefs loop.i (pos 0))
           (search rules) c.difference-in-loop-i.ensures),
     )
 

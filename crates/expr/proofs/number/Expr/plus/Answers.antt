@@ -16,7 +16,7 @@ loop-i-init c =
     let u = c.struct_told-2-1.given in (
       omega arith,
       expr_start _ _ _
-          (sum_stored _ start.t1.constant start.t2.constant
+          (sum_stored _ start.self.constant start.other.constant
           (search rules) (search rules) c.sum.ensures),
     )
 
@@ -27,7 +27,7 @@ loop-i-preserved c =
     let start = turn.args in (
       omega arith,
       expr_turn _ _ loop.i loop.r _ loop.invariant.1
-          (sum_stored _ (get_or start.t1.coefs loop.i (pos 0)) (get_or start.t2.coefs loop.i (pos 0))
+          (sum_stored _ (get_or start.self.coefs loop.i (pos 0)) (get_or start.other.coefs loop.i (pos 0))
           (search rules) (search rules) c.sum-in-loop-i.ensures),
     )
 

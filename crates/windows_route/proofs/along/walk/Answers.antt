@@ -11,7 +11,7 @@ use Rattle.windows_route.specs.Standing.{stopped_split, listed_room, stopped_lis
 use Rattle.windows_route.specs.Standing.{hinted_at, stays_there, stays_at, loaded_at, standing_stepped, standing_next, standing_ends}
 use Rattle.zones.specs.Fits.{hinted_new}
 use Rattle.zones.specs.Zone.{blank_zone}
-use Rattle.windows_route.proofs.route.walk.Goals as goal
+use Rattle.windows_route.proofs.along.walk.Goals as goal
 
 pub loop-k-init : goal.loop-k-init
 unfolding sheet_in

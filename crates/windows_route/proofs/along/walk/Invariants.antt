@@ -1,7 +1,7 @@
 use Prim.Native.Nat.{◌-◌}
 use Rattle.index.specs.SheetIn.{sheet_in}
 use Rattle.windows_route.specs.Standing.{Standing, way_in}
-use Rattle.windows_route.proofs.route.walk.Given as goal
+use Rattle.windows_route.proofs.along.walk.Given as goal
 
 -- The loop's invariant: where the walk stands, in cells (specs/Standing).
 abbrev pub invariant-loop-k : goal.invariant-loop-k

@@ -1,7 +1,7 @@
 -- Spared, or not.
 use mathlib.Core.Path.{refl}
 use borrow.Author.Tests.{lt-ltb, le-ltb}
-use Rattle.windows_route.proofs.route.place_of.Goals as goal
+use Rattle.windows_route.proofs.along.place_of.Goals as goal
 
 pub returns-then-x-kept : goal.returns-then-x-kept
 returns-then-x-kept c =
