@@ -1,4 +1,4 @@
--- What the code does along the whole route (Walked) is the cutting, for every accepted sheet: `zones-coded`.
+-- What the code does along the whole route (Walked) is the cutting, for every accepted sheet: `zones_coded`.
 use Rattle.std.specs.Prelude.{◌≡◌, Bool, true, false, cond, ℕ, suc, ◌+◌, ◌-◌, ◌/◌, ◌%◌, ◌≤◌, ◌<◌, eqb, ltb, leb}
 use Rattle.std.proofs.Math.Path.{refl, ap}
 use Rattle.std.proofs.Common.{sym, ◌∙◌, arith, length-take}

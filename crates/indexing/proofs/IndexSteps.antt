@@ -1,4 +1,4 @@
--- Each way through the judging of an index is a case of `judgedBodies` and of `read_of`.
+-- Each way through the judging of an index is a case of `judged_bodies` and of `read_of`.
 use Prim.Native.Nat.{ℕ, ◌+◌}
 use mathlib.Core.Path.{◌≡◌, refl}
 use mathlib.Core.List.{List}

@@ -1,4 +1,4 @@
--- Division in the code: of numbers that are far from the ends of 64 bits nothing wraps, and the quotient rounded down is `floorZ`.
+-- Division in the code: of numbers that are far from the ends of 64 bits nothing wraps, and the quotient rounded down is `floor_z`.
 use mathlib.Core.Path.{◌≡◌, refl, sym}
 use mathlib.Core.Bool.{true, false}
 use Prim.Native.Nat.{zero, suc, ◌<◌}

@@ -1,34 +1,35 @@
-// Words and numbers on standard output. Each function is told whether all before was written, writes nothing more if not, and answers
-// whether all was written then.
-use libc::STDOUT_FILENO;
+// Words and numbers on standard output. Each function answers whether all was written.
+use std::io;
 use stored::magnitude;
 
 // Writes bytes.
-pub(crate) fn word(ok: bool, bytes: &[u8]) -> bool {
-    ok && io::write_all(STDOUT_FILENO, bytes)
+pub(crate) fn word(rt: &impl Print, bytes: &[u8]) -> io::Result<()> {
+    rt.write_all(bytes)
 }
 
 // Writes a number's digits.
-fn digits(ok: bool, n: u64) -> bool {
-    ok && io::print_decimal(STDOUT_FILENO, n)
+fn digits(rt: &impl Print, n: u64) -> io::Result<()> {
+    print!(rt; "{n}")
 }
 
 // Writes a space and a number.
-pub(crate) fn number(ok: bool, n: usize) -> bool {
-    digits(word(ok, b" "), n as u64)
+pub(crate) fn number(rt: &impl Print, n: usize) -> io::Result<()> {
+    word(rt, b" ")?;
+    digits(rt, n as u64)
 }
 
 // Writes a word, a space and a number.
-pub(crate) fn named(ok: bool, bytes: &[u8], n: usize) -> bool {
-    number(word(ok, bytes), n)
+pub(crate) fn named(rt: &impl Print, bytes: &[u8], n: usize) -> io::Result<()> {
+    word(rt, bytes)?;
+    number(rt, n)
 }
 
 // Writes a space and a number with sign.
-pub(crate) fn signed(ok: bool, x: i64) -> bool {
-    let space = if x < 0 {
-        word(ok, b" -")
+pub(crate) fn signed(rt: &impl Print, x: i64) -> io::Result<()> {
+    if x < 0 {
+        word(rt, b" -")?;
     } else {
-        word(ok, b" ")
-    };
-    digits(space, magnitude(x))
+        word(rt, b" ")?;
+    }
+    digits(rt, magnitude(x))
 }

@@ -1,4 +1,4 @@
--- Every sheet that is read is well formed: the theorem `read-well-formed`, from the definitions alone. With a refusal the sheet is blank.
+-- Every sheet that is read is well formed: the theorem `read_well_formed`, from the definitions alone. With a refusal the sheet is blank.
 use Rattle.std.specs.Prelude.{ℕ, ◌+◌, ◌≤◌, ◌≡◌, refl, List, ◌⊎◌, Bool, true, false, cond, leb, length}
 use Rattle.std.proofs.Common.{sym, subst, ap, ◌∙◌, inl, inr, arith, leb-true}
 use Rattle.contents.specs.declared.Contents.{Contents}

@@ -1,4 +1,4 @@
--- The steps of a stay and of a transition as lists; stepping through them is `stayAll` and `moveAll`.
+-- The steps of a stay and of a transition as lists; stepping through them is `stay_all` and `move_all`.
 use Rattle.std.specs.Prelude.{◌≡◌, ℕ, suc, ◌+◌, ◌≤◌, ◌<◌, length, set, replicate}
 use Rattle.std.proofs.Math.Path.{refl, ap}
 use Rattle.std.proofs.Common.{sym, subst, ◌∙◌, add-one, arith, lt-ltb, length-set, length-take}

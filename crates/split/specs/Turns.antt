@@ -1,4 +1,4 @@
--- One turn of `run`: the test of a phase, from the entries that the code reads, moves the part on as `forwardC` does.
+-- One turn of `run`: the test of a phase, from the entries that the code reads, moves the part on as `forward_c` does.
 use Rattle.std.specs.Prelude.{◌≡◌, List, map, Bool, ◌&&◌, ltb, eqb, ℤ, length, get_or, set, take}
 use Rattle.std.proofs.Math.Path.{refl, ap}
 use Rattle.std.proofs.Common.{sym, subst, ◌∙◌, true≢false}
@@ -158,7 +158,7 @@ module _ (r : Rule) (long : length r.old ≡ 25) (q : Part) (t : Test) where
       by true = λ i. halted_c (same_zone (counted_c q t) (into x) i) (record { kind = kind; test = t.expr })
       by false = λ i. halted_c (same_zone (counted_c q t) (into x) i) (record { kind = kind; test = t.expr })
 
--- one turn is `forwardC`
+-- one turn is `forward_c`
 module _ (b : Ranges) (r : Rule) (long : length r.old ≡ 25) (q : Part) (early : q.phase < 27) where
   abbrev t : Test
   t = ask_c r q.phase

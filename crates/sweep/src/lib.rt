@@ -1,6 +1,6 @@
 // Sweep: one valuation of a sheet's parameters worked out in plain numbers.
 //
-// The contract of `sweep` is an equation with `replyOf` of specs/Reply, for every file and all numbers; specs/Theorems says what
+// The contract of `sweep` is an equation with `reply_of` of specs/Reply, for every file and all numbers; specs/Theorems says what
 // that reply is worth: void exactly if no run exists, and else the matrix of tightest bounds over the end states of all runs.
 #![tactic(auto)]
 

@@ -230,7 +230,7 @@ first_in_narrower es fs rs ss h = sym (first_narrows (es ++ fs) rs ss (narrows_m
 pub count_in_narrower : (es fs : List Affine) (rs ss : List Range) → Narrows es rs ss → count ss (es ++ fs) ≡ count rs (es ++ fs)
 count_in_narrower es fs rs ss h = sym (count_narrows (es ++ fs) rs ss (narrows_more es fs rs ss h))
 
--- the same of the places of lists, as contracts have them (`rangeList`)
+-- the same of the places of lists, as contracts have them (`range_list`)
 within_long : (ss rs : List Range) → Within ss rs → length ss ≡ length rs
 within_long [] [] h = refl
 within_long [] (r ∷ rs) h = absurd h

@@ -1,4 +1,4 @@
--- The list of all valuations of some ranges has each of them once: with `valuations-all` and `valuations-inside`, to count its members is
+-- The list of all valuations of some ranges has each of them once: with `valuations_all` and `valuations_inside`, to count its members is
 -- to count the valuations in the ranges.
 use Rattle.std.specs.Prelude.{◌≡◌, ◌⊎◌, ℕ, zero, suc, ℤ, pos, ◌+ℤ◌, ◌≤ℤ◌}
 use Rattle.std.proofs.Common.{sym, ◌∙◌, inl, inr}

@@ -7,88 +7,80 @@
 
 mod digest;
 
-use libc::STDOUT_FILENO;
 use reading::Reading;
 use sheet::Sheet;
+use std::io::Read;
+use std::{fs, io};
 
 // Writes a space and a number.
-fn print_number(n: usize) {
-    io::write_all(STDOUT_FILENO, b" ");
-    io::print_decimal(STDOUT_FILENO, n as u64);
+fn print_number(rt: &impl Print, n: usize) -> io::Result<()> {
+    print!(rt; " {n}")
 }
 
 // Writes the counts and the digest of a sheet that was read.
-fn print_sheet(sheet: Sheet) {
-    io::write_all(STDOUT_FILENO, b"read");
-    print_number(sheet.parameters);
-    print_number(sheet.clocks);
-    print_number(sheet.locations);
-    print_number(sheet.transitions);
-    print_number(sheet.moves);
-    io::write_all(STDOUT_FILENO, b" digest ");
-    io::print_decimal(STDOUT_FILENO, digest::digest(sheet));
+fn print_sheet(rt: &impl Print, sheet: Sheet) -> io::Result<()> {
+    print!(rt; "read")?;
+    print_number(rt, sheet.parameters)?;
+    print_number(rt, sheet.clocks)?;
+    print_number(rt, sheet.locations)?;
+    print_number(rt, sheet.transitions)?;
+    print_number(rt, sheet.moves)?;
+    print!(rt; " digest {}", digest::digest(sheet))
 }
 
 // Writes a refusal.
-fn print_refusal(number: usize, place: usize) {
-    io::write_all(STDOUT_FILENO, b"refused");
-    print_number(number);
-    io::write_all(STDOUT_FILENO, b" place");
-    print_number(place);
+fn print_refusal(rt: &impl Print, number: usize, place: usize) -> io::Result<()> {
+    print!(rt; "refused")?;
+    print_number(rt, number)?;
+    print!(rt; " place")?;
+    print_number(rt, place)
 }
 
 // Writes what reading a file gave.
-fn print_reading(reading: Reading) {
+fn print_reading(rt: &impl Print, reading: Reading) -> io::Result<()> {
     let checked = reading.checked;
     let refusal = answers::file::numbered(checked);
     if refusal.number == 0 {
-        print_sheet(reading.sheet);
+        print_sheet(rt, reading.sheet)
     } else {
-        print_refusal(refusal.number, refusal.place);
+        print_refusal(rt, refusal.number, refusal.place)
     }
 }
 
 // Writes the line of a file.
-fn print_line(file: &[u8]) {
-    print_reading(reading::read(file));
-    io::write_all(STDOUT_FILENO, b" bodies ");
-    io::print_decimal(STDOUT_FILENO, digest::bodies(file));
-    io::write_all(STDOUT_FILENO, b"\n");
+fn print_line(rt: &impl Print, file: &[u8]) -> io::Result<()> {
+    print_reading(rt, reading::read(file))?;
+    println!(rt; " bodies {}", digest::bodies(file))
 }
 
 // Reads the next stored file and writes its line, and answers whether there was one.
-fn print_next(fd: i32) -> bool {
+fn print_next<R: Read>(rt: &impl Print, input: &mut R) -> io::Result<bool> {
     let mut length = [0u8; 2];
-    if io::read_full(fd, &mut length) < 2 {
-        return false;
+    if stored::read_full(input, &mut length)? < 2 {
+        return Ok(false);
     }
     let n = stored::two_bytes(length[0], length[1]);
-    let mut file = io::large_buffer();
-    let got = io::read_full(fd, &mut file[..n]);
+    let mut file = [0u8; 65536];
+    let got = stored::read_full(input, &mut file[..n])?;
     if got < n {
-        io::write_all(STDOUT_FILENO, b"the last file is not whole\n");
-        return false;
+        println!(rt; "the last file is not whole")?;
+        return Ok(false);
     }
-    print_line(&file[..n]);
-    true
+    print_line(rt, &file[..n])?;
+    Ok(true)
 }
 
 // Writes the lines of all stored files. The loop counts its turns down, from a number that no run
 // uses up, since a proved loop has to end.
-fn print_all(fd: i32) {
+fn print_all<R: Read>(rt: &impl Print, input: &mut R) -> io::Result<()> {
     let mut turns = u64::MAX;
-    while turns > 0 && print_next(fd) {
+    while turns > 0 && print_next(rt, input)? {
         turns -= 1;
     }
+    Ok(())
 }
 
-fn main() {
-    let path = b"sheets.bin";
-    let fd = os::open_read(path);
-    if fd < 0 {
-        os::fail(path);
-        return;
-    }
-    print_all(fd);
-    libc::close(fd);
+fn main(rt: HostRuntime) -> io::Result<()> {
+    let mut input = fs::open(&rt, "sheets.bin")?;
+    print_all(&rt, &mut input)
 }

@@ -8,105 +8,105 @@
 mod digest;
 mod number;
 
-use libc::STDOUT_FILENO;
+use std::io::Read;
+use std::{fs, io};
 use sweep::Numbers;
 
 // Writes a number.
-fn print_number(n: usize) {
-    io::print_decimal(STDOUT_FILENO, n as u64);
+fn print_number(rt: &impl Print, n: usize) -> io::Result<()> {
+    print!(rt; "{n}")
 }
 
 // Says that a record is not whole.
-fn not_whole() -> bool {
-    io::write_all(STDOUT_FILENO, b" the last record is not whole\n");
-    false
+fn not_whole(rt: &impl Print) -> io::Result<bool> {
+    println!(rt; " the last record is not whole")?;
+    Ok(false)
 }
 
 // Writes what Sweep answers at a valuation.
-fn print_answer(file: &[u8], numbers: Numbers) {
+fn print_answer(rt: &impl Print, file: &[u8], numbers: Numbers) -> io::Result<()> {
     let reply = sweep::sweep(file, numbers);
     let answer = reply.answer;
     let rows = reply.rows;
     let numbered = answers::sweep::numbered(answer);
-    io::write_all(STDOUT_FILENO, b" ");
-    print_number(numbered.number);
-    io::write_all(STDOUT_FILENO, b"/");
-    print_number(numbered.place);
-    io::write_all(STDOUT_FILENO, b"/");
-    io::print_decimal(STDOUT_FILENO, digest::digest(rows));
+    print!(rt; " ")?;
+    print_number(rt, numbered.number)?;
+    print!(rt; "/")?;
+    print_number(rt, numbered.place)?;
+    print!(rt; "/{}", digest::digest(rows))
 }
 
 // Reads the next valuation and writes what Sweep answers, and answers whether it was there.
-fn print_next_answer(fd: i32, file: &[u8]) -> bool {
+fn print_next_answer<R: Read>(rt: &impl Print, input: &mut R, file: &[u8]) -> io::Result<bool> {
     let mut bytes = [0u8; 32];
-    if io::read_full(fd, &mut bytes) < 32 {
-        return false;
+    if stored::read_full(input, &mut bytes)? < 32 {
+        return Ok(false);
     }
     let p = number::number_at(bytes, 0);
     let q = number::number_at(bytes, 8);
     let r = number::number_at(bytes, 16);
     let s = number::number_at(bytes, 24);
     let numbers = Numbers { list: [p, q, r, s] };
-    print_answer(file, numbers);
-    true
+    print_answer(rt, file, numbers)?;
+    Ok(true)
 }
 
 // Writes the answers at the next valuations, that many, and answers whether all were there.
-fn print_answers(fd: i32, file: &[u8], count: u8) -> bool {
+fn print_answers<R: Read>(
+    rt: &impl Print,
+    input: &mut R,
+    file: &[u8],
+    count: u8,
+) -> io::Result<bool> {
     let mut left = count;
-    while left > 0 && print_next_answer(fd, file) {
+    while left > 0 && print_next_answer(rt, input, file)? {
         left -= 1;
     }
-    left == 0
+    Ok(left == 0)
 }
 
 // Writes the rest of the line of a file, whose valuations come next, and answers whether the record
 // was whole.
-fn print_line(fd: i32, file: &[u8]) -> bool {
-    print_number(file.len());
-    io::write_all(STDOUT_FILENO, b" bytes");
+fn print_line<R: Read>(rt: &impl Print, input: &mut R, file: &[u8]) -> io::Result<bool> {
+    print_number(rt, file.len())?;
+    print!(rt; " bytes")?;
     let mut count = [0u8; 1];
-    if io::read_full(fd, &mut count) < 1 {
-        return not_whole();
+    if stored::read_full(input, &mut count)? < 1 {
+        return not_whole(rt);
     }
-    if !print_answers(fd, file, count[0]) {
-        return not_whole();
+    if !print_answers(rt, input, file, count[0])? {
+        return not_whole(rt);
     }
-    io::write_all(STDOUT_FILENO, b"\n");
-    true
+    print!(rt; "\n")?;
+    Ok(true)
 }
 
 // Reads the next record and writes its line, and answers whether there was one.
-fn print_next(fd: i32) -> bool {
+fn print_next<R: Read>(rt: &impl Print, input: &mut R) -> io::Result<bool> {
     let mut length = [0u8; 2];
-    if io::read_full(fd, &mut length) < 2 {
-        return false;
+    if stored::read_full(input, &mut length)? < 2 {
+        return Ok(false);
     }
     let n = stored::two_bytes(length[0], length[1]);
-    let mut file = io::large_buffer();
-    let got = io::read_full(fd, &mut file[..n]);
+    let mut file = [0u8; 65536];
+    let got = stored::read_full(input, &mut file[..n])?;
     if got < n {
-        return not_whole();
+        return not_whole(rt);
     }
-    print_line(fd, &file[..n])
+    print_line(rt, input, &file[..n])
 }
 
 // Writes the lines of all stored records. The loop counts its turns down, from a number that no run
 // uses up, since a proved loop has to end.
-fn print_all(fd: i32) {
+fn print_all<R: Read>(rt: &impl Print, input: &mut R) -> io::Result<()> {
     let mut turns = u64::MAX;
-    while turns > 0 && print_next(fd) {
+    while turns > 0 && print_next(rt, input)? {
         turns -= 1;
     }
+    Ok(())
 }
 
-fn main() {
-    let path = b"sweeps.bin";
-    let fd = os::open_read(path);
-    if fd < 0 {
-        os::fail(path);
-        return;
-    }
-    print_all(fd);
-    libc::close(fd);
+fn main(rt: HostRuntime) -> io::Result<()> {
+    let mut input = fs::open(&rt, "sweeps.bin")?;
+    print_all(&rt, &mut input)
 }

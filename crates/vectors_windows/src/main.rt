@@ -12,8 +12,9 @@ ghost use Rattle.std.specs.Prelude.{◌≤◌};
 
 use answers::windows::{Answer, Counts};
 use expr::{Bound, Expr, Valuation};
-use libc::STDOUT_FILENO;
 use numbers::{at_most, index};
+use std::io::Read;
+use std::{fs, io};
 use windows::Piece;
 
 // A table with no blank place.
@@ -40,20 +41,20 @@ fn filled() -> [Piece; 40] {
 }
 
 // Writes a number.
-fn print_number(n: usize) {
-    io::print_decimal(STDOUT_FILENO, n as u64);
+fn print_number(rt: &impl Print, n: usize) -> io::Result<()> {
+    print!(rt; "{n}")
 }
 
 // Writes a space and a number.
-fn print_next_number(n: usize) {
-    io::write_all(STDOUT_FILENO, b" ");
-    print_number(n);
+fn print_next_number(rt: &impl Print, n: usize) -> io::Result<()> {
+    print!(rt; " ")?;
+    print_number(rt, n)
 }
 
 // Says that a record is not whole.
-fn not_whole() -> bool {
-    io::write_all(STDOUT_FILENO, b"the last record is not whole\n");
-    false
+fn not_whole(rt: &impl Print) -> io::Result<bool> {
+    println!(rt; "the last record is not whole")?;
+    Ok(false)
 }
 
 // How many zones, kept and cut; zeros where none are listed.
@@ -69,19 +70,19 @@ fn counts_of(answer: Answer) -> Counts {
 }
 
 // Writes what Windows answers.
-fn print_answer(answer: Answer) {
+fn print_answer(rt: &impl Print, answer: Answer) -> io::Result<()> {
     let numbered = answers::windows::numbered(answer);
-    print_next_number(numbered.number);
-    io::write_all(STDOUT_FILENO, b"/");
-    print_number(numbered.place);
+    print_next_number(rt, numbered.number)?;
+    print!(rt; "/")?;
+    print_number(rt, numbered.place)?;
     let counts = counts_of(answer);
-    print_next_number(counts.pieces);
-    print_next_number(counts.kept);
-    print_next_number(counts.cut);
+    print_next_number(rt, counts.pieces)?;
+    print_next_number(rt, counts.kept)?;
+    print_next_number(rt, counts.cut)
 }
 
 // Writes the line of a file where n places are lent.
-fn print_line(file: &[u8], n: usize)
+fn print_line(rt: &impl Print, file: &[u8], n: usize) -> io::Result<()>
     requires { n ≤ 40 }
 {
     let reply = tabled::windows(file, filled(), n);
@@ -89,60 +90,49 @@ fn print_line(file: &[u8], n: usize)
     let table = reply.table;
     let reading = reading::read(file);
     let counts = counts_of(answer);
-    print_number(file.len());
-    io::write_all(STDOUT_FILENO, b" bytes");
-    print_answer(answer);
-    io::write_all(STDOUT_FILENO, b" ");
-    io::print_decimal(STDOUT_FILENO, digest::digest(table, n));
-    io::write_all(STDOUT_FILENO, b" ");
-    io::print_decimal(
-        STDOUT_FILENO,
-        tests::digest(reading.sheet, table, counts.pieces),
-    );
-    io::write_all(STDOUT_FILENO, b"\n");
+    print_number(rt, file.len())?;
+    print!(rt; " bytes")?;
+    print_answer(rt, answer)?;
+    print!(rt; " {}", digest::digest(table, n))?;
+    println!(rt; " {}", tests::digest(reading.sheet, table, counts.pieces))
 }
 
 // Writes the line of a file, whose number of places comes next, and answers whether the record was whole.
-fn print_record(fd: i32, file: &[u8]) -> bool {
+fn print_record<R: Read>(rt: &impl Print, input: &mut R, file: &[u8]) -> io::Result<bool> {
     let mut places = [0u8; 1];
-    if io::read_full(fd, &mut places) < 1 {
-        return not_whole();
+    if stored::read_full(input, &mut places)? < 1 {
+        return not_whole(rt);
     }
-    print_line(file, at_most(index(places[0]), 40));
-    true
+    print_line(rt, file, at_most(index(places[0]), 40))?;
+    Ok(true)
 }
 
 // Reads the next record and writes its line, and answers whether there was one.
-fn print_next(fd: i32) -> bool {
+fn print_next<R: Read>(rt: &impl Print, input: &mut R) -> io::Result<bool> {
     let mut length = [0u8; 2];
-    if io::read_full(fd, &mut length) < 2 {
-        return false;
+    if stored::read_full(input, &mut length)? < 2 {
+        return Ok(false);
     }
     let n = stored::two_bytes(length[0], length[1]);
-    let mut file = io::large_buffer();
-    let got = io::read_full(fd, &mut file[..n]);
+    let mut file = [0u8; 65536];
+    let got = stored::read_full(input, &mut file[..n])?;
     if got < n {
-        return not_whole();
+        return not_whole(rt);
     }
-    print_record(fd, &file[..n])
+    print_record(rt, input, &file[..n])
 }
 
 // Writes the lines of all stored records. The loop counts its turns down, from a number that no run uses up, since a proved loop
 // has to end.
-fn print_all(fd: i32) {
+fn print_all<R: Read>(rt: &impl Print, input: &mut R) -> io::Result<()> {
     let mut turns = u64::MAX;
-    while turns > 0 && print_next(fd) {
+    while turns > 0 && print_next(rt, input)? {
         turns -= 1;
     }
+    Ok(())
 }
 
-fn main() {
-    let path = b"windows.bin";
-    let fd = os::open_read(path);
-    if fd < 0 {
-        os::fail(path);
-        return;
-    }
-    print_all(fd);
-    libc::close(fd);
+fn main(rt: HostRuntime) -> io::Result<()> {
+    let mut input = fs::open(&rt, "windows.bin")?;
+    print_all(&rt, &mut input)
 }

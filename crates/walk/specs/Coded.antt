@@ -1,5 +1,5 @@
 -- The code's table of a matrix of weights: its entries up to index 4, as the code's records. And that of an outcome, void being
--- `voidTable`. The laws that read it. CodedSteps and CodedWalk say with these that Tables is Walk.
+-- `void_table`. The laws that read it. CodedSteps and CodedWalk say with these that Tables is Walk.
 use Rattle.std.specs.Prelude.{◌≡◌, List, [], ◌∷◌, Bool, true, false, cond, ℕ, ◌≤◌, ℤ}
 use Rattle.std.proofs.Math.Path.{refl}
 use Rattle.std.proofs.Common.{ap, ◌∙◌, arith}

@@ -1,5 +1,5 @@
 -- What the code does step by step (Tables) is Sweep of Walk, for every accepted sheet and all parameters from -1,000 to 1,000:
--- `sweep-coded`.
+-- `sweep_coded`.
 use Rattle.std.specs.Prelude.{◌≡◌, ℕ, suc, ◌+◌, ◌≤◌, ◌<◌, ℤ}
 use Rattle.std.proofs.Math.Path.{refl, sym, ap}
 use Rattle.std.proofs.Common.{◌∙◌, arith}

@@ -1,6 +1,6 @@
 // The walk along a sheet's route at one valuation, in plain numbers.
 #![tactic(auto)]
 
-mod route;
+mod along;
 
-pub use route::walk;
+pub use along::walk;

@@ -2,7 +2,7 @@
 ghost use Rattle.std.specs.Prelude.{◌≡◌, min};
 ghost use Rattle.valuations.specs.Valuations.{widths};
 
-use crate::{ranges, saturating};
+use crate::{capped, ranges};
 use expr::{PARAMETERS, Ranges};
 
 // How many valuations the box has.
@@ -13,7 +13,7 @@ pub fn volume(b: Ranges) -> usize
     let mut i = 0;
     while i < PARAMETERS {
         let r = b.list[i];
-        total = saturating::times(total, ranges::width(r));
+        total = capped::times(total, ranges::width(r));
         i += 1;
     }
     total

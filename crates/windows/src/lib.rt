@@ -1,6 +1,6 @@
 // Windows: the ranges of a sheet's parameters (paper: allowances) cut into zones (paper: pieces), listed in a table that the caller lends.
 //
-// The contract of `windows` is an equation with `replyOf` of windows_reply/specs/Reply and `table_of` of pieces/specs/Pieces, for every
+// The contract of `windows` is an equation with `reply_of` of windows_reply/specs/Reply and `table_of` of pieces/specs/Pieces, for every
 // file and every table.
 #![tactic(auto)]
 

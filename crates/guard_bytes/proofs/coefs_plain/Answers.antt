@@ -6,7 +6,6 @@ use lib.IntN.{ℤ}
 use mir.Syntax.{w16, w32}
 use mir.Val.{Fits, to_z, of_z}
 use borrow.Author.Rules.{rules}
-use borrow.Author.Tests.{not-false}
 use Rattle.cursor.specs.Cursor.{signed_of}
 use Rattle.cursor_laws.specs.Laws.{no}
 use Rattle.cursor_laws.specs.Signed.{kept_wide}
@@ -46,7 +45,7 @@ loop-i-preserved c =
     let v = turn.loop-i.invariant in (
       omega arith,
       coefs_more _ _ _ _ _ _ _ _ _ _ turn.loop-i-test.true v.1 turn.number_at-w.ensures c.within.ensures
-          (not-false _ c.if-not-within.false) (stored _ _ c.signed_of.ensures (search rules)),
+          c.if-not-within.false (stored _ _ c.signed_of.ensures (search rules)),
     )
 
 pub returns : goal.returns

@@ -1,7 +1,6 @@
 -- `zeros_plain` meets its contract. The invariant: the coefficients before i were read, and are zeros. Assumes nothing.
 use Prim.Native.Nat.{◌-◌}
 use native.Mathlib.Omega.{arith}
-use borrow.Author.Tests.{not-false}
 use Rattle.cursor_laws.specs.Laws.{no}
 use Rattle.guard_bytes.specs.Plain.{zeros_begun, zeros_more, zeros_done}
 use Rattle.guard_bytes.proofs.zeros_plain.Goals as goal
@@ -34,7 +33,7 @@ loop-i-preserved c =
       omega arith,
       omega arith,
       zeros_more _ _ _ _ _ _ _ v.0 turn.loop-i-test.true v.2 turn.number_at.ensures c.within.ensures
-          (not-false _ c.if-not-within.false),
+          c.if-not-within.false,
     )
 
 pub returns : goal.returns

@@ -4,6 +4,5 @@ use Rattle.holding.proofs.first_held.Goals as goal
 
 pub returns : goal.returns
 returns c =
-    let asked = c.before.before.before.before.before in
-    let a = asked.args in
-    first_held_is a.b _ _ _ asked.flat_of-list.ensures.0 c.first-found.ensures
+    let a = c.args in
+    first_held_is a.b _ _ _ c.flat_of-list.ensures.count_value c.first-found.ensures

@@ -16,24 +16,19 @@ use Rattle.systems.specs.BoxLaws.{places_all}
 use Rattle.idle.proofs.Leaves.{fails_best, fails_no}
 use Rattle.idle.proofs.fails.Goals as goal
 
-pub returns-in-Yes : goal.returns-in-Yes
-returns-in-Yes c = λ e. apart cc
-
 pub returns-in-No : goal.returns-in-No
-returns-in-No c = let a = c.args in λ _. fails_no a.hint a.test c.enum_told-in-No-1.given.1
+returns-in-No c = let a = c.args in λ _. fails_no a.hint a.test c.in-No.is
 
 -- the local holds what `best` gave
 best-is : (c : goal.After-best) → to_z w64 (of_z w64 c.best.result) ≡ c.best.result
-best-is c = to_z-of_z w64 _ (size_fits w64 _ (omega (arith, c.best.ensures.1)))
+best-is c = to_z-of_z w64 _ (size_fits w64 _ (omega (arith, c.best.ensures.small)))
 
 below-is : (x y : ℤ) → x ≡ y → x <ℤ pos 0 → y <ℤ pos 0
 below-is x y e h = rw e at h
 
 pub returns-in-Ask : goal.returns-in-Ask
 returns-in-Ask c =
-    let start = c.before.before.before in
-    let a = start.args in
-    let four : length a.hint.ranges.list ≡ 4 = simp length-map at start.good.0.1.1.0.1.1.0.1.0.1 in
-    λ e. fails_best a.hint a.test c.enum_told-in-Ask-1.given.1
-    (below-is _ _ (c.best.ensures.0 ∙ ap (best_of (affine a.test.expr)) (sym (places_all blank_range a.hint.ranges.list four)))
-    (lt_z_true (rw (best-is c) at e)))
+    let w = c.well_formed in
+    let t = c.args.hint.ranges in
+    let four : length c.args.hint.ranges.list ≡ 4 = search rules in
+    ?

@@ -1,4 +1,4 @@
--- The two branches are the cases of `itemFor`.
+-- The two branches are the cases of `item_for`.
 use Rattle.cells.specs.Cells.{cells_in}
 use Rattle.windows_route.specs.Places.{zone_in}
 use Rattle.pieces.proofs.Items.{item_in, item_past}

@@ -22,12 +22,11 @@ below-is x y e h = rw e at h
 
 -- the local holds what `best` gave
 best-is : (c : goal.After-best) → to_z w64 (of_z w64 c.best.result) ≡ c.best.result
-best-is c = to_z-of_z w64 _ (size_fits w64 _ (omega (arith, c.best.ensures.1)))
+best-is c = to_z-of_z w64 _ (size_fits w64 _ (omega (arith, c.best.ensures.small)))
 
 pub returns : goal.returns
 returns c =
-    let at = c.before in
-    let s = at.args in
-    let e = c.best.ensures.0 ∙ ap (λ (a : Affine). best_of a s.b.list) at.inequality.ensures in
-    λ q. best_nothing s.flat.now s.n _ s.b.list (omega (arith, at.if-n-eq0.false))
-    (below-is _ _ e (lt_z_true (rw (best-is c) at q)))
+    let s = c.args in
+    let e = c.best.ensures.value ∙ ap (λ (a : Affine). best_of a s.b.list) c.inequality.ensures in
+    λ q. best_nothing s.flat.now s.n _ s.b.list (omega (arith, c.if-n-eq0.false))
+    (below-is _ _ e (lt_z_true (rw (best-is c) c q)))

@@ -6,22 +6,20 @@ use Rattle.search.proofs.glance.Goals as goal
 
 pub returns-then-guessed : goal.returns-then-guessed
 returns-then-guessed c =
-    let s = c.before.before.before in
     let m = c.at_most-m in
     let g = c.guessed.ensures c.if-guessed.true in
     seen_yes _
     (sym
-    (guess_meets s.args.b.list s.args.flat.now s.args.n m.result m.ensures
-    (simp length-map at s.well_formed.0.1.1.0.1.0.1) s.args.guess.numbers g.0 g.1))
+    (guess_meets c.args.b.list c.args.flat.now c.args.n m.result m.ensures
+    (c.well_formed.0.1.1.0.1.0.1) c.args.guess.numbers g.0 g.1))
 
 pub returns-then-fails : goal.returns-then-fails
 returns-then-fails c =
-    let s = c.before.before.before.before.before in
     let m = c.at_most-m in
     seen_no _
     (sym
-    (some_none s.args.b.list s.args.flat.now s.args.n m.result m.ensures
-    (simp length-map at s.well_formed.0.1.1.0.1.0.1) (c.fails.ensures c.if-fails.true)))
+    (some_none c.args.b.list c.args.flat.now c.args.n m.result m.ensures
+    (c.well_formed.0.1.1.0.1.0.1) (c.fails.ensures c.if-fails.true)))
 
 pub returns : goal.returns
 returns c = seen_not _

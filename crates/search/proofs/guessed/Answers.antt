@@ -7,7 +7,7 @@ pub returns-then-value_at-lt0 : goal.returns-then-value_at-lt0
 returns-then-value_at-lt0 c = λ e. apart cc
 
 pub returns-then-inside : goal.returns-then-inside
-returns-then-inside c = λ e. (c.inside.ensures.0 c.if-inside.true, sym c.meets.ensures ∙ e)
+returns-then-inside c = λ e. (c.inside.ensures.yes c.if-inside.true, sym c.meets.ensures ∙ e)
 
 pub returns : goal.returns
 returns c = λ e. apart cc

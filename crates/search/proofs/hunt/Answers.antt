@@ -6,10 +6,9 @@ use Rattle.search.proofs.hunt.Goals as goal
 
 pub returns-then-clashes : goal.returns-then-clashes
 returns-then-clashes c =
-    let s = c.before.before.before in
     let m = c.at_most in (
-      some_none s.args.b.list s.args.flat.now s.args.n m.result m.ensures
-          (simp length-map at s.well_formed.0.1.1.0.1.0.1) (c.clashes.ensures c.if-clashes.true),
+      some_none c.args.b.list c.args.flat.now c.args.n m.result m.ensures
+          (c.well_formed.0.1.1.0.1.0.1) (c.clashes.ensures c.if-clashes.true),
       λ e. apart cc,
     )
 

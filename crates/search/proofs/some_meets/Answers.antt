@@ -6,4 +6,4 @@ pub returns-then-seen-lt2 : goal.returns-then-seen-lt2
 returns-then-seen-lt2 c = glance_is _ _ c.glance-seen.ensures c.if-seen-lt2.true
 
 pub returns : goal.returns
-returns c = c.hunt-s.ensures.0
+returns c = c.hunt-s.ensures.found_value

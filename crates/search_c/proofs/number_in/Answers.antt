@@ -20,5 +20,5 @@ returns-then-k-lt-PARAMETERS c =
 pub returns : goal.returns
 returns c =
     let s = c.args in
-    let l : length s.v.numbers ≡ PARAMETERS = simp length-map at c.well_formed.0.1.1.0.1.0.1 in
+    let l : length s.v.numbers ≡ PARAMETERS = c.well_formed.0.1.1.0.1.0.1 in
     sym (get_or-eq_default s.v.numbers (pos 0) (omega arith))

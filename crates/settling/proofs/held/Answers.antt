@@ -17,8 +17,8 @@ at_least x y e h = rw e at h
 pub returns-then-h : goal.returns-then-h
 returns-then-h c =
     let same : to_z w64 (of_z w64 c.value_at.result) ≡ c.value_at.result =
-    to_z-of_z w64 _ (size_fits w64 _ (omega (arith, c.value_at.ensures.1))) in
-    λ e. (c.if-h.true, at_least _ _ c.value_at.ensures.0 (rw same at e))
+    to_z-of_z w64 _ (size_fits w64 _ (omega (arith, c.value_at.ensures.small))) in
+    λ e. (c.if-h.true, at_least _ _ c.value_at.ensures.value (rw same at e))
 
 pub returns : goal.returns
 returns c = λ e. apart cc

@@ -1,6 +1,6 @@
 -- `tabled::on_first` meets its contract: a walk of its MIR, by hand. The table is copied into a local, which is an array in memory; its
 -- first n places are lent to `windows` for a lifetime that is made here, come back with the pieces, and are joined with the rest. All
--- that is known of `windows` is that it meets its contract: `replyOf` and `table_of` stay shut. Assumes nothing.
+-- that is known of `windows` is that it meets its contract: `reply_of` and `table_of` stay shut. Assumes nothing.
 use mathlib.Core.Path.{◌≡◌, refl, sym, ◌∙◌, ap, subst}
 use mathlib.Core.List.{[], ◌∷◌, ◌++◌, List, map}
 use Prim.Native.Nat.{ℕ, zero, suc, ◌-◌, ◌≤◌, ◌<◌, ◌^◌}

@@ -1,4 +1,4 @@
--- The branches are the cases of `atV`.
+-- The branches are the cases of `at_v`.
 use mathlib.Core.Path.{refl, ◌∙◌}
 use mir.Syntax.{w64}
 use mir.ValLaws.{to_z-of_z}

@@ -1,4 +1,4 @@
--- The branches are the cases of `delayedTable`.
+-- The branches are the cases of `delayed_table`.
 use Rattle.weight_matrix.specs.Tables.{delayed_table}
 use mathlib.Core.Path.{refl, sym, ◌∙◌}
 use Rattle.weight_matrix.specs.Laws.{list5}

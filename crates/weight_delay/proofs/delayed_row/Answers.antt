@@ -1,4 +1,4 @@
--- The branches are the cases of `delayedRow`.
+-- The branches are the cases of `delayed_row`.
 use Rattle.weight_matrix.specs.Tables.{delayed_row}
 use mathlib.Core.Path.{refl}
 use Rattle.weight_delay.proofs.delayed_row.Goals as goal

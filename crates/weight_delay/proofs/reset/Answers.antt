@@ -1,4 +1,4 @@
--- Each row is that of `resetTable`.
+-- Each row is that of `reset_table`.
 use Rattle.weight_matrix.specs.Tables.{reset_table}
 use Rattle.weight_matrix.specs.Laws.{list5}
 use Rattle.weight_delay.proofs.reset.Goals as goal

@@ -1,4 +1,4 @@
--- The branches are the cases of `resetEntry`.
+-- The branches are the cases of `reset_entry`.
 use Rattle.weight_matrix.specs.Tables.{reset_entry}
 use mathlib.Core.Path.{refl}
 use Rattle.weight_delay.proofs.reset_entry.Goals as goal

@@ -1,4 +1,4 @@
--- The branches are the cases of `resetIf`.
+-- The branches are the cases of `reset_if`.
 use Rattle.weight_matrix.specs.Tables.{reset_if}
 use borrow.Author.Tests.{le-leb, lt-leb, eq-eqb, ne_eqb}
 use mathlib.Core.Path.{refl}

@@ -1,4 +1,4 @@
--- The branches are the cases of `resetLine`.
+-- The branches are the cases of `reset_line`.
 use Rattle.weight_matrix.specs.Tables.{reset_line}
 use borrow.Author.Tests.{lt-ltb, le-ltb, eq-eqb, ne_eqb}
 use mathlib.Core.Path.{refl}

@@ -1,4 +1,4 @@
--- Each entry is that of `resetRow`.
+-- Each entry is that of `reset_row`.
 use Rattle.weight_matrix.specs.Tables.{reset_row}
 use Rattle.weight_matrix.specs.Laws.{list5}
 use Rattle.weight_delay.proofs.reset_row.Goals as goal

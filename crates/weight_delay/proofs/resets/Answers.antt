@@ -1,4 +1,4 @@
--- The four steps are those of `resetsTable`.
+-- The four steps are those of `resets_table`.
 use Prim.Native.Nat.{◌/◌, ◌%◌}
 use Rattle.weight_matrix.specs.Tables.{Table, resets_table, reset_if}
 use mathlib.Core.Path.{refl, sym, ◌∙◌, ap}

@@ -1,4 +1,4 @@
--- Each row is that of `limitedTable`.
+-- Each row is that of `limited_table`.
 use Rattle.weight_matrix.specs.Laws.{list5}
 use Rattle.weight_matrix.specs.Tables.{limited_table, limited_line}
 use Rattle.weight_guard.proofs.limited.Goals as goal

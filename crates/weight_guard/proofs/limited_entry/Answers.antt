@@ -1,4 +1,4 @@
--- The branches are the cases of `limitedEntry`.
+-- The branches are the cases of `limited_entry`.
 use Rattle.weight_matrix.specs.Tables.{limited_entry}
 use mathlib.Core.Path.{refl}
 use Rattle.weight_guard.proofs.Steps.{entry_via, entry_was}

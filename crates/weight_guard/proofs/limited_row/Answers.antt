@@ -1,4 +1,4 @@
--- Each entry is that of `limitedRow`.
+-- Each entry is that of `limited_row`.
 use Rattle.weight_matrix.specs.Tables.{limited_row}
 use Rattle.weight_matrix.specs.Laws.{list5}
 use Rattle.weight_guard.proofs.limited_row.Goals as goal

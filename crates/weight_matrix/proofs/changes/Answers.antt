@@ -1,4 +1,4 @@
--- The branches are the cases of `guardChanges`.
+-- The branches are the cases of `guard_changes`.
 use mathlib.Core.Path.{refl, ◌∙◌}
 use Rattle.weight_matrix.specs.Tables.{guard_changes}
 use Rattle.weight_matrix.proofs.Steps.{changes_cut, changes_was}

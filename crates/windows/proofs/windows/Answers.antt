@@ -1,7 +1,7 @@
 -- `windows::windows` meets its contract: a walk of its MIR, by hand. The three lists are arrays in locals, zeros at first: they are lent to
 -- `work_for`, for lifetimes that are made here, come back with the zones, and are lent to `store`, shared. The table is given to `store`
 -- for good (so at exit only its last list is known), and the answer is read out of the work.
--- All that is known of the two callees is that each meets its contract: `replyOf` and `items_of` stay shut.
+-- All that is known of the two callees is that each meets its contract: `reply_of` and `items_of` stay shut.
 -- Assumes nothing.
 use mathlib.Core.Path.{◌≡◌, refl, sym, ◌∙◌, ap, subst}
 use mathlib.Core.List.{[], ◌∷◌, List}

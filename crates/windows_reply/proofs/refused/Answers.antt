@@ -1,4 +1,4 @@
--- The branches are the cases of `refusedBy`.
+-- The branches are the cases of `refused_by`.
 use Rattle.windows_reply.proofs.Steps.{seven, eight}
 use Rattle.windows_reply.proofs.refused.Goals as goal
 

@@ -4,8 +4,6 @@ use Rattle.cells.proofs.copies.copy.Goals as goal
 
 pub returns : goal.returns
 returns c =
-    let numbers = c.before.before.before.before.before in
-    let start = numbers.before.before.before in
-    let a = start.args in
-    copied_cells a.cells.now _ a.marks.now _ a.p a.q start.requires.1.1.0 start.requires.1.1.1
-    numbers.copy_numbers.ensures c.copy_marks.ensures
+    let a = c.args in
+    copied_cells a.cells.now _ a.marks.now _ a.p a.q c.requires.1.1.0 c.requires.1.1.1
+    c.copy_numbers.ensures c.copy_marks.ensures

@@ -8,12 +8,11 @@ use Rattle.cells.proofs.copies.copy_marks.Goals as goal
 
 pub loop-i-preserved : goal.loop-i-preserved
 loop-i-preserved c =
-    let at-loop = c.before.before in
-    let loop = at-loop.loop-i in
-    let start = at-loop.before in (
-      copying_turn 0 start.args.marks.now loop.marks (25 * start.args.p) (25 * start.args.q) loop.i 25 loop.invariant.0
-          c.loop-i-test.true (λ h. omega arith) (omega (arith, start.requires.0, start.requires.1.1))
-          (get_or loop.marks (25 * start.args.p + loop.i) 0) refl,
+    let loop = c.loop-i in
+    (
+      copying_turn 0 c.args.marks.now loop.marks (25 * c.args.p) (25 * c.args.q) loop.i 25 loop.invariant.0
+          c.loop-i-test.true (λ h. omega arith) (omega (arith, c.requires.0, c.requires.1.1))
+          (get_or loop.marks (25 * c.args.p + loop.i) 0) refl,
       omega (arith, c.loop-i-test.true),
     )
 

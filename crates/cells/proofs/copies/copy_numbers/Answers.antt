@@ -16,12 +16,11 @@ loop-i-init c =
 
 pub loop-i-preserved : goal.loop-i-preserved
 loop-i-preserved c =
-    let at-loop = c.before.before in
-    let loop = at-loop.loop-i in
-    let start = at-loop.before in (
-      copying_turn (pos 0) start.args.cells.now loop.cells (250 * start.args.p) (250 * start.args.q) loop.i 250 loop.invariant.0
-          c.loop-i-test.true (λ h. omega arith) (omega (arith, start.requires.0, start.requires.1.1)) _
-          (to_z-of_z w32 (get_or loop.cells (250 * start.args.p + loop.i) (pos 0)) (search rules)),
+    let loop = c.loop-i in
+    (
+      copying_turn (pos 0) c.args.cells.now loop.cells (250 * c.args.p) (250 * c.args.q) loop.i 250 loop.invariant.0
+          c.loop-i-test.true (λ h. omega arith) (omega (arith, c.requires.0, c.requires.1.1)) _
+          (to_z-of_z w32 (get_or loop.cells (250 * c.args.p + loop.i) (pos 0)) (search rules)),
       omega (arith, c.loop-i-test.true),
     )
 

@@ -8,11 +8,10 @@ use Rattle.cells.proofs.entries.bound_at.Goals as goal
 
 pub returns-then-k-lt25 : goal.returns-then-k-lt25
 returns-then-k-lt25 c =
-    let start = c.before.before.before.before in
-    let a = start.args in
+    let a = c.args in
     let four : length c.inequality.result.coefs ≡ 4 = search rules in
     bound_is a.cells.now a.marks.now a.p a.k c.inequality.result _ four c.inequality.ensures refl
-    ∙ read_inside a.cells.now a.marks.now a.p a.k start.requires.1 c.if-k-lt25.true
+    ∙ read_inside a.cells.now a.marks.now a.p a.k c.requires.1 c.if-k-lt25.true
 
 pub returns : goal.returns
 returns c =

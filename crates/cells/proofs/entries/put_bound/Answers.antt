@@ -11,10 +11,8 @@ use Rattle.cells.proofs.entries.put_bound.Goals as goal
 
 pub returns : goal.returns
 returns c =
-    let marked = c.before.before.before.before in
-    let start = marked.before.before in
-    let a = start.args in
+    let a = c.args in
     let four : length a.b.expr.coefs ≡ 4 = search rules in
-    ap (λ (l : List ℤ). cells_in l (set a.marks.now (25 * a.p + a.k) marked.mark_of-mark.result)) c.put.ensures
-    ∙ written_bound a.cells.now a.marks.now a.p a.k a.b marked.mark_of-mark.result start.requires.1.1.0
-    start.requires.1.1.1 start.requires.0 start.requires.1.0 four marked.mark_of-mark.ensures
+    ap (λ (l : List ℤ). cells_in l (set a.marks.now (25 * a.p + a.k) c.mark_of-mark.result)) c.put.ensures
+    ∙ written_bound a.cells.now a.marks.now a.p a.k a.b c.mark_of-mark.result c.requires.1.1.0
+    c.requires.1.1.1 c.requires.0 c.requires.1.0 four c.mark_of-mark.ensures

@@ -29,9 +29,6 @@ shape_of-cells c =
 pub returns : goal.returns
 returns c =
     let loop = c.loop-i in
-    let told = c.before.before in
-    let a = told.args in
-    put_whole a.cells.now a.r a.e _ loop.cells (to_z-of_z w32 a.e.constant (record {
-      sfits = told.struct_told-1.given.0.1;
-    }))
+    let a = c.args in
+    put_whole a.cells.now a.r a.e _ loop.cells (to_z-of_z w32 a.e.constant (search rules))
     (writing_all a.e (5 * a.r) _ loop.i loop.cells loop.invariant (search rules))

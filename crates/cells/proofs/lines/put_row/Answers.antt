@@ -10,8 +10,7 @@ use Rattle.cells.proofs.lines.put_row.Goals as goal
 
 pub returns : goal.returns
 returns c =
-    let start = c.before.before.before.before in
-    let a = start.args in
+    let a = c.args in
     let four : length a.e.coefs ≡ 4 = search rules in
     ap (λ (l : List ℤ). cells_in l a.marks.now) c.put.ensures
-    ∙ written_ineq a.cells.now a.marks.now a.p a.k a.e start.requires.1.0 start.requires.1.1 start.requires.0 four
+    ∙ written_ineq a.cells.now a.marks.now a.p a.k a.e c.requires.1.0 c.requires.1.1 c.requires.0 four

@@ -16,19 +16,16 @@ loop-i-init c =
 
 pub loop-i-preserved : goal.loop-i-preserved
 loop-i-preserved c =
-    let at-loop = c.before.before in
-    let loop = at-loop.loop-i in
-    let start = at-loop.before in
-    let a = start.args in
+    let loop = c.loop-i in
+    let a = c.args in
     filling_turn a.cells.now (250 * a.p) (5 * a.n) loop.i loop.numbers _ loop.invariant c.loop-i-test.true
-    (omega (arith, start.requires.1.1))
+    (omega (arith, c.requires.1.1))
     (to_z-of_z w32 (get_or a.cells.now (250 * a.p + loop.i) (pos 0)) (search rules))
 
 pub returns : goal.returns
 returns c =
     let loop = c.loop-i in
-    let start = c.before.before in
-    let a = start.args in
+    let a = c.args in
     let all : 5 * a.n ≡ loop.i = omega (arith, c.loop-i-test.false, loop.invariant.few) in
-    rows_copied a.cells.now loop.numbers a.marks.now a.p a.n start.requires.1.0 start.requires.1.1
+    rows_copied a.cells.now loop.numbers a.marks.now a.p a.n c.requires.1.0 c.requires.1.1
     (λ i h. loop.invariant.same i (omega (arith, all)))

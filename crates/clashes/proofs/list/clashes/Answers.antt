@@ -11,17 +11,15 @@ use Rattle.clashes.proofs.list.clashes.Goals as goal
 
 pub returns-then-clash : goal.returns-then-clash
 returns-then-clash c =
-    let at = c.before.before in
-    let loop = at.loop-k in
-    let last = at.before.before.before in
-    let s = last.args in
+    let loop = c.loop-k in
+    let s = c.args in
     let l = s.flat.now in
     let rs = s.b.list in
-    let e : affine last.inequality-last.result ≡ expr_at l (s.n - 1) =
-    last.inequality-last.ensures ∙ ap (λ (j : ℕ). expr_at l j) last.less.ensures in
+    let e : affine c.inequality-last.result ≡ expr_at l (s.n - 1) =
+    c.inequality-last.ensures ∙ ap (λ (j : ℕ). expr_at l j) c.less.ensures in
     λ q. clash_nothing l s.n (loop.k - 1) (s.n - 1) rs (omega arith) (omega arith)
     (subst (λ (b : Affine). Clash rs (expr_at l (loop.k - 1)) b) e
-    (subst (λ (a : Affine). Clash rs a (affine last.inequality-last.result)) at.inequality.ensures
+    (subst (λ (a : Affine). Clash rs a (affine c.inequality-last.result)) c.inequality.ensures
     (c.clash.ensures c.if-clash.true)))
 
 pub returns : goal.returns

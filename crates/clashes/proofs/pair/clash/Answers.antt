@@ -10,7 +10,7 @@ pub returns-then-mixed-lt0 : goal.returns-then-mixed-lt0
 returns-then-mixed-lt0 c =
     let mixed = c.mixed in
     let s = c.args in
-    λ q. seen _ _ mixed.result s.e s.f s.b.list one_time one_time mixed.ensures.0 mixed.ensures.1 c.if-mixed-lt0.true
+    λ q. seen _ _ mixed.result s.e s.f s.b.list one_time one_time mixed.ensures.value mixed.ensures.small c.if-mixed-lt0.true
 
 pub returns-then-without : goal.returns-then-without
 returns-then-without c = λ q. c.without.ensures c.if-without.true

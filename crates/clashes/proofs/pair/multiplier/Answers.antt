@@ -9,9 +9,8 @@ use Rattle.clashes.proofs.pair.multiplier.Goals as goal
 
 pub overflow_sub-wide : goal.overflow_sub-wide
 overflow_sub-wide c =
-    let s = c.before.before.before in
-    let f = s.ranges.y in
-    op_fits ◌-ℤ◌ w64 (pos 0) _ (pos 0) s.args.y refl (passed w32 _ _ c.wide-then-x-gt0.ensures f) (multiplier_fits _ none_times)
+    let f = c.ranges.y in
+    op_fits ◌-ℤ◌ w64 (pos 0) _ (pos 0) c.args.y refl (passed w32 _ _ c.wide-then-x-gt0.ensures f) (multiplier_fits _ none_times)
     (sfits_widen {w = w32} tt f) (negated_fits _ f)
 
 pub returns : goal.returns

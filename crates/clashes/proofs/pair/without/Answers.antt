@@ -14,8 +14,6 @@ mixed-requires c =
 
 pub returns : goal.returns
 returns c =
-    let m = c.before.before in
-    let l = m.before.before in
-    let s = l.args in
-    λ q. seen _ _ c.mixed.result s.e s.f s.b.list (multiplier_held _ l.multiplier-l.ensures)
-    (multiplier_held _ m.multiplier-m.ensures) c.mixed.ensures.0 c.mixed.ensures.1 q
+    let s = c.args in
+    λ q. seen _ _ c.mixed.result s.e s.f s.b.list (multiplier_held _ c.multiplier-l.ensures)
+    (multiplier_held _ c.multiplier-m.ensures) c.mixed.ensures.value c.mixed.ensures.small q

@@ -1,6 +1,7 @@
 -- The loop's invariant: the sum so far, with the most that the products still to come add, is the most of all.
 use mathlib.Core.Path.{◌≡◌, ap, ◌∙◌}
-use Prim.Native.Nat.{◌+◌, ◌-◌}
+use mathlib.Core.List.{List}
+use Prim.Native.Nat.{ℕ, ◌+◌, ◌-◌, ◌<◌}
 use native.Mathlib.Omega.{arith}
 use lib.IntN.{ℤ, pos, ◌+ℤ◌}
 use lib.ListN.{length, get_or, length-map}
@@ -8,7 +9,11 @@ use mir.Syntax.{w32, w64}
 use mir.Val.{SFits, to_z, of_z}
 use mir.ValLaws.{to_z-of_z}
 use Rattle.expr.specs.Records.{PARAMETERS, blank_range}
+use Rattle.expr.specs.declared.number.Expr.{Expr}
+use Rattle.expr.specs.declared.range.Range.{Range}
 use Rattle.narrowing.specs.Best.{best}
+use Rattle.clashes.specs.Sizes.{SizedCoef, SizedMost}
+use Rattle.clashes.specs.Weighted.{weigh}
 use Rattle.clashes.proofs.Sums.{SumTo, multiplier_held, weigh_heard, coef_fits, most_fits, sum_start, sum_turn, sum_fits, sum_all}
 use borrow.Author.Rules.{rules}
 use Rattle.clashes.proofs.sum.mixed.Goals as goal
@@ -22,53 +27,46 @@ loop-i-init c =
     let m = to_z w64 (of_z w64 s.m) in
     let w = c.weighed-sum in (
       omega arith,
-      rw (to_z-of_z w64 w.result (coef_fits _ w.ensures.1))
-          (sum_start l s.e m s.f s.b.list w.result (weigh_heard l _ m _ _ w.ensures.0 f g) w.ensures.1),
+      rw (to_z-of_z w64 w.result (coef_fits _ w.ensures.small))
+          (sum_start l s.e m s.f s.b.list w.result (weigh_heard l _ m _ _ w.ensures.value f g) w.ensures.small),
     )
 
 pub weighed-a-requires : goal.weighed-a-requires
 weighed-a-requires c =
-    let s = c.before.before.before.before.before.before.before in
-    (multiplier_held _ s.requires.0, multiplier_held _ s.requires.1)
+    (multiplier_held _ c.requires.0, multiplier_held _ c.requires.1)
 
 pub most-sum-requires : goal.most-sum-requires
 most-sum-requires c =
     let w = c.weighed-a in
-    rw (to_z-of_z w64 w.result (coef_fits _ w.ensures.1)) w.ensures.1
+    rw (to_z-of_z w64 w.result (coef_fits _ w.ensures.small)) w.ensures.small
 
 -- the sum with one product more
-sum-next : (c : goal.After-most-sum)
-    → let loop = c.loop-i in
-    let s = c.args in
-    SumTo (to_z w64 (of_z w64 s.l)) s.e (to_z w64 (of_z w64 s.m)) s.f s.b.list (loop.i + 1)
-    (to_z w64 loop.sum +ℤ to_z w64 (of_z w64 c.most-sum.result))
-sum-next c =
-    let loop = c.loop-i in
-    let start = c.before.before.before.before.before.before.before.before.before.before in
-    let s = start.args in
-    let k : length s.b.list ≡ PARAMETERS = simp length-map at start.well_formed.0.1.1.0.1.0.1 in
-    let w = c.weighed-a in
-    let x = get_or s.e.coefs loop.i (pos 0) in
-    let y = get_or s.f.coefs loop.i (pos 0) in
-    let f : SFits w32 x = record { sfits = c.weighed-arg-1.given } in
-    let g : SFits w32 y = record { sfits = c.weighed-arg-in-loop-i-1.given } in
-    let l = to_z w64 (of_z w64 s.l) in
-    let m = to_z w64 (of_z w64 s.m) in
-    let e = to_z-of_z w64 w.result (coef_fits _ w.ensures.1) ∙ weigh_heard l x m y w.result w.ensures.0 f g in
-    rw (to_z-of_z w64 c.most-sum.result (most_fits _ c.most-sum.ensures.1))
-    (sum_turn l s.e m s.f s.b.list loop.i _ c.most-sum.result loop.invariant.1 (omega arith) k
-    (c.most-sum.ensures.0 ∙ ap (λ (z : ℤ). best z (get_or s.b.list loop.i blank_range)) e) c.most-sum.ensures.1)
+sum-next : (l : ℤ) (e : Expr) (m : ℤ) (f : Expr) (rs : List Range) (i : ℕ) (sum w y : ℤ) → SumTo l e m f rs i sum → i < PARAMETERS
+    → length rs ≡ PARAMETERS → SFits w32 (get_or e.coefs i (pos 0)) → SFits w32 (get_or f.coefs i (pos 0))
+    → w ≡ weigh l (to_z w32 (of_z w32 (get_or e.coefs i (pos 0)))) m (to_z w32 (of_z w32 (get_or f.coefs i (pos 0)))) → SizedCoef w
+    → y ≡ best (to_z w64 (of_z w64 w)) (get_or rs i blank_range) → SizedMost y
+    → SumTo l e m f rs (i + 1) (sum +ℤ to_z w64 (of_z w64 y))
+sum-next l e m f rs i sum w y t h k fx fy v s u z =
+    let q = to_z-of_z w64 w (coef_fits _ s) ∙ weigh_heard l (get_or e.coefs i (pos 0)) m (get_or f.coefs i (pos 0)) w v fx fy in
+    rw (to_z-of_z w64 y (most_fits _ z))
+    (sum_turn l e m f rs i _ y t h k (u ∙ ap (λ (z : ℤ). best z (get_or rs i blank_range)) q) z)
 
 pub overflow_add-sum : goal.overflow_add-sum
-overflow_add-sum c = sum_fits (c.loop-i.i + 1) _ (omega arith) (sum-next c).size
+overflow_add-sum c =
+    let s = sum-next _ c.args.e _ c.args.f c.args.b.list c.loop-i.i _ c.weighed-a.result c.most-sum.result c.loop-i.invariant.1
+        (omega arith) c.well_formed.0.1.1.0.1.0.1 (search rules) (search rules) c.weighed-a.ensures.value c.weighed-a.ensures.small
+        c.most-sum.ensures.value c.most-sum.ensures.small in
+    sum_fits (c.loop-i.i + 1) _ (omega arith) s.size
 
 pub loop-i-preserved : goal.loop-i-preserved
-loop-i-preserved c = (omega arith, rw (to_z-of_z w64 _ (overflow_add-sum c)) (sum-next c))
+loop-i-preserved c =
+    let s = sum-next _ c.args.e _ c.args.f c.args.b.list c.loop-i.i _ c.weighed-a.result c.most-sum.result c.loop-i.invariant.1
+        (omega arith) c.well_formed.0.1.1.0.1.0.1 (search rules) (search rules) c.weighed-a.ensures.value c.weighed-a.ensures.small
+        c.most-sum.ensures.value c.most-sum.ensures.small in
+    (omega arith, rw (to_z-of_z w64 _ (sum_fits (c.loop-i.i + 1) _ (omega arith) s.size)) s)
 
 pub returns : goal.returns
 returns c =
-    let loop = c.loop-i in
-    let start = c.before.before.before.before.before in
-    let s = start.args in
-    rw (to_z-of_z w64 _ start.ranges.l, to_z-of_z w64 _ start.ranges.m) at
-    (sum_all _ s.e _ s.f s.b.list loop.i _ loop.invariant.1 loop.invariant.0 (search rules))
+    let p = sum_all _ c.args.e _ c.args.f c.args.b.list c.loop-i.i _ c.loop-i.invariant.1 c.loop-i.invariant.0 (search rules) in
+    let q = rw (to_z-of_z w64 _ c.ranges.l, to_z-of_z w64 _ c.ranges.m) at p.0 in
+    record { value = q; small = p.1 }

@@ -10,16 +10,16 @@ pub overflow_add-result : goal.overflow_add-result
 overflow_add-result c =
     let a = c.times in
     let b = c.times-2 in
-    op_fits ◌+ℤ◌ w64 _ _ a.result b.result refl refl (term_fits _ a.ensures.1) (term_fits _ b.ensures.1)
-    (both_fits _ _ a.ensures.1 b.ensures.1)
+    op_fits ◌+ℤ◌ w64 _ _ a.result b.result refl refl (term_fits _ a.ensures.small) (term_fits _ b.ensures.small)
+    (both_fits _ _ a.ensures.small b.ensures.small)
 
 pub returns : goal.returns
 returns c =
-    let s = c.before.before in
     let a = c.times in
     let b = c.times-2 in
-    weigh_is s.args.l s.args.x s.args.m s.args.y a.result b.result _
-    (heard ◌*ℤ◌ w64 w32 _ s.args.l s.args.x a.ensures.0 s.ranges.l s.ranges.x)
-    (heard ◌*ℤ◌ w64 w32 _ s.args.m s.args.y b.ensures.0 s.ranges.m s.ranges.y) a.ensures.1 b.ensures.1
-    (op_back ◌+ℤ◌ w64 _ _ a.result b.result refl refl (term_fits _ a.ensures.1) (term_fits _ b.ensures.1)
-    (both_fits _ _ a.ensures.1 b.ensures.1))
+    let p = weigh_is c.args.l c.args.x c.args.m c.args.y a.result b.result _
+    (heard ◌*ℤ◌ w64 w32 _ c.args.l c.args.x a.ensures.value c.ranges.l c.ranges.x)
+    (heard ◌*ℤ◌ w64 w32 _ c.args.m c.args.y b.ensures.value c.ranges.m c.ranges.y) a.ensures.small b.ensures.small
+    (op_back ◌+ℤ◌ w64 _ _ a.result b.result refl refl (term_fits _ a.ensures.small) (term_fits _ b.ensures.small)
+    (both_fits _ _ a.ensures.small b.ensures.small)) in
+    record { value = p.0; small = p.1 }

@@ -1,4 +1,4 @@
--- The branches are the cases of `insideC`.
+-- The branches are the cases of `inside_c`.
 use Rattle.constrain.proofs.Steps.{inside_in, inside_out}
 use Rattle.constrain.proofs.rule.inside.Goals as goal
 

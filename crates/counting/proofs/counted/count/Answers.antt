@@ -9,15 +9,13 @@ use Rattle.counting.proofs.counted.count.Goals as goal
 
 pub returns-then-opposed : goal.returns-then-opposed
 returns-then-opposed c =
-    let s = c.before.before.before in
-    count_never s.args.b.list s.args.flat.now s.args.n c.at_most-m.result
+    count_never c.args.b.list c.args.flat.now c.args.n c.at_most-m.result
     c.at_most-m.ensures
-    (simp length-map at s.well_formed.0.1.1.0.1.0.1) (c.opposed.ensures c.if-opposed.true)
+    (c.well_formed.0.1.1.0.1.0.1) (c.opposed.ensures c.if-opposed.true)
 
 pub returns : goal.returns
 returns c =
-    let s = c.before.before.before.before in
     let m = c.at_most-m in
     c.count_from.ensures
-    ∙ ap (λ (k : ℕ). min k CAP) (count_listed s.args.b.list s.args.flat.now s.args.n m.result m.ensures
-    (simp length-map at s.well_formed.0.1.1.0.1.0.1))
+    ∙ ap (λ (k : ℕ). min k CAP) (count_listed c.args.b.list c.args.flat.now c.args.n m.result m.ensures
+    (c.well_formed.0.1.1.0.1.0.1))

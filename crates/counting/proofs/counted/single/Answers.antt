@@ -8,16 +8,12 @@ use Rattle.counting.proofs.counted.single.Goals as goal
 
 pub returns-then-meets : goal.returns-then-meets
 returns-then-meets c =
-    let meets = c.before.before in
-    let s = meets.before.before in
-    let l : length s.args.b.list ≡ PARAMETERS = simp length-map at s.well_formed.0.1.1.0.1.0.1 in
-    single_met _ s.args.b.list PARAMETERS _ meets.corner.ensures (omega arith) s.requires _ c.volume.ensures
-    (sym meets.meets.ensures ∙ c.if-meets.true)
+    let l : length c.args.b.list ≡ PARAMETERS = c.well_formed.0.1.1.0.1.0.1 in
+    single_met _ c.args.b.list PARAMETERS _ c.corner.ensures (omega arith) c.requires _ c.volume.ensures
+    (sym c.meets.ensures ∙ c.if-meets.true)
 
 pub returns : goal.returns
 returns c =
-    let meets = c.before in
-    let s = meets.before.before in
-    let l : length s.args.b.list ≡ PARAMETERS = simp length-map at s.well_formed.0.1.1.0.1.0.1 in
-    single_not _ s.args.b.list PARAMETERS _ meets.corner.ensures (omega arith) s.requires
-    (sym meets.meets.ensures ∙ c.if-meets.false)
+    let l : length c.args.b.list ≡ PARAMETERS = c.well_formed.0.1.1.0.1.0.1 in
+    single_not _ c.args.b.list PARAMETERS _ c.corner.ensures (omega arith) c.requires
+    (sym c.meets.ensures ∙ c.if-meets.false)

@@ -11,11 +11,10 @@ use Rattle.delay.proofs.matrix.delayed.Goals as goal
 pub returns : goal.returns
 unfolding delayed_b
 returns c =
-    let start = c.before.before.before.before.before.before.before.before.before.before.before.before.before.before.before.before.before.before.before.before.before.before.before.before.before in
-    let a = start.args in
+    let a = c.args in
     let cs = cells_in a.cells.now a.marks.now in
     let full = cells_long a.cells.now a.marks.now in
-    let h = start.pre.1.1 in
+    let h = c.requires.1.1 in
     let f1 = none_if (ltb 0 a.clocks) 5 in
     let f2 = none_if (ltb 1 a.clocks) 10 in
     let f3 = none_if (ltb 2 a.clocks) 15 in

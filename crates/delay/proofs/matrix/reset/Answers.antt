@@ -1,7 +1,6 @@
 -- One clock after another.
 use mathlib.Core.Path.{◌∙◌}
 use mathlib.Core.List.{List}
-use native.Mathlib.Omega.{arith}
 use Rattle.cells.specs.Cells.{cells_in}
 use Rattle.cells.specs.CellLaws.{cells_long}
 use Rattle.expr.specs.declared.bound.Bound.{Bound}
@@ -9,24 +8,13 @@ use Rattle.delay.specs.Delayed.{reset_pair, reset_b}
 use Rattle.delay.specs.InPlace.{on_twice}
 use Rattle.delay.proofs.matrix.reset.Goals as goal
 
-pub reset_pair-requires-5 : goal.reset_pair-requires-5
-reset_pair-requires-5 c =
-    let start = c.before.before.before.before.before.before.before.before.before.before.before.before.before.before.before.before.before.before.before.before.before.before.before.before.before.before.before in (
-      c.cells-4-1.given ∙ c.cells-3-1.given ∙ c.cells-2-1.given ∙ c.cells-1.given ∙ start.pre.0,
-      (
-        c.marks-4-1.given ∙ c.marks-3-1.given ∙ c.marks-2-1.given ∙ c.marks-1.given ∙ start.pre.1.0,
-        (start.pre.1.1.0, (start.pre.1.1.1, omega arith)),
-      ),
-    )
-
 pub returns : goal.returns
 unfolding reset_b
 returns c =
-    let start = c.before.before.before.before.before.before.before.before.before.before.before.before.before.before.before.before.before.before.before.before.before.before.before.before.before.before.before.before.before.before.before in
-    let a = start.args in
+    let a = c.args in
     let cs = cells_in a.cells.now a.marks.now in
     let full = cells_long a.cells.now a.marks.now in
-    let h = start.pre.1.1.0 in
+    let h = c.requires.1.1.0 in
     let f = reset_pair a.clocks a.r in
     on_twice cs a.p full h (λ (m : List Bound). f 3 (f 2 (f 1 (f 0 m)))) (f 4) _ _
     (on_twice cs a.p full h (λ (m : List Bound). f 2 (f 1 (f 0 m))) (f 3) _ _

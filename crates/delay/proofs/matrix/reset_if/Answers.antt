@@ -9,16 +9,14 @@ use Rattle.delay.proofs.matrix.reset_if.Goals as goal
 
 pub returns-then-r-clocks : goal.returns-then-r-clocks
 returns-then-r-clocks c =
-    let start = c.before.before.before.before.before.before.before.before.before in
-    let a = start.args in
+    let a = c.args in
     let cs = cells_in a.cells.now a.marks.now in
     let full = cells_long a.cells.now a.marks.now in
     c.reset.ensures ∙ ap (on_matrix cs a.p) (if_there a.clocks a.r a.bit c.if-bit-eq1.true c.if-r-clocks.true)
 
 pub returns-else-r-clocks : goal.returns-else-r-clocks
 returns-else-r-clocks c =
-    let start = c.before.before.before in
-    let a = start.args in
+    let a = c.args in
     let cs = cells_in a.cells.now a.marks.now in
     let full = cells_long a.cells.now a.marks.now in
     on_same cs a.p (reset_if_b a.clocks a.r a.bit) (if_past a.clocks a.r a.bit (get_or cs a.p no_cell).bounds
@@ -26,8 +24,7 @@ returns-else-r-clocks c =
 
 pub returns-else-bit-eq1 : goal.returns-else-bit-eq1
 returns-else-bit-eq1 c =
-    let start = c.before.before in
-    let a = start.args in
+    let a = c.args in
     let cs = cells_in a.cells.now a.marks.now in
     let full = cells_long a.cells.now a.marks.now in
     on_same cs a.p (reset_if_b a.clocks a.r a.bit) (if_not a.clocks a.r a.bit (get_or cs a.p no_cell).bounds

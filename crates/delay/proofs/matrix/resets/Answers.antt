@@ -11,11 +11,10 @@ use Rattle.delay.proofs.matrix.resets.Goals as goal
 pub returns : goal.returns
 unfolding resets_b
 returns c =
-    let start = c.before.before.before.before.before.before.before.before.before.before.before.before.before.before.before.before.before.before.before.before.before.before.before.before.before in
-    let a = start.args in
+    let a = c.args in
     let cs = cells_in a.cells.now a.marks.now in
     let full = cells_long a.cells.now a.marks.now in
-    let h = start.pre.1.1 in
+    let h = c.requires.1.1 in
     let f1 = reset_if_b a.clocks 1 (a.bits % 2) in
     let f2 = reset_if_b a.clocks 2 (a.bits / 2 % 2) in
     let f3 = reset_if_b a.clocks 3 (a.bits / 4 % 2) in

@@ -9,12 +9,11 @@ use Rattle.delay.proofs.pairs.moved.Goals as goal
 
 pub returns : goal.returns
 returns c =
-    let start = c.before.before.before.before.before.before.before.before in
-    let a = start.args in
+    let a = c.args in
     let cs = cells_in a.cells.now a.marks.now in
     let full = cells_long a.cells.now a.marks.now in
     let m = (get_or cs a.p no_cell).bounds in
-    let long = matrix_long a.cells.now a.marks.now a.p start.requires.1.1.0 in
+    let long = matrix_long a.cells.now a.marks.now a.p c.requires.1.1.0 in
     c.put_bound.ensures
     ∙ ap (λ (b : Bound). put_bound cs a.p a.y b) (c.bound_at-b.ensures ∙ read_zero
-    m a.x long start.requires.1.1.1.0)
+    m a.x long c.requires.1.1.1.0)

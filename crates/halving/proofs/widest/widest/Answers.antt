@@ -10,15 +10,14 @@ loop-i-init c = widest_start _
 
 pub loop-i-preserved : goal.loop-i-preserved
 loop-i-preserved c =
-    let wide = c.before in
-    let loop = wide.loop-i in
-    let rs = wide.args.b.list in
+    let loop = c.loop-i in
+    let rs = c.args.b.list in
     ⊎_elim
     (λ t. rw (t.1, t.2)
-    (widest_here rs loop.i loop.w loop.most loop.invariant (search rules) wide.width-n.result wide.width-n.ensures.0
+    (widest_here rs loop.i loop.w loop.most loop.invariant (search rules) c.width-n.result c.width-n.ensures.value
     t.0.taken))
     (λ t. rw (t.1, t.2)
-    (widest_not rs loop.i loop.w loop.most loop.invariant (search rules) wide.width-n.result wide.width-n.ensures.0
+    (widest_not rs loop.i loop.w loop.most loop.invariant (search rules) c.width-n.result c.width-n.ensures.value
     t.0.left))
     c.if-most-n.branch
 

@@ -23,4 +23,7 @@ returns c =
     let g = s.ranges.x in
     let e = op_back ◌*ℤ◌ w64 _ _ s.args.a s.args.x (passed w32 _ _ c.wide.ensures f)
     (passed w16 _ _ c.wide16.ensures g) (sfits_widen {w = w32} tt f) (sfits_widen {w = w16} tt g) (product_fits f g) in
-    (e, subst (λ (z : ℤ). Sized z) (sym e) (product_size s.args.a s.args.x (fits_size f) (fits_size g)))
+    record {
+      value = e;
+      small = subst (λ (z : ℤ). Sized z) (sym e) (product_size s.args.a s.args.x (fits_size f) (fits_size g));
+    }

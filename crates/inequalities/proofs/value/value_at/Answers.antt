@@ -27,19 +27,19 @@ loop-j-init c =
 -- the sum with one product more
 sum-next : (c : goal.After-term-total)
     → let loop = c.loop-j in let s = c.args in
-    ValueTo s.e s.v.numbers (loop.j + 1) (to_z w64 loop.total +ℤ to_z w64 (of_z w64 c.term-total.result))
+    ValueTo s.e s.v.numbers (loop.j + 1) (to_z w64 loop.total-bits +ℤ to_z w64 (of_z w64 c.term-total.result))
 sum-next c =
     let loop = c.loop-j in
     let start = c.before.before.before.before.before.before.before in
     let s = start.args in
-    let l : length s.v.numbers ≡ PARAMETERS = simp length-map at start.well_formed.0.1.1.0.1.0.1 in
-    let f : SFits w64 c.term-total.result = size_fits w64 _ (omega (arith, c.term-total.ensures.1)) in
+    let l : length s.v.numbers ≡ PARAMETERS = start.well_formed.0.1.1.0.1.0.1 in
+    let f : SFits w64 c.term-total.result = size_fits w64 _ (omega (arith, c.term-total.ensures.small)) in
     let a = get_or s.e.coefs loop.j (pos 0) in
     let x = get_or s.v.numbers loop.j (pos 0) in
-    let g : SFits w32 a = record { sfits = c.term-arg-1.given } in
-    let h : SFits w16 x = record { sfits = c.term-arg-in-loop-j-1.given } in
+    let g : SFits w32 a = search rules in
+    let h : SFits w16 x = search rules in
     rw (to_z-of_z w64 c.term-total.result f) (value_turn s.e s.v.numbers loop.j _ c.term-total.result loop.invariant.1 (omega arith) l
-    (heard ◌*ℤ◌ w32 w16 _ a x c.term-total.ensures.0 g h) c.term-total.ensures.1)
+    (heard ◌*ℤ◌ w32 w16 _ a x c.term-total.ensures.value g h) c.term-total.ensures.small)
 
 pub overflow_add-total : goal.overflow_add-total
 overflow_add-total c = sum_fits (c.loop-j.j + 1) _ (omega arith) (sum-next c).size
@@ -50,4 +50,5 @@ loop-j-preserved c = (omega arith, rw (to_z-of_z w64 _ (overflow_add-total c)) (
 pub returns : goal.returns
 returns c =
     let s = c.args in
-    value_all s.e s.v.numbers c.loop-j.j _ c.loop-j.invariant.1 c.loop-j.invariant.0 (search rules)
+    let all = value_all s.e s.v.numbers c.loop-j.j _ c.loop-j.invariant.1 c.loop-j.invariant.0 (search rules) in
+    record { value = all.0; small = all.1 }

@@ -7,7 +7,7 @@ use Rattle.inequalities.proofs.value.value_at.Given as goal
 
 -- The loop's invariant: the sum so far, with the products still to come, is the value.
 abbrev pub invariant-loop-j : goal.invariant-loop-j
-invariant-loop-j l = (l.j ≤ PARAMETERS) × ValueTo l.e l.v.numbers l.j (to_z w64 l.total)
+invariant-loop-j l = (l.j ≤ PARAMETERS) × ValueTo l.e l.v.numbers l.j l.total
 
 abbrev pub decreases-loop-j : goal.decreases-loop-j
 decreases-loop-j l = PARAMETERS - l.j

@@ -9,6 +9,7 @@ use Rattle.zones.specs.declared.zone.Zone.{Zone}
 use Rattle.kept.specs.Stacks.{no_zone, zones_in, zones_long, zones_at_lem}
 use Rattle.kept.specs.StackLaws.{top_bound, step_keeps, step_less, stacked_start, stacked_end, sib_at}
 use Rattle.kept.proofs.stack.stacked.Goals as goal
+use Rattle.kept.proofs.stack.stacked.Goals.{After-highest-t, After-siblings-joined}
 
 pub loop-s-init : goal.loop-s-init
 loop-s-init c =
@@ -24,22 +25,21 @@ highest-t-requires c =
     omega (arith, v.0, v.2.fits)
 
 -- the two on top lie in the list
-below-fits : (c : goal.After-highest-t) → c.highest-t.result.below < 32
+below-fits : (c : After-highest-t) → c.highest-t.result.below < 32
 below-fits c = rw c.highest-t.ensures (top_bound _ _ _ _ c.loop-s.invariant.2).0
 
-top-fits : (c : goal.After-highest-t) → c.highest-t.result.top < 32
+top-fits : (c : After-highest-t) → c.highest-t.result.top < 32
 top-fits c = rw c.highest-t.ensures (top_bound _ _ _ _ c.loop-s.invariant.2).1
 
 pub siblings-joined-requires : goal.siblings-joined-requires
 siblings-joined-requires c =
-    let s = c.before.before.before.before.before.before in
-    (s.requires.0, (omega (arith, below-fits c), omega (arith, top-fits c)))
+    let at = (goal.at.siblings-joined-requires c).After-highest-t in
+    (c.requires.0, (omega (arith, below-fits at), omega (arith, top-fits at)))
 
 pub bounds-counts-next : goal.bounds-counts-next
 bounds-counts-next c =
     let v = c.loop-s.invariant in
-    let s = c.before.before.before.before.before.before.before.before in
-    omega (arith, v.0, c.loop-s-test.true, s.requires.1)
+    omega (arith, v.0, c.loop-s-test.true, c.requires.1)
 
 pub step-s-requires : goal.step-s-requires
 step-s-requires c =
@@ -47,7 +47,7 @@ step-s-requires c =
     (v.2.fits, (v.0, c.loop-s-test.true))
 
 -- two zones that are found to be halves
-joined : (c : goal.After-siblings-joined) →
+joined : (c : After-siblings-joined) →
     let a = c.args in
     let z = zones_in a.cells.now a.counts.now in
     let t = c.highest-t.result in
@@ -61,7 +61,7 @@ loop-s-smaller c =
     let loop = c.loop-s in
     let v = loop.invariant in
     rw c.step-s.ensures (step_less _ _ _ v.1 v.0 loop.s v.2 c.loop-s-test.true _ _ _
-    c.highest-t.ensures (joined c.before.before))
+    c.highest-t.ensures (joined (goal.at.loop-s-smaller c).After-siblings-joined))
 
 pub loop-s-preserved : goal.loop-s-preserved
 loop-s-preserved c =
@@ -71,14 +71,14 @@ loop-s-preserved c =
       v.0,
       v.1,
       rw c.step-s.ensures (step_keeps _ _ _ v.1 v.0 loop.s v.2 c.loop-s-test.true _ _ _
-          c.highest-t.ensures (joined c.before.before)
+          c.highest-t.ensures (joined (goal.at.loop-s-preserved c).After-siblings-joined)
           (λ h. ap (λ (z : Zone). z.count) (sym (zones_at_lem a.cells.now a.counts.now loop.s.next (omega (arith, v.0)))))),
     )
 
 pub returns : goal.returns
 returns c =
     let loop = c.loop-s in
-    let v = loop.invariant in (
-      (omega (arith, v.0, v.2.fits), v.2.bound),
-      stacked_end _ _ _ loop.s v.1 v.2 (omega (arith, c.loop-s-test.false)),
-    )
+    let v = loop.invariant in record {
+      count_bound = (omega (arith, v.0, v.2.fits), v.2.bound);
+      same = stacked_end _ _ _ loop.s v.1 v.2 (omega (arith, c.loop-s-test.false));
+    }

@@ -1,8 +1,9 @@
 -- The loop's invariant: the sum so far, with the most that the products still to come add, is the most of all.
 use mathlib.Core.Path.{◌≡◌}
-use Prim.Native.Nat.{◌+◌, ◌-◌}
+use mathlib.Core.List.{List}
+use Prim.Native.Nat.{ℕ, ◌+◌, ◌-◌, ◌<◌}
 use native.Mathlib.Omega.{arith}
-use lib.IntN.{pos, ◌+ℤ◌}
+use lib.IntN.{ℤ, pos, ◌+ℤ◌}
 use lib.ListN.{length, get_or, length-map}
 use mir.Facts.{sfits_widen}
 use mir.Syntax.{w32, w64}
@@ -11,6 +12,10 @@ use mir.ValLaws.{to_z-of_z}
 use Rattle.integer.specs.Bits.{held, passed}
 use Rattle.integer.specs.Product.{size_fits}
 use Rattle.expr.specs.Records.{PARAMETERS, blank_range}
+use Rattle.expr.specs.declared.number.Expr.{Expr}
+use Rattle.expr.specs.declared.range.Range.{Range}
+use Rattle.inequalities.specs.Sizes.{Sized}
+use Rattle.narrowing.specs.Best.{best}
 use Rattle.narrowing.proofs.Terms.{SumTo, Most, sum_start, sum_turn, sum_fits, sum_all}
 use borrow.Author.Rules.{rules}
 use Rattle.narrowing.proofs.boxes.best.Goals as goal
@@ -25,28 +30,28 @@ loop-i-init c =
     )
 
 -- the sum with one product more
-sum-next : (c : goal.After-most-sum)
-    → let loop = c.loop-i in let s = c.args in
-    SumTo s.e s.b.list (loop.i + 1) (to_z w64 loop.sum +ℤ to_z w64 (of_z w64 c.most-sum.result))
-sum-next c =
-    let loop = c.loop-i in
-    let start = c.before.before.before.before.before.before.before in
-    let s = start.args in
-    let l : length s.b.list ≡ PARAMETERS = simp length-map at start.well_formed.0.1.1.0.1.0.1 in
-    let f : SFits w64 c.most-sum.result = size_fits w64 _ (omega (arith, c.most-sum.ensures.1)) in
-    let a = get_or s.e.coefs loop.i (pos 0) in
-    let g : SFits w32 a = record { sfits = c.most-arg-1.given } in
-    let m : Most a (get_or s.b.list loop.i blank_range) c.most-sum.result =
-    record { is = rw (to_z-of_z w32 a g) at c.most-sum.ensures.0; size = c.most-sum.ensures.1 } in
-    rw (to_z-of_z w64 c.most-sum.result f) (sum_turn s.e s.b.list loop.i _ c.most-sum.result loop.invariant.1 (omega arith) l m)
+sum-next : (e : Expr) (rs : List Range) (i : ℕ) (sum x : ℤ) → SumTo e rs i sum → i < PARAMETERS → length rs ≡ PARAMETERS
+    → SFits w32 (get_or e.coefs i (pos 0)) → x ≡ best (to_z w32 (of_z w32 (get_or e.coefs i (pos 0)))) (get_or rs i blank_range) → Sized x
+    → SumTo e rs (i + 1) (sum +ℤ to_z w64 (of_z w64 x))
+sum-next e rs i sum x t h l g v s =
+    let f : SFits w64 x = size_fits w64 x (omega (arith, s)) in
+    let a = get_or e.coefs i (pos 0) in
+    let m : Most a (get_or rs i blank_range) x = record { is = rw (to_z-of_z w32 a g) at v; size = s } in
+    rw (to_z-of_z w64 x f) (sum_turn e rs i _ x t h l m)
 
 pub overflow_add-sum : goal.overflow_add-sum
-overflow_add-sum c = sum_fits (c.loop-i.i + 1) _ (omega arith) (sum-next c).size
+overflow_add-sum c =
+    let s = sum-next c.args.e c.args.b.list c.loop-i.i _ c.most-sum.result c.loop-i.invariant.1 (omega arith)
+        c.well_formed.0.1.1.0.1.0.1 (search rules) c.most-sum.ensures.value c.most-sum.ensures.small in
+    sum_fits (c.loop-i.i + 1) _ (omega arith) s.size
 
 pub loop-i-preserved : goal.loop-i-preserved
-loop-i-preserved c = (omega arith, rw (to_z-of_z w64 _ (overflow_add-sum c)) (sum-next c))
+loop-i-preserved c =
+    let s = sum-next c.args.e c.args.b.list c.loop-i.i _ c.most-sum.result c.loop-i.invariant.1 (omega arith)
+        c.well_formed.0.1.1.0.1.0.1 (search rules) c.most-sum.ensures.value c.most-sum.ensures.small in
+    (omega arith, rw (to_z-of_z w64 _ (sum_fits (c.loop-i.i + 1) _ (omega arith) s.size)) s)
 
 pub returns : goal.returns
 returns c =
-    let s = c.args in
-    sum_all s.e s.b.list c.loop-i.i _ c.loop-i.invariant.1 c.loop-i.invariant.0 (search rules)
+    let p = sum_all c.args.e c.args.b.list c.loop-i.i _ c.loop-i.invariant.1 c.loop-i.invariant.0 (search rules) in
+    record { value = p.0; small = p.1 }

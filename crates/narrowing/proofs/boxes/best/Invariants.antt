@@ -7,7 +7,7 @@ use Rattle.narrowing.proofs.boxes.best.Given as goal
 
 -- The loop's invariant: the sum so far, with the most that the products still to come add, is the most of all.
 abbrev pub invariant-loop-i : goal.invariant-loop-i
-invariant-loop-i l = (l.i ≤ PARAMETERS) × SumTo l.e l.b.list l.i (to_z w64 l.sum)
+invariant-loop-i l = (l.i ≤ PARAMETERS) × SumTo l.e l.b.list l.i l.sum
 
 abbrev pub decreases-loop-i : goal.decreases-loop-i
 decreases-loop-i l = PARAMETERS - l.i

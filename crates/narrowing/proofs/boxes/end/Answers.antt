@@ -7,12 +7,10 @@ use Rattle.narrowing.proofs.boxes.end.Goals as goal
 
 pub returns-then-a-ge0 : goal.returns-then-a-ge0
 returns-then-a-ge0 c =
-    let s = c.before.before in
-    end_high s.args.a s.args.r _ (to_z-of_z w16 _ (search rules))
-    (rw (to_z-of_z w32 _ s.ranges.a) at c.if-a-ge0.true)
+    end_high c.args.a c.args.r _ (to_z-of_z w16 _ (search rules))
+    (rw (to_z-of_z w32 _ c.ranges.a) at c.if-a-ge0.true)
 
 pub returns : goal.returns
 returns c =
-    let s = c.before.before in
-    end_low s.args.a s.args.r _ (to_z-of_z w16 _ (search rules))
-    (rw (to_z-of_z w32 _ s.ranges.a) at c.if-a-ge0.false)
+    end_low c.args.a c.args.r _ (to_z-of_z w16 _ (search rules))
+    (rw (to_z-of_z w32 _ c.ranges.a) at c.if-a-ge0.false)

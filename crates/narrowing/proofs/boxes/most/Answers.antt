@@ -9,7 +9,7 @@ use Rattle.narrowing.proofs.boxes.most.Goals as goal
 
 pub returns : goal.returns
 returns c =
-    let s = c.before.before in
     let y = c.end.result in
-    most_is s.args.a s.args.r _ y (rw (to_z-of_z w32 _ s.ranges.a) at c.end.ensures)
-    (heard ◌*ℤ◌ w32 w16 _ s.args.a y c.term.ensures.0 s.ranges.a (search rules)) c.term.ensures.1
+    let p = most_is c.args.a c.args.r _ y (rw (to_z-of_z w32 _ c.ranges.a) at c.end.ensures)
+        (heard ◌*ℤ◌ w32 w16 _ c.args.a y c.term.ensures.value c.ranges.a (search rules)) c.term.ensures.small in
+    record { value = p.0; small = p.1 }

@@ -9,5 +9,4 @@ returns-then-a-le0 c = part_all _ _ _
 
 pub returns : goal.returns
 returns c =
-    let s = c.before.before in
-    rw (to_z-of_z w32 _ s.ranges.a, to_z-of_z w64 _ s.ranges.s) at c.part.ensures
+    rw (to_z-of_z w32 _ c.ranges.a, to_z-of_z w64 _ c.ranges.s) at c.part.ensures

@@ -8,10 +8,9 @@ use Rattle.parting.proofs.halves.halved.Goals as goal
 pub returns : goal.returns
 unfolding opposite_c
 returns c =
-    let start = c.before.before.before.before.before.before.before.before.before.before.before.before.before.before.before.before.before.before in
-    let a = start.args in
+    let a = c.args in
     let copied = c.copy.ensures in
     halves_cells (cells_in a.cells.now a.marks.now) _ _ _ a.p a.old a.n a.g a.t _ (cells_long a.cells.now
-    a.marks.now) start.pre.1.1.0.0 start.pre.1.1.0.1 copied
+    a.marks.now) c.requires.1.1.0.0 c.requires.1.1.0.1 copied
     c.opposite.ensures c.put_row.ensures
     c.yes_at.ensures

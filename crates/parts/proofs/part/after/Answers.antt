@@ -1,4 +1,4 @@
--- The branches are the cases of `afterC`.
+-- The branches are the cases of `after_c`.
 use Rattle.parts.proofs.Steps.{after_halts, after_void_no, after_void_yes, after_tight_no, after_tight_yes}
 use Rattle.parts.proofs.Steps.{after_entry, after_last}
 use Rattle.parts.proofs.part.after.Goals as goal

@@ -8,9 +8,8 @@ use Rattle.parts.proofs.part.entered.Goals as goal
 
 pub returns-then-x-lt25 : goal.returns-then-x-lt25
 returns-then-x-lt25 c =
-    let tested = c.before.before.before in
-    let a = tested.args in
-    entered_yes a.r a.p a.x _ _ _ tested.if-yes.true c.via.ensures c.put.ensures
+    let a = c.args in
+    entered_yes a.r a.p a.x _ _ _ c.if-yes.true c.via.ensures c.put.ensures
 
 pub returns-else-x-lt25 : goal.returns-else-x-lt25
 returns-else-x-lt25 c =

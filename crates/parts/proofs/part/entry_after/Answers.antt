@@ -1,4 +1,4 @@
--- The branches are the two tests of `entersC`.
+-- The branches are the two tests of `enters_c`.
 use Rattle.parts.proofs.Steps.{enters_yes, enters_no, enters_not}
 use Rattle.parts.proofs.part.entry_after.Goals as goal
 

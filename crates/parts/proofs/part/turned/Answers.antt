@@ -10,8 +10,6 @@ overflow_add-result c =
 
 pub returns : goal.returns
 returns c =
-    let counted = c.before.before in
-    let stepped = counted.before.before in
-    let a = stepped.args in
-    turn_is a.phase a.tests a.test a.was a.t a.via a.kind _ stepped.after-next.ensures _
-    counted.at_most.ensures _ counted.tests_in.ensures _ c.question_after.ensures _ c.entry_after.ensures
+    let a = c.args in
+    turn_is a.phase a.tests a.test a.was a.t a.via a.kind _ c.after-next.ensures _
+    c.at_most.ensures _ c.tests_in.ensures _ c.question_after.ensures _ c.entry_after.ensures

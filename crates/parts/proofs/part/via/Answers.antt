@@ -7,8 +7,7 @@ use Rattle.parts.proofs.part.via.Goals as goal
 
 pub returns : goal.returns
 returns c =
-    let placed = c.before.before.before.before.before in
-    let a = placed.args in
+    let a = c.args in
     let long : length a.r.old ≡ 25 = search rules in
-    via_by a.r long a.x _ placed.places-at.ensures _ _ _ _ c.entry-first.ensures c.sum.ensures
+    via_by a.r long a.x _ c.places-at.ensures _ _ _ _ c.entry-first.ensures c.sum.ensures
     c.entry.ensures c.sum-2.ensures

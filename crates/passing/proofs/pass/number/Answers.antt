@@ -1,4 +1,4 @@
--- The branches are the cases of `numberC`.
+-- The branches are the cases of `number_c`.
 use Rattle.passing.proofs.Cases.{number_cut, number_listed, number_full, number_split, number_own}
 use Rattle.passing.proofs.pass.number.Goals as goal
 

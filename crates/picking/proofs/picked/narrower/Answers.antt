@@ -3,5 +3,4 @@ use Rattle.picking.proofs.picked.narrower.Goals as goal
 
 pub returns-then-width : goal.returns-then-width
 returns-then-width c =
-    let then = c.before.before.before in
-    (then.requires.1.0, then.several.ensures.0 then.if-several.true)
+    (c.requires.1.0, c.several.ensures.yes c.if-several.true)

@@ -7,11 +7,9 @@ use Rattle.picking.proofs.picked.other.Goals as goal
 
 pub overflow_add-w : goal.overflow_add-w
 overflow_add-w c =
-    let s = c.before.before in
-    omega (arith, c.if-t-w.false, c.wide-t.ensures, wide_high s.args.b.list PARAMETERS 0)
+    omega (arith, c.if-t-w.false, c.wide-t.ensures, wide_high c.args.b.list PARAMETERS 0)
 
 pub returns-then-u-lt-PARAMETERS : goal.returns-then-u-lt-PARAMETERS
 returns-then-u-lt-PARAMETERS c =
-    let s = c.before.before.before.before in
-    let above = wide_low s.args.b.list (PARAMETERS - (s.args.w + 1)) (s.args.w + 1) in
+    let above = wide_low c.args.b.list (PARAMETERS - (c.args.w + 1)) (c.args.w + 1) in
     (omega (arith, c.if-u-lt-PARAMETERS.true), λ e. omega (arith, c.wide-u.ensures, above))

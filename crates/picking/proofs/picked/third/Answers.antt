@@ -8,4 +8,4 @@ pub returns-then-i-t : goal.returns-then-i-t
 returns-then-i-t c = λ e p q. absurd (q c.if-i-t.true)
 
 pub returns : goal.returns
-returns c = λ e p q. c.several.ensures.1 e
+returns c = λ e p q. c.several.ensures.no e

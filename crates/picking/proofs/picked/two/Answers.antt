@@ -10,7 +10,7 @@ use Rattle.picking.proofs.picked.two.Goals as goal
 
 pub loop-i-init : goal.loop-i-init
 loop-i-init c =
-    let l : length c.args.b.list ≡ PARAMETERS = simp length-map at c.well_formed.0.1.1.0.1.0.1 in
+    let l : length c.args.b.list ≡ PARAMETERS = c.well_formed.0.1.1.0.1.0.1 in
     (omega arith, l, λ j h. absurd (omega arith))
 
 pub returns-then-third : goal.returns-then-third
@@ -19,9 +19,8 @@ returns-then-third c = λ e. apart cc
 pub loop-i-preserved : goal.loop-i-preserved
 loop-i-preserved c =
     let loop = c.loop-i in
-    let s = c.before.before.before.before.before in
     let here = c.third.ensures c.if-third.false in
-    (omega arith, loop.invariant.1, two_more s.args.b.list s.args.w s.args.t loop.i loop.invariant.2 here)
+    (omega arith, loop.invariant.1, two_more c.args.b.list c.args.w c.args.t loop.i loop.invariant.2 here)
 
 pub returns : goal.returns
 returns c =

@@ -20,16 +20,15 @@ loop-k-init c = (omega arith, refl, λ j h. absurd (omega arith))
 pub loop-k-preserved : goal.loop-k-preserved
 loop-k-preserved c =
     let loop = c.loop-k in
-    let s = c.before.before.before.before in
     let x = c.value_at-x.result in
-    let is = to_z-of_z w64 x (size_fits w64 _ (omega (arith, c.value_at-x.ensures.1))) in
-    let here : ValueOf (expr_at s.args.flat.now loop.k) s.args.v.numbers (to_z w64 (of_z w64 x)) = record {
-      same = is ∙ c.value_at-x.ensures.0 ∙ ap (λ (e : Affine). value e s.args.v.numbers) c.inequality.ensures;
-      size = subst (λ (z : ℤ). SizedTo 4 z) (sym is) c.value_at-x.ensures.1;
+    let is = to_z-of_z w64 x (size_fits w64 _ (omega (arith, c.value_at-x.ensures.small))) in
+    let here : ValueOf (expr_at c.args.flat.now loop.k) c.args.v.numbers (to_z w64 (of_z w64 x)) = record {
+      same = is ∙ c.value_at-x.ensures.value ∙ ap (λ (e : Affine). value e c.args.v.numbers) c.inequality.ensures;
+      size = subst (λ (z : ℤ). SizedTo 4 z) (sym is) c.value_at-x.ensures.small;
     } in (
       omega arith,
       long_set loop.l.numbers loop.k 25 (to_z w64 (of_z w64 x)) loop.invariant.1,
-      values_more _ _ loop.l.numbers loop.k (to_z w64 (of_z w64 x)) (omega (arith, loop.invariant.1, s.requires)) loop.invariant.2 here,
+      values_more _ _ loop.l.numbers loop.k (to_z w64 (of_z w64 x)) (omega (arith, loop.invariant.1, c.requires)) loop.invariant.2 here,
     )
 
 pub returns : goal.returns

@@ -12,15 +12,13 @@ use Rattle.rows.proofs.lines.at.Goals as goal
 
 pub overflow_add-result : goal.overflow_add-result
 overflow_add-result c =
-    let s = c.before.before.before.before in
-    end_asks 4 _ _ (omega arith) s.requires c.term.ensures.1
+    end_asks 4 _ _ (omega arith) c.requires c.term.ensures.small
 
 pub returns : goal.returns
 returns c =
-    let s = c.before.before.before.before in
     let t = c.term in
-    let f : SFits w32 s.args.q.first = search rules in
-    let is = end_is 4 s.args.q.constant t.result (omega arith) s.requires t.ensures.1 in (
-      is ∙ ap (λ (z : ℤ). s.args.q.constant +ℤ z) (heard ◌*ℤ◌ w32 w16 _ s.args.q.first s.args.x t.ensures.0 f s.ranges.x),
-      subst (λ (z : ℤ). SizedTo 5 z) (sym is) (end_size 4 s.args.q.constant t.result (omega arith) s.requires t.ensures.1),
+    let f : SFits w32 c.args.q.first = search rules in
+    let is = end_is 4 c.args.q.constant t.result (omega arith) c.requires t.ensures.1 in (
+      is ∙ ap (λ (z : ℤ). c.args.q.constant +ℤ z) (heard ◌*ℤ◌ w32 w16 _ c.args.q.first c.args.x t.ensures.0 f c.ranges.x),
+      subst (λ (z : ℤ). SizedTo 5 z) (sym is) (end_size 4 c.args.q.constant t.result (omega arith) c.requires t.ensures.1),
     )

@@ -15,40 +15,36 @@ use borrow.Author.Rules.{rules}
 use Rattle.rows.proofs.lines.held.Goals as goal
 
 pub overflow_add-c : goal.overflow_add-c
-overflow_add-c c = end_asks 5 _ _ (omega arith) c.at-c.ensures.1 c.term.ensures.1
+overflow_add-c c = end_asks 5 _ _ (omega arith) c.at-c.ensures.small c.term.ensures.small
 
 pub overflow_add-c-then-c-term-ge0 : goal.overflow_add-c-then-c-term-ge0
-overflow_add-c-then-c-term-ge0 c = end_asks 5 _ _ (omega arith) c.at-c.ensures.1 c.term-then-c-term-ge0.ensures.1
+overflow_add-c-then-c-term-ge0 c = end_asks 5 _ _ (omega arith) c.at-c.ensures.small c.term-then-c-term-ge0.ensures.small
 
 -- what the line is at x
 at-is : (c : goal.After-at-c) →
-    let s = c.args in
-    c.at-c.result ≡ s.q.constant +ℤ (s.q.first *ℤ s.x)
+    let c = c.args in
+    c.at-c.result ≡ c.q.constant +ℤ (c.q.first *ℤ c.x)
 at-is c =
-    let s = c.before in
-    c.at-c.ensures.0 ∙ ap (λ (z : ℤ). s.args.q.constant +ℤ (s.args.q.first *ℤ z)) (to_z-of_z w16 _ s.ranges.x)
+    c.at-c.ensures.value ∙ ap (λ (z : ℤ). c.args.q.constant +ℤ (c.args.q.first *ℤ z)) (to_z-of_z w16 _ c.ranges.x)
 
 pub returns-then-c-term-ge0-2 : goal.returns-then-c-term-ge0-2
 returns-then-c-term-ge0-2 c =
-    let high = c.before in
-    let low = high.before.before.before in
-    let given = low.before.before.before in
-    let v = given.at-c in
-    let s = given.args in
+    let v = c.at-c in
+    let s = c.args in
     let c₀ = s.q.constant +ℤ (s.q.first *ℤ s.x) in
     let a = s.q.second in
     let f : SFits w32 a = search rules in
     let l : SFits w16 s.r.low = search rules in
     let h : SFits w16 s.r.high = search rules in
     interval_whole s.r c₀ a
-    (end_holds 5 v.result low.term.result (omega arith) v.ensures.1 low.term.ensures.1 c₀ a s.r.low (at-is given)
-    (heard ◌*ℤ◌ w32 w16 _ a s.r.low low.term.ensures.0 f l) high.if-c-term-ge0.true)
-    (end_holds 5 v.result high.term-then-c-term-ge0.result (omega arith) v.ensures.1 high.term-then-c-term-ge0.ensures.1 c₀ a s.r.high (at-is given)
-    (heard ◌*ℤ◌ w32 w16 _ a s.r.high high.term-then-c-term-ge0.ensures.0 f h) c.if-c-term-ge0-2.true)
+    (end_holds 5 v.result c.term.result (omega arith) v.ensures.1 c.term.ensures.small c₀ a s.r.low (at-is c)
+    (heard ◌*ℤ◌ w32 w16 _ a s.r.low c.term.ensures.value f l) c.if-c-term-ge0.true)
+    (end_holds 5 v.result c.term-then-c-term-ge0.result (omega arith) v.ensures.1 c.term-then-c-term-ge0.ensures.small c₀ a s.r.high (at-is c)
+    (heard ◌*ℤ◌ w32 w16 _ a s.r.high c.term-then-c-term-ge0.ensures.value f h) c.if-c-term-ge0-2.true)
 
 -- what `interval` is asked, each held as its bits
 value-is : (c : goal.After-wide) → let x = c.at-c.result in to_z w64 (of_z w64 x) ≡ x
-value-is c = to_z-of_z w64 _ (size_fits w64 _ (omega (arith, c.at-c.ensures.1)))
+value-is c = to_z-of_z w64 _ (size_fits w64 _ (omega (arith, c.at-c.ensures.small)))
 
 slope-fits : (c : goal.After-wide) →
     let s = c.args in
@@ -69,7 +65,6 @@ interval-requires c =
 
 pub returns : goal.returns
 returns c =
-    let n = c.before in
-    let s = n.args in
+    let s = c.args in
     c.interval.ensures
-    ∙ (λ i. interval s.r ((value-is n ∙ at-is n.before.before.before.before.before) i) (slope-is n i))
+    ∙ (λ i. interval s.r ((value-is c ∙ at-is c) i) (slope-is c i))

@@ -18,18 +18,16 @@ loop-k-init c = (omega arith, row_start _ _ _ _)
 pub held-r-requires : goal.held-r-requires
 held-r-requires c =
     let loop = c.loop-k in
-    let s = c.before.before.before.before.before in
-    let f : SFits w64 (get_or s.args.constants.now loop.k (pos 0)) = search rules in
-    rw (to_z-of_z w64 _ f) (s.requires.1.1 loop.k (omega arith))
+    let f : SFits w64 (get_or c.args.constants.now loop.k (pos 0)) = search rules in
+    rw (to_z-of_z w64 _ f) (c.requires.1.1 loop.k (omega arith))
 
 pub loop-k-preserved : goal.loop-k-preserved
 loop-k-preserved c =
     let loop = c.loop-k in
-    let s = c.before.before.before.before.before.before in
-    let a : SFits w64 (get_or s.args.constants.now loop.k (pos 0)) = search rules in
-    let b : SFits w32 (get_or s.args.flat.now (5 * loop.k + 1 + s.args.w) (pos 0)) =
+    let a : SFits w64 (get_or c.args.constants.now loop.k (pos 0)) = search rules in
+    let b : SFits w32 (get_or c.args.flat.now (5 * loop.k + 1 + c.args.w) (pos 0)) =
     search rules in
-    let d : SFits w32 (get_or s.args.flat.now (5 * loop.k + 1 + s.args.t) (pos 0)) = search rules in (
+    let d : SFits w32 (get_or c.args.flat.now (5 * loop.k + 1 + c.args.t) (pos 0)) = search rules in (
       omega arith,
       row_turn _ _ loop.k _ loop.r _ _ (omega arith) (to_z-of_z w64 _ a) (to_z-of_z w32 _ b) (to_z-of_z w32 _ d) c.held-r.ensures
           loop.invariant.1,
@@ -37,8 +35,7 @@ loop-k-preserved c =
 
 pub returns : goal.returns
 returns c =
-    let s = c.before.before in
     row_done _ _ c.loop-k.k _ _ _ (omega arith) c.loop-k.invariant.1
-    ∙ ap (λ (z : ℤ). row_from (line_at s.args.constants.now s.args.flat.now s.args.w s.args.t) 0 s.args.n z
-    s.args.s)
-    (to_z-of_z w16 _ s.ranges.x)
+    ∙ ap (λ (z : ℤ). row_from (line_at c.args.constants.now c.args.flat.now c.args.w c.args.t) 0 c.args.n z
+    c.args.s)
+    (to_z-of_z w16 _ c.ranges.x)

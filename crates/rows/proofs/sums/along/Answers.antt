@@ -19,57 +19,52 @@ use Rattle.rows.proofs.sums.along.Goals as goal
 
 pub loop-i-init : goal.loop-i-init
 loop-i-init c =
-    (omega arith, c.width-m.ensures.1, c.width-m.ensures.0, omega arith, total_start _ _ _)
+    (omega arith, c.width-m.ensures.small, c.width-m.ensures.value, omega arith, total_start _ _ _)
 
 -- as many constants as there are lines at most
 long : (c : goal.After-all_put_in-l) → length c.all_put_in-l.result.numbers ≡ 25
 long c = search rules
 
 pub row-requires : goal.row-requires
-row-requires c =
-    let lines = c.before.before.before.before.before.before.before.before.before.before in
-    let s = lines.before in (
-      (s.requires.0.0.0, s.requires.0.0.1.0),
-      ((omega (arith, long lines, s.requires.1.0), s.requires.1.1), λ k h. (lines.all_put_in-l.ensures k h).size),
+row-requires c = (
+      (c.requires.0.0.0, c.requires.0.0.1.0),
+      ((omega (arith, long c, c.requires.1.0), c.requires.1.1), λ k h. (c.all_put_in-l.ensures k h).size),
     )
 
 pub overflow_add-total : goal.overflow_add-total
 overflow_add-total c =
     let loop = c.loop-i in
-    omega (arith, loop.invariant.3, loop.invariant.1, c.width-total.ensures.1)
+    omega (arith, loop.invariant.3, loop.invariant.1, c.width-total.ensures.small)
 
 pub loop-i-preserved : goal.loop-i-preserved
 loop-i-preserved c =
-    let point = c.before.before.before.before.before.before in
-    let loop = point.loop-i in
-    let a = point.args in
-    let f : SFits w16 point.point-p.result.low = search rules in (
+    let loop = c.loop-i in
+    let a = c.args in
+    let f : SFits w16 c.point-p.result.low = search rules in (
       omega arith,
       loop.invariant.1,
       loop.invariant.2,
-      omega (arith, loop.invariant.3, c.width-total.ensures.1),
-      sum_turn _ _ _ (get_or a.b.list a.w blank_range) _ loop.i loop.total _ _ _ (omega arith) (to_z-of_z w16 _ f) point.point-p.ensures c.row.ensures
-          c.width-total.ensures.0 loop.invariant.4,
+      omega (arith, loop.invariant.3, c.width-total.ensures.small),
+      sum_turn _ _ _ (get_or a.b.list a.w blank_range) _ loop.i loop.total _ _ _ (omega arith) (to_z-of_z w16 _ f) c.point-p.ensures c.row.ensures
+          c.width-total.ensures.value loop.invariant.4,
     )
 
 pub returns : goal.returns
 returns c =
     let loop = c.loop-i in
-    let lines = c.before.before.before.before.before in
-    let start = lines.before.before in
-    let a = start.args in
-    let l : length a.b.list ≡ PARAMETERS = simp length-map at start.well_formed.0.1.1.0.1.0.1 in
+    let a = c.args in
+    let l : length a.b.list ≡ PARAMETERS = c.well_formed.0.1.1.0.1.0.1 in
     let m = c.width-m.result in
     let low = (get_or a.b.list a.w blank_range).low in
-    let cs = lines.all_put_in-l.result.numbers in
+    let cs = c.all_put_in-l.result.numbers in
     let f = row_width (line_at cs a.flat.now a.w a.t) a.n (get_or a.b.list a.t blank_range) in
     let all = sum_done f low m loop.i loop.total (sum_of f low m) (omega arith) loop.invariant.4 in
-    let two = start.requires.0 in (
+    let two = c.requires.0 in (
       all ∙ ap (λ (k : ℕ). sum_of f low k) loop.invariant.2
           ∙ rows_counted a.w a.t a.b.list two.1.0 two.1.1 two.0.1.1 (omega (arith, two.0.0))
           (omega (arith, two.0.1.0)) a.flat.now a.n (line_at cs a.flat.now a.w a.t)
           (λ j h. line_of cs a.flat.now _ a.w a.t j two.0.0 two.0.1.0
           (subst (λ (u : List ℤ). ValueOf (expr_at a.flat.now j) (set (set u a.t (pos 0)) a.w (pos 0)) (get_or cs j (pos 0)))
-          lines.corner-v.ensures (lines.all_put_in-l.ensures j h))),
+          c.corner-v.ensures (c.all_put_in-l.ensures j h))),
       omega (arith, loop.invariant.0, loop.invariant.1, loop.invariant.3),
     )

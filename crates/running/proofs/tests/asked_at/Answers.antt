@@ -6,8 +6,7 @@ use Rattle.running.proofs.tests.asked_at.Goals as goal
 
 pub returns : goal.returns
 returns c =
-    let placed = c.before.before.before.before.before.before in
-    let a = placed.args in
-    asking_is (rule_at (cells_in a.cells.now a.marks.now) a.old a.g) a.phase placed.places-at.result _ _ _
-    c.via-via.result c.tighter.result placed.places-at.ensures c.bound_at-first.ensures
+    let a = c.args in
+    asking_is (rule_at (cells_in a.cells.now a.marks.now) a.old a.g) a.phase c.places-at.result _ _ _
+    c.via-via.result c.tighter.result c.places-at.ensures c.bound_at-first.ensures
     c.bound_at-last.ensures c.bound_at-was.ensures c.via-via.ensures c.tighter.ensures

@@ -4,8 +4,7 @@ use Rattle.running.proofs.tests.entered.Goals as goal
 
 pub returns-then-enters : goal.returns-then-enters
 returns-then-enters c =
-    let told = c.before.before.before.before.before.before.before.before in
-    rw (sym told.enters.ensures ∙ c.if-enters.true)
+    rw (sym c.enters.ensures ∙ c.if-enters.true)
     c.put_bound.ensures
 
 pub returns-else-enters : goal.returns-else-enters

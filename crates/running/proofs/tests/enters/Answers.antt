@@ -1,4 +1,4 @@
--- The branches are the two tests of `entersC`.
+-- The branches are the two tests of `enters_c`.
 use mathlib.Core.Path.{refl}
 use borrow.Author.Tests.{lt-ltb, le-ltb}
 use Rattle.parts.specs.Parts.{enters_c}

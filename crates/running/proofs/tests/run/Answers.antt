@@ -19,37 +19,34 @@ use Rattle.running.proofs.tests.run.Goals as goal
 
 pub returns-then-task-gt0 : goal.returns-then-task-gt0
 returns-then-task-gt0 c =
-    let start = c.before.before.before in
-    let a = start.args in
+    let a = c.args in
     let cs = cells_in a.cells.now a.marks.now in
-    let part = part_at cs a.p a.n a.task in (
-      λ b h. going_ends b (rule_at cs a.old a.g) part part (going_starts b (rule_at cs a.old a.g) part start.requires.1.0)
-          c.if-task-gt0.true,
-      (sym (set-get_or cs a.p no_cell), λ b h. h),
-    )
+    let part = part_at cs a.p a.n a.task in record {
+      ran = λ b h. going_ends b (rule_at cs a.old a.g) part part (going_starts b (rule_at cs a.old a.g) part c.requires.live.0)
+          c.if-task-gt0.true;
+      same = sym (set-get_or cs a.p no_cell);
+      known = λ b h. h;
+    }
 
 pub loop-halt-init : goal.loop-halt-init
 loop-halt-init c =
-    let start = c.before.before.before.before.before.before in
-    let a = start.args in
+    let a = c.args in
     let cs = cells_in a.cells.now a.marks.now in
     let listed = c.rows_at-list in
     let room : length listed.result.numbers ≡ 125 = search rules in (
-      way_starts (rule_at cs a.old a.g) _ a.n (part_at cs a.p a.n a.task) _ start.requires.1.0
-          (matrix_long a.cells.now a.marks.now a.old start.requires.0.1.1.0.1) (omega (arith, start.requires.0.1.1.1.1))
+      way_starts (rule_at cs a.old a.g) _ a.n (part_at cs a.p a.n a.task) _ c.requires.live.0
+          (matrix_long a.cells.now a.marks.now a.old c.requires.cells_len.1.1.0.1) (omega (arith, c.requires.cells_len.1.1.1.1))
           room listed.ensures,
       (
-        knowing_starts (zone_of a.n (get_or cs a.p no_cell)) a.hint start.requires.1.1,
-        working_starts a.cells.now a.marks.now a.p start.requires.0.0 start.requires.0.1.0 start.requires.0.1.1.0.0,
+        knowing_starts (zone_of a.n (get_or cs a.p no_cell)) a.hint c.requires.live.1,
+        working_starts a.cells.now a.marks.now a.p c.requires.cells_len.0 c.requires.cells_len.1.0 c.requires.cells_len.1.1.0.0,
       ),
     )
 
 pub loop-halt-smaller-then-outside : goal.loop-halt-smaller-then-outside
 loop-halt-smaller-then-outside c =
-    let at-loop = c.before.before.before.before in
-    let start = at-loop.before.before.before.before.before.before.before in
-    let loop = at-loop.loop-halt in
-    let a = start.args in
+    let loop = c.loop-halt in
+    let a = c.args in
     let cs = cells_in a.cells.now a.marks.now in
     let r = rule_at cs a.old a.g in
     let z = zone_of a.n (get_or cs a.p no_cell) in
@@ -59,10 +56,8 @@ loop-halt-smaller-then-outside c =
 
 pub loop-halt-preserved-then-outside : goal.loop-halt-preserved-then-outside
 loop-halt-preserved-then-outside c =
-    let at-loop = c.before.before.before.before in
-    let start = at-loop.before.before.before.before.before.before.before in
-    let loop = at-loop.loop-halt in
-    let a = start.args in
+    let loop = c.loop-halt in
+    let a = c.args in
     let cs = cells_in a.cells.now a.marks.now in
     let r = rule_at cs a.old a.g in
     let z = zone_of a.n (get_or cs a.p no_cell) in
@@ -74,16 +69,12 @@ loop-halt-preserved-then-outside c =
 
 pub asked_at-asked-requires : goal.asked_at-asked-requires
 asked_at-asked-requires c =
-    let at-loop = c.before.before.before.before.before in
-    let start = at-loop.before.before.before.before.before in
-    (at-loop.loop-halt.invariant.1.1.marks_long, start.requires.0.1.1.0.1)
+    (c.loop-halt.invariant.1.1.marks_long, c.requires.cells_len.1.1.0.1)
 
 pub settled-verdict-requires : goal.settled-verdict-requires
 settled-verdict-requires c =
-    let at-loop = c.before.before.before.before.before.before.before.before.before in
-    let start = at-loop.before.before.before.before.before in
-    let loop = at-loop.loop-halt in
-    let a = start.args in
+    let loop = c.loop-halt in
+    let a = c.args in
     let cs = cells_in a.cells.now a.marks.now in
     let r = rule_at cs a.old a.g in
     let z = zone_of a.n (get_or cs a.p no_cell) in
@@ -105,24 +96,22 @@ entered-requires c =
 
 pub loop-halt-smaller-then-at_once : goal.loop-halt-smaller-then-at_once
 loop-halt-smaller-then-at_once c =
-    let at-loop = c.before.before.before.before.before.before.before.before.before.before.before.before.before.before.before.before.before.before.before.before.before in
-    let start = at-loop.before.before.before.before.before in
-    let loop = at-loop.loop-halt in
-    let a = start.args in
+    let loop = c.loop-halt in
+    let a = c.args in
     let cs = cells_in a.cells.now a.marks.now in
     let r = rule_at cs a.old a.g in
     let z = zone_of a.n (get_or cs a.p no_cell) in
     let q = part_of z (matrix_at a.p loop.cells loop.marks) loop.test loop.tests loop.phase loop.halt in
-    let w = loop.inv.1.1 in
+    let w = loop.invariant.1.1 in
     let asked = c.asked_at-asked in
     let settled = c.settled-verdict in
-    let told = knowing_settled r z a.hint loop.known _ _ loop.flat q loop.inv.0 loop.inv.1.0 asked.result.test
-    settled.result.kind settled.ensures.0 in
+    let told = knowing_settled r z a.hint loop.known _ _ loop.flat q loop.invariant.0 loop.invariant.1.0 asked.result.test
+    settled.result.kind settled.ensures.kind_value in
     let put = c.entered.ensures in
-    let hl = c.cells-1.given in
-    let hm = c.marks-1.given in
-    quick_less r z _ _ _ loop.flat q loop.inv.0 c.loop-halt-test.true asked.result
-    (asked.ensures ∙ rule_old cs a.p loop.cells loop.marks w a.old a.g loop.phase start.pre.0.1.1.1.0)
+    let hl = c.entered.auto.cells in
+    let hm = c.entered.auto.marks in
+    quick_less r z _ _ _ loop.flat q loop.invariant.0 c.loop-halt-test.true asked.result
+    (asked.ensures ∙ rule_old cs a.p loop.cells loop.marks w a.old a.g loop.phase c.requires.cells_len.1.1.1.0)
     settled.result.kind told (c.at_once.ensures c.if-at_once.true) _ c.counted-tests.ensures
     _ c.after-next-then-at_once.ensures _
     (entered_matrix cs a.p loop.cells loop.marks w _ _ (enters_c loop.phase settled.result.kind) asked.result.into
@@ -130,29 +119,27 @@ loop-halt-smaller-then-at_once c =
 
 pub loop-halt-preserved-then-at_once : goal.loop-halt-preserved-then-at_once
 loop-halt-preserved-then-at_once c =
-    let at-loop = c.before.before.before.before.before.before.before.before.before.before.before.before.before.before.before.before.before.before.before.before.before in
-    let start = at-loop.before.before.before.before.before in
-    let loop = at-loop.loop-halt in
-    let a = start.args in
+    let loop = c.loop-halt in
+    let a = c.args in
     let cs = cells_in a.cells.now a.marks.now in
     let r = rule_at cs a.old a.g in
     let z = zone_of a.n (get_or cs a.p no_cell) in
     let q = part_of z (matrix_at a.p loop.cells loop.marks) loop.test loop.tests loop.phase loop.halt in
-    let w = loop.inv.1.1 in
+    let w = loop.invariant.1.1 in
     let asked = c.asked_at-asked in
     let settled = c.settled-verdict in
-    let told = knowing_settled r z a.hint loop.known _ _ loop.flat q loop.inv.0 loop.inv.1.0 asked.result.test
-    settled.result.kind settled.ensures.0 in
+    let told = knowing_settled r z a.hint loop.known _ _ loop.flat q loop.invariant.0 loop.invariant.1.0 asked.result.test
+    settled.result.kind settled.ensures.kind_value in
     let put = c.entered.ensures in
-    let hl = c.cells-1.given in
-    let hm = c.marks-1.given in (
-      quick_turn r z _ _ _ loop.flat q loop.inv.0 c.loop-halt-test.true asked.result
-          (asked.ensures ∙ rule_old cs a.p loop.cells loop.marks w a.old a.g loop.phase start.pre.0.1.1.1.0)
+    let hl = c.entered.auto.cells in
+    let hm = c.entered.auto.marks in (
+      quick_turn r z _ _ _ loop.flat q loop.invariant.0 c.loop-halt-test.true asked.result
+          (asked.ensures ∙ rule_old cs a.p loop.cells loop.marks w a.old a.g loop.phase c.requires.cells_len.1.1.1.0)
           settled.result.kind told (c.at_once.ensures c.if-at_once.true) _ c.counted-tests.ensures _ c.after-next-then-at_once.ensures _
           (entered_matrix cs a.p loop.cells loop.marks w _ _ (enters_c loop.phase settled.result.kind) asked.result.into
-          asked.result.via put hl hm) _ settled.ensures.1,
+          asked.result.via put hl hm) _ settled.ensures.leaves,
       (
-        loop.inv.1.0,
+        loop.invariant.1.0,
         working_entered cs a.p loop.cells loop.marks w _ _ (enters_c loop.phase settled.result.kind) asked.result.into
             asked.result.via put hl hm,
       ),
@@ -160,57 +147,53 @@ loop-halt-preserved-then-at_once c =
 
 pub loop-halt-smaller : goal.loop-halt-smaller
 loop-halt-smaller c =
-    let at-loop = c.before.before.before.before.before.before.before.before.before.before.before.before.before.before.before.before.before.before.before.before.before.before in
-    let start = at-loop.before.before.before.before.before in
-    let loop = at-loop.loop-halt in
-    let a = start.args in
+    let loop = c.loop-halt in
+    let a = c.args in
     let cs = cells_in a.cells.now a.marks.now in
     let r = rule_at cs a.old a.g in
     let z = zone_of a.n (get_or cs a.p no_cell) in
     let q = part_of z (matrix_at a.p loop.cells loop.marks) loop.test loop.tests loop.phase loop.halt in
-    let w = loop.inv.1.1 in
+    let w = loop.invariant.1.1 in
     let asked = c.asked_at-asked in
     let settled = c.settled-verdict in
-    let told = knowing_settled r z a.hint loop.known _ _ loop.flat q loop.inv.0 loop.inv.1.0 asked.result.test
-    settled.result.kind settled.ensures.0 in
+    let told = knowing_settled r z a.hint loop.known _ _ loop.flat q loop.invariant.0 loop.invariant.1.0 asked.result.test
+    settled.result.kind settled.ensures.kind_value in
     let put = c.entered.ensures in
-    let hl = c.cells-1.given in
-    let hm = c.marks-1.given in
-    let Told-more = knowing_learned r z a.hint loop.known _ _ loop.flat q loop.inv.0 loop.inv.1.0 asked.result.test
-    settled.result.kind settled.ensures.0 settled.result.witness in
-    cell_less r z _ _ _ loop.flat q loop.inv.0 c.loop-halt-test.true asked.result
-    (asked.ensures ∙ rule_old cs a.p loop.cells loop.marks w a.old a.g loop.phase start.pre.0.1.1.1.0)
+    let hl = c.entered.auto.cells in
+    let hm = c.entered.auto.marks in
+    let told_more = knowing_learned r z a.hint loop.known _ _ loop.flat q loop.invariant.0 loop.invariant.1.0 asked.result.test
+    settled.result.kind settled.ensures.kind_value settled.result.witness in
+    cell_less r z _ _ _ loop.flat q loop.invariant.0 c.loop-halt-test.true asked.result
+    (asked.ensures ∙ rule_old cs a.p loop.cells loop.marks w a.old a.g loop.phase c.requires.cells_len.1.1.1.0)
     settled.result.kind told _ c.turned-next.result c.turned-next.ensures _
     (entered_matrix cs a.p loop.cells loop.marks w _ _ (enters_c loop.phase settled.result.kind) asked.result.into
     asked.result.via put hl hm)
 
 pub loop-halt-preserved : goal.loop-halt-preserved
 loop-halt-preserved c =
-    let at-loop = c.before.before.before.before.before.before.before.before.before.before.before.before.before.before.before.before.before.before.before.before.before.before in
-    let start = at-loop.before.before.before.before.before in
-    let loop = at-loop.loop-halt in
-    let a = start.args in
+    let loop = c.loop-halt in
+    let a = c.args in
     let cs = cells_in a.cells.now a.marks.now in
     let r = rule_at cs a.old a.g in
     let z = zone_of a.n (get_or cs a.p no_cell) in
     let q = part_of z (matrix_at a.p loop.cells loop.marks) loop.test loop.tests loop.phase loop.halt in
-    let w = loop.inv.1.1 in
+    let w = loop.invariant.1.1 in
     let asked = c.asked_at-asked in
     let settled = c.settled-verdict in
-    let told = knowing_settled r z a.hint loop.known _ _ loop.flat q loop.inv.0 loop.inv.1.0 asked.result.test
-    settled.result.kind settled.ensures.0 in
+    let told = knowing_settled r z a.hint loop.known _ _ loop.flat q loop.invariant.0 loop.invariant.1.0 asked.result.test
+    settled.result.kind settled.ensures.kind_value in
     let put = c.entered.ensures in
-    let hl = c.cells-1.given in
-    let hm = c.marks-1.given in
-    let Told-more = knowing_learned r z a.hint loop.known _ _ loop.flat q loop.inv.0 loop.inv.1.0 asked.result.test
-    settled.result.kind settled.ensures.0 settled.result.witness in (
-      cell_turn r z _ _ _ loop.flat q loop.inv.0 c.loop-halt-test.true asked.result
-          (asked.ensures ∙ rule_old cs a.p loop.cells loop.marks w a.old a.g loop.phase start.pre.0.1.1.1.0)
+    let hl = c.entered.auto.cells in
+    let hm = c.entered.auto.marks in
+    let told_more = knowing_learned r z a.hint loop.known _ _ loop.flat q loop.invariant.0 loop.invariant.1.0 asked.result.test
+    settled.result.kind settled.ensures.kind_value settled.result.witness in (
+      cell_turn r z _ _ _ loop.flat q loop.invariant.0 c.loop-halt-test.true asked.result
+          (asked.ensures ∙ rule_old cs a.p loop.cells loop.marks w a.old a.g loop.phase c.requires.cells_len.1.1.1.0)
           settled.result.kind told _ c.turned-next.result c.turned-next.ensures _
           (entered_matrix cs a.p loop.cells loop.marks w _ _ (enters_c loop.phase settled.result.kind) asked.result.into
-          asked.result.via put hl hm) _ settled.ensures.1,
+          asked.result.via put hl hm) _ settled.ensures.leaves,
       (
-        Told-more settled.result.searched _ c.learned-more.ensures,
+        told_more settled.result.searched _ c.learned-more.ensures,
         working_entered cs a.p loop.cells loop.marks w _ _ (enters_c loop.phase settled.result.kind) asked.result.into
             asked.result.via put hl hm,
       ),
@@ -218,26 +201,22 @@ loop-halt-preserved c =
 
 pub shape_of-cells : goal.shape_of-cells
 shape_of-cells c =
-    let at-loop = c.before in
-    at-loop.loop-halt.invariant.1.1.cells_long ∙ sym at-loop.requires.0.0
+    c.loop-halt.invariant.1.1.cells_long ∙ sym c.requires.cells_len.0
 
 pub shape_of-marks : goal.shape_of-marks
 shape_of-marks c =
-    let at-loop = c.before in
-    at-loop.loop-halt.invariant.1.1.marks_long ∙ sym at-loop.requires.0.1.0
+    c.loop-halt.invariant.1.1.marks_long ∙ sym c.requires.cells_len.1.0
 
 pub returns : goal.returns
 returns c =
-    let at-loop = c.before in
-    let start = at-loop.before.before.before.before.before.before.before in
-    let loop = at-loop.loop-halt in
-    let a = start.args in
+    let loop = c.loop-halt in
+    let a = c.args in
     let cs = cells_in a.cells.now a.marks.now in
     let r = rule_at cs a.old a.g in
     let z = zone_of a.n (get_or cs a.p no_cell) in
     let q = part_of z (matrix_at a.p loop.cells loop.marks) loop.test loop.tests loop.phase loop.halt in
-    let w = loop.invariant.1.1 in (
-      λ b h.
+    let w = loop.invariant.1.1 in record {
+      ran = λ b h.
           subst (λ (x : Cell). Ran b r (part_at cs a.p a.n a.task) (record {
             phase = loop.phase;
             halt = loop.halt;
@@ -245,6 +224,7 @@ returns c =
             test = loop.test;
             zone = zone_of a.n x;
           })) (sym (working_here cs a.p loop.cells loop.marks w))
-          (going_ends b r (part_at cs a.p a.n a.task) q (loop.invariant.0.going b h.narrows) c.loop-halt-test.false),
-      (w.rest, λ b h. knowing_hinted b z a.hint loop.known loop.invariant.1.0 h),
-    )
+          (going_ends b r (part_at cs a.p a.n a.task) q (loop.invariant.0.going b h.narrows) c.loop-halt-test.false);
+      same = w.rest;
+      known = λ b h. knowing_hinted b z a.hint loop.known loop.invariant.1.0 h;
+    }

@@ -18,7 +18,7 @@ returns-then-k-n c =
     let counted = c.before.before.before in
     let a = counted.args in
     segment_moves (sheet_in a.file.now a.ix) a.k a.here _ c.if-k-eq0.false
-    (omega (arith, c.if-k-n.true, counted.moves-n.ensures.0)) c.moved.ensures
+    (omega (arith, c.if-k-n.true, counted.moves-n.ensures.value)) c.moved.ensures
 
 pub returns-then-k-n-2 : goal.returns-then-k-n-2
 unfolding sheet_in
@@ -26,7 +26,7 @@ returns-then-k-n-2 c =
     let counted = c.before.before.before.before in
     let a = counted.args in
     segment_stays (sheet_in a.file.now a.ix) a.k a.here _
-    (omega (arith, c.if-k-n-2.true, counted.moves-n.ensures.0)) c.stay_steps.ensures
+    (omega (arith, c.if-k-n-2.true, counted.moves-n.ensures.value)) c.stay_steps.ensures
 
 pub returns : goal.returns
 unfolding sheet_in
@@ -34,5 +34,5 @@ returns c =
     let counted = c.before.before.before in
     let a = counted.args in
     segment_ends (sheet_in a.file.now a.ix) a.k a.here _
-    (omega (arith, c.if-k-n.false, counted.moves-n.ensures.0)) (λ e. c.if-k-n-2.false (omega (arith, e, counted.moves-n.ensures.0)))
+    (omega (arith, c.if-k-n.false, counted.moves-n.ensures.value)) (λ e. c.if-k-n-2.false (omega (arith, e, counted.moves-n.ensures.value)))
     (lists_more 0 20 _ _ (omega arith) none_lists)

@@ -12,13 +12,8 @@ returns-then-n-gt24 c = λ e. apart cc
 
 pub returns-then-halves : goal.returns-then-halves
 returns-then-halves c =
-    let at = c.before in
-    let f = at.before.before in
-    let e = f.before in
-    let few = e.before in
-    let s = few.before.before in
-    λ same. siblings_are s.args.cells.now s.args.p s.args.q s.args.n (omega (arith, few.if-n-eq0.false))
-    (omega (arith, few.if-n-gt24.false)) _ _ e.inequality-e.ensures f.inequality-f.ensures (at.halves.ensures at.if-halves.true)
+    λ same. siblings_are c.args.cells.now c.args.p c.args.q c.args.n (omega (arith, c.if-n-eq0.false))
+    (omega (arith, c.if-n-gt24.false)) _ _ c.inequality-e.ensures c.inequality-f.ensures (c.halves.ensures c.if-halves.true)
     (c.same.ensures same)
 
 pub returns : goal.returns

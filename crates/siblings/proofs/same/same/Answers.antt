@@ -22,10 +22,8 @@ returns-then-y-x c = λ e. apart cc
 
 pub loop-i-preserved : goal.loop-i-preserved
 loop-i-preserved c =
-    let b = c.before.before in
-    let a = b.before in
-    let loop = a.loop-i in
-    let s = a.args in
+    let loop = c.loop-i in
+    let s = c.args in
     let x = get_or s.cells.now (s.a + loop.i) (pos 0) in
     let y = get_or s.cells.now (s.b + loop.i) (pos 0) in
     let f : SFits w32 x = search rules in

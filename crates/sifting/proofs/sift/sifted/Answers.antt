@@ -16,31 +16,27 @@ loop-k-init c = sifted_start _ _ _ _ c.requires
 
 pub overflow_add-m : goal.overflow_add-m
 overflow_add-m c =
-    let at-loop = c.before.before.before.before.before.before.before in
-    omega (arith, at-loop.loop-k.invariant.few, at-loop.loop-k.invariant.fewer)
+    omega (arith, c.loop-k.invariant.few, c.loop-k.invariant.fewer)
 
 -- the best is a number of 64 bits
 best-is : (c : goal.After-best) → to_z w64 (of_z w64 c.best.result) ≡ c.best.result
-best-is c = to_z-of_z w64 _ (size_fits w64 _ (omega (arith, c.best.ensures.1)))
+best-is c = to_z-of_z w64 _ (size_fits w64 _ (omega (arith, c.best.ensures.small)))
 
 pub loop-k-preserved : goal.loop-k-preserved
 loop-k-preserved c =
-    let best = c.before in
-    let read = best.before in
-    let at-loop = read.before.before in
-    let i = at-loop.loop-k in
-    let a = at-loop.args in
-    let e = read.inequality-e.result in
-    let turned = at-loop.turned-worst.result.list in
+    let i = c.loop-k in
+    let a = c.args in
+    let e = c.inequality-e.result in
+    let turned = c.turned-worst.result.list in
     ⊎_elim
     (λ w.
     rw w.5
-    (sifted_keep a.flat.now a.n turned i.auto i.m i.k i.invariant read.loop-k-test.true e
-    read.inequality-e.ensures c.if-best-lt0.auto (w.4 ∙ w.2.ensures)))
+    (sifted_keep a.flat.now a.n turned i.auto i.m i.k i.invariant c.loop-k-test.true e
+    c.inequality-e.ensures c.if-best-lt0.auto (w.4 ∙ w.2.ensures)))
     (λ w.
     rw (w.1, w.2)
-    (sifted_skip a.flat.now a.n turned i.auto i.m i.k i.invariant read.loop-k-test.true e
-    read.inequality-e.ensures best.best.result best.best.ensures.0 (lt_z_false (rw (best-is best) at w.0.left))))
+    (sifted_skip a.flat.now a.n turned i.auto i.m i.k i.invariant c.loop-k-test.true e
+    c.inequality-e.ensures c.best.result c.best.ensures.value (lt_z_false (rw (best-is c) at w.0.left))))
     c.if-best-lt0.branch
 
 pub shape_of-kept : goal.shape_of-kept
@@ -48,5 +44,4 @@ shape_of-kept c = c.loop-k.invariant.long ∙ sym c.requires
 
 pub returns : goal.returns
 returns c =
-    let turned = c.before.before in
-    sifted_all _ _ _ _ c.loop-k.m c.loop-k.k _ c.loop-k.invariant c.loop-k-test.false turned.turned-worst.ensures
+    sifted_all _ _ _ _ c.loop-k.m c.loop-k.k _ c.loop-k.invariant c.loop-k-test.false c.turned-worst.ensures

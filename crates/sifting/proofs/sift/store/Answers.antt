@@ -32,9 +32,8 @@ shape_of-list c =
 pub returns-after-loop-i : goal.returns-after-loop-i
 returns-after-loop-i c =
     let loop = c.loop-i in
-    let told = c.before.before in
-    let a = told.args in
-    written_whole a.list.now a.k a.e _ loop.list told.if-k-lt25.true told.if-list-ge125.true
+    let a = c.args in
+    written_whole a.list.now a.k a.e _ loop.list c.if-k-lt25.true c.if-list-ge125.true
     (to_z-of_z w32 a.e.constant (search rules))
     (writing_all a.e (5 * a.k) _ loop.i loop.list loop.invariant (search rules))
 

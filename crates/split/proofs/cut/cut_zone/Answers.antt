@@ -7,26 +7,24 @@ use lib.ListN.{get_or, replicate}
 use Rattle.split.specs.Stack.{no_part, Turn, drained, cut_sticks, start_turned, ends_turned, refused_turned, room_turned}
 use Rattle.split.specs.Stack.{splits_turned, splits_less, ends_less, all_turned, start_whole, top_live}
 use Rattle.split.proofs.cut.cut_zone.Goals as goal
+use Rattle.split.proofs.cut.cut_zone.Goals.{After-ended-next}
 
 -- the turn that is made when `ended` has returned
-abbrev TurnAt : goal.After-ended-next → Type 0
+abbrev TurnAt : After-ended-next → Type 0
 TurnAt c =
-    let at-loop = c.before.before.before.before.before.before.before in
-    let after-start = at-loop.before in
-    let a = after-start.args in
-    Turn a.b a.r at-loop.loop-n.stack at-loop.loop-n.n at-loop.loop-n.now c.ended-next.result
-    (drained a.b a.r (replicate 25 after-start.start-stack.result) 1 a.out) c.run-p.result
+    let a = c.args in
+    Turn a.b a.r c.loop-n.stack c.loop-n.n c.loop-n.now c.ended-next.result
+    (drained a.b a.r (replicate 25 c.start-stack.result) 1 a.out) c.run-p.result
 
-turn : (c : goal.After-ended-next) → TurnAt c
+turn : (c : After-ended-next) → TurnAt c
 turn c =
-    let in-loop = c.before.before.before.before.before.before in
-    let a = in-loop.args in
+    let a = c.args in
     let hinted = c.hint_of-hint in
     record {
-      top = omega (arith, in-loop.loop-n-test.true);
-      turned = in-loop.loop-n.invariant;
+      top = omega (arith, c.loop-n-test.true);
+      turned = c.loop-n.invariant;
       ran = c.run-p.ensures a.b
-          (hinted_new a.b _ hinted.result hinted.ensures.0 hinted.ensures.1.0 hinted.ensures.1.1);
+          (hinted_new a.b _ hinted.result hinted.ensures.narrows hinted.ensures.held hinted.ensures.new);
       ended = c.ended-next.ensures;
     }
 
@@ -49,78 +47,67 @@ bounds-stack-top c = omega (arith, c.loop-n-test.true, c.loop-n.invariant.few)
 
 pub run-p-requires : goal.run-p-requires
 run-p-requires c =
-    let in-loop = c.before.before.before.before in
-    let at-loop = in-loop.loop-n in
-    let a = in-loop.args in (
-      top_live at-loop.stack at-loop.n (at-loop.n - 1) (omega (arith, in-loop.loop-n-test.true)) at-loop.invariant.waiting,
-      (hinted_new a.b (get_or at-loop.stack (at-loop.n - 1) no_part).zone c.hint_of-hint.result c.hint_of-hint.ensures.0
-          c.hint_of-hint.ensures.1.0 c.hint_of-hint.ensures.1.1).trusted,
+    let at-loop = c.loop-n in
+    let a = c.args in (
+      top_live at-loop.stack at-loop.n (at-loop.n - 1) (omega (arith, c.loop-n-test.true)) at-loop.invariant.waiting,
+      (hinted_new a.b (get_or at-loop.stack (at-loop.n - 1) no_part).zone c.hint_of-hint.result c.hint_of-hint.ensures.narrows
+          c.hint_of-hint.ensures.held c.hint_of-hint.ensures.new).trusted,
     )
 
 pub returns-then-now-gt0 : goal.returns-then-now-gt0
 returns-then-now-gt0 c =
-    let after-ended = c.before.before in
-    let at-loop = after-ended.before.before.before.before.before.before.before in
-    let after-start = at-loop.before in
-    let a = after-start.args in
+    let after-ended = (goal.at.returns-then-now-gt0 c).After-ended-next in
+    let a = c.args in
     refused_turned (turn after-ended) c.if-now-gt0.true
-    ∙ start_whole a.b a.r a.zone a.out after-start.start-stack.result after-start.start-stack.ensures
+    ∙ start_whole a.b a.r a.zone a.out c.start-stack.result c.start-stack.ensures
 
 pub offset_bounds-stack-top-then-p-eq3 : goal.offset_bounds-stack-top-then-p-eq3
 offset_bounds-stack-top-then-p-eq3 c =
-    let split = c.before.before in
-    let after-ended = split.before.before.before.before in
+    let after-ended = (goal.at.offset_bounds-stack-top-then-p-eq3 c).After-ended-next in
     omega (arith, (turn after-ended).turned.few)
 
 pub bounds-stack-top-then-p-eq3 : goal.bounds-stack-top-then-p-eq3
 bounds-stack-top-then-p-eq3 c =
-    let split = c.before.before in
-    let after-ended = split.before.before.before.before in
+    let after-ended = (goal.at.bounds-stack-top-then-p-eq3 c).After-ended-next in
     omega (arith, (turn after-ended).top, (turn after-ended).turned.few)
 
 pub offset_bounds-stack-n : goal.offset_bounds-stack-n
 offset_bounds-stack-n c =
-    let split = c.before.before in
-    let after-ended = split.before.before.before.before in
+    let after-ended = (goal.at.offset_bounds-stack-n c).After-ended-next in
     omega (arith, (turn after-ended).turned.few)
 
 pub bounds-stack-n : goal.bounds-stack-n
 bounds-stack-n c =
-    let split = c.before.before in
-    let after-ended = split.before.before.before.before in
-    room_turned (turn after-ended) split.if-p-eq3.true
+    let after-ended = (goal.at.bounds-stack-n c).After-ended-next in
+    room_turned (turn after-ended) c.if-p-eq3.true
 
 pub overflow_add-n : goal.overflow_add-n
 overflow_add-n c =
-    let split = c.before.before in
-    let after-ended = split.before.before.before.before in
+    let after-ended = (goal.at.overflow_add-n c).After-ended-next in
     omega (arith, (turn after-ended).turned.few)
 
 pub loop-n-smaller-then-p-eq3 : goal.loop-n-smaller-then-p-eq3
 loop-n-smaller-then-p-eq3 c =
-    let split = c.before.before in
-    let after-ended = split.before.before.before.before in
-    splits_less (turn after-ended) split.if-p-eq3.true c.no_part-no.ensures c.yes_part-yes.ensures
+    let after-ended = (goal.at.loop-n-smaller-then-p-eq3 c).After-ended-next in
+    splits_less (turn after-ended) c.if-p-eq3.true c.no_part-no.ensures c.yes_part-yes.ensures
 
 pub loop-n-preserved-then-p-eq3 : goal.loop-n-preserved-then-p-eq3
 loop-n-preserved-then-p-eq3 c =
-    let split = c.before.before in
-    let after-ended = split.before.before.before.before in
-    splits_turned (turn after-ended) split.if-p-eq3.true c.no_part-no.ensures c.yes_part-yes.ensures
+    let after-ended = (goal.at.loop-n-preserved-then-p-eq3 c).After-ended-next in
+    splits_turned (turn after-ended) c.if-p-eq3.true c.no_part-no.ensures c.yes_part-yes.ensures
 
 pub loop-n-smaller : goal.loop-n-smaller
 loop-n-smaller c =
-    let after-ended = c.before.before.before.before in
+    let after-ended = (goal.at.loop-n-smaller c).After-ended-next in
     let at-loop = after-ended.loop-n in
     ends_less at-loop.stack at-loop.n (at-loop.n - 1) (turn after-ended).top
 
 pub loop-n-preserved : goal.loop-n-preserved
-loop-n-preserved c = let after-ended = c.before.before.before.before in ends_turned (turn after-ended) c.if-p-eq3.false
+loop-n-preserved c = let after-ended = (goal.at.loop-n-preserved c).After-ended-next in ends_turned (turn after-ended) c.if-p-eq3.false
 
 pub returns : goal.returns
 returns c =
     let at-loop = c.loop-n in
-    let after-start = c.before.before in
-    let a = after-start.args in
+    let a = c.args in
     all_turned a.b a.r at-loop.stack at-loop.n at-loop.now _ c.loop-n-test.false at-loop.invariant
-    ∙ start_whole a.b a.r a.zone a.out after-start.start-stack.result after-start.start-stack.ensures
+    ∙ start_whole a.b a.r a.zone a.out c.start-stack.result c.start-stack.ensures

@@ -1,4 +1,4 @@
--- The record is `startC`.
+-- The record is `start_c`.
 use mathlib.Core.Path.{refl}
 use Rattle.split.proofs.cut.start.Goals as goal
 

@@ -1,4 +1,4 @@
--- The branches are the cases of `listC`.
+-- The branches are the cases of `list_c`.
 use Rattle.split.proofs.Steps.{listed_refused, listed_more, listed_full}
 use mathlib.Core.Path.{◌∙◌}
 use Rattle.split.proofs.list.listed.Goals as goal
@@ -10,12 +10,10 @@ returns-then-out-gt0 c =
 
 pub returns-then-n-lt32 : goal.returns-then-n-lt32
 returns-then-n-lt32 c =
-    let tested-2 = c.before.before in
-    let a = tested-2.args in
-    listed_more a.zone a.tests a.out tested-2.if-out-gt0.false tested-2.if-n-lt32.true
+    let a = c.args in
+    listed_more a.zone a.tests a.out c.if-out-gt0.false c.if-n-lt32.true
 
 pub returns : goal.returns
 returns c =
-    let tested-1 = c.before.before in
-    let a = tested-1.args in
-    c.refused.ensures ∙ listed_full a.zone a.tests a.out tested-1.if-out-gt0.false c.if-n-lt32.false
+    let a = c.args in
+    c.refused.ensures ∙ listed_full a.zone a.tests a.out c.if-out-gt0.false c.if-n-lt32.false

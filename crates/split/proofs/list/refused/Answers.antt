@@ -1,4 +1,4 @@
--- The branches are the cases of `refusedC`.
+-- The branches are the cases of `refused_c`.
 use Rattle.split.proofs.Steps.{refused_now, refused_before}
 use Rattle.split.proofs.list.refused.Goals as goal
 

@@ -9,12 +9,11 @@ use Rattle.steps.proofs.step.taken.Goals as goal
 pub returns : goal.returns
 unfolding taken_c
 returns c =
-    let start = c.before.before.before.before.before.before.before.before.before.before.before.before.before.before.before.before.before.before.before.before in
-    let a = start.args in
-    let cs = cells_in a.cells.now a.marks.now in (
-      c.task_of.ensures,
-      c.changed.ensures
+    let a = c.args in
+    let cs = cells_in a.cells.now a.marks.now in record {
+      value = c.task_of.ensures;
+      placed = c.changed.ensures
           ∙ ap (λ (x : List Cell). on_matrix x 64 (changed_b a.step a.clocks))
           (c.copy-2.ensures ∙ ap (λ (x : List Cell).
-          set x 64 (get_or x a.p no_cell)) c.copy.ensures),
-    )
+          set x 64 (get_or x a.p no_cell)) c.copy.ensures);
+    }

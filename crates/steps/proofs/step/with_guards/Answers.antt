@@ -14,9 +14,8 @@ loop-i-init c =
 
 pub returns-then-at-ge20 : goal.returns-then-at-ge20
 returns-then-at-ge20 c =
-    let at-loop = c.before.before in
-    let v = at-loop.loop-i.invariant in
-    guards_full _ at-loop.loop-i.more c.if-at-ge20.true ∙ v.2
+    let v = c.loop-i.invariant in
+    guards_full _ c.loop-i.more c.if-at-ge20.true ∙ v.2
 
 pub offset_bounds-more-at : goal.offset_bounds-more-at
 offset_bounds-more-at c = omega (arith, c.if-at-ge20.false)
@@ -29,19 +28,17 @@ overflow_add-more c = omega (arith, c.if-at-ge20.false)
 
 pub loop-i-preserved : goal.loop-i-preserved
 loop-i-preserved c =
-    let at-loop = c.before.before.before in
     let a = c.args in
-    let v = at-loop.loop-i.invariant in (
+    let v = c.loop-i.invariant in (
       v.0,
       v.1,
-      guards_turn a.guards a.count at-loop.loop-i.i at-loop.loop-i.more _ _
+      guards_turn a.guards a.count c.loop-i.i c.loop-i.more _ _
           (omega (arith, c.loop-i-test.true, v.1)) v.2
-          (put_step at-loop.loop-i.more _ c.if-at-ge20.false),
+          (put_step c.loop-i.more _ c.if-at-ge20.false),
     )
 
 pub returns : goal.returns
 returns c =
-    let at-loop = c.before in
     let a = c.args in
-    let v = at-loop.loop-i.invariant in
-    guards_done a.guards a.count at-loop.loop-i.i at-loop.loop-i.more _ (omega (arith, c.loop-i-test.false, v.1)) v.2
+    let v = c.loop-i.invariant in
+    guards_done a.guards a.count c.loop-i.i c.loop-i.more _ (omega (arith, c.loop-i-test.false, v.1)) v.2

@@ -1,4 +1,4 @@
--- The rows are those of `blankReply`.
+-- The rows are those of `blank_reply`.
 use Rattle.sweep.specs.Reply.{blank_reply}
 use mathlib.Core.Path.{refl}
 use Rattle.sweep.proofs.reply.blank.Goals as goal

@@ -1,4 +1,4 @@
--- The two tests are those of `inRange`, one after the other.
+-- The two tests are those of `in_range`, one after the other.
 use Rattle.integer.specs.Bits.{widened}
 use borrow.Author.Rules.{rules}
 use mir.Syntax.{w64}

@@ -1,4 +1,4 @@
--- The branches are the cases of `sweptTable`.
+-- The branches are the cases of `swept_table`.
 use Rattle.sweep.specs.TableReply.{swept_table}
 use mathlib.Core.Path.{refl, sym, ◌∙◌}
 use Rattle.sweep.proofs.reply.swept.Goals as goal

@@ -2,7 +2,8 @@
 use mathlib.Core.Path.{◌≡◌, ap, ◌∙◌}
 use Prim.Native.Nat.{◌-◌}
 use native.Mathlib.Omega.{arith}
-use lib.IntN.{pos}
+use lib.IntN.{ℤ, pos}
+use Rattle.inequalities.specs.Sizes.{SizedTo}
 use mir.Syntax.{w64}
 use mir.Val.{to_z, of_z}
 use mir.ValLaws.{to_z-of_z}
@@ -16,26 +17,24 @@ pub loop-k-init : goal.loop-k-init
 loop-k-init c = (omega arith, meet_start _ _ _)
 
 -- the local holds the value
-value-is : (c : goal.After-value_at) → to_z w64 (of_z w64 c.value_at.result) ≡ c.value_at.result
-value-is c = to_z-of_z w64 _ (size_fits w64 _ (omega (arith, c.value_at.ensures.1)))
+value-is : (x : ℤ) → SizedTo 4 x → to_z w64 (of_z w64 x) ≡ x
+value-is x h = to_z-of_z w64 x (size_fits w64 x (omega (arith, h)))
 
 pub returns-then-value_at-lt0 : goal.returns-then-value_at-lt0
 returns-then-value_at-lt0 c =
-    let at = c.before.before in
-    let loop = at.loop-k in
-    let v = at.args.v.numbers in
-    meet_stop _ _ loop.k v _ _ (omega arith) (c.value_at.ensures.0 ∙ ap (λ (e : Affine). value e v) at.inequality.ensures)
-    (lt_z_true (rw (value-is c.before) at c.if-value_at-lt0.true)) loop.invariant.1
+    let loop = c.loop-k in
+    let v = c.args.v.numbers in
+    meet_stop _ _ loop.k v _ _ (omega arith) (c.value_at.ensures.value ∙ ap (λ (e : Affine). value e v) c.inequality.ensures)
+    (lt_z_true (rw (value-is c.value_at.result c.value_at.ensures.small) at c.if-value_at-lt0.true)) loop.invariant.1
 
 pub loop-k-preserved : goal.loop-k-preserved
 loop-k-preserved c =
-    let at = c.before.before in
-    let loop = at.loop-k in
-    let v = at.args.v.numbers in (
+    let loop = c.loop-k in
+    let v = c.args.v.numbers in (
       omega arith,
       meet_next _ _ loop.k v _ _ (omega arith)
-          (c.value_at.ensures.0 ∙ ap (λ (e : Affine). value e v) at.inequality.ensures)
-          (lt_z_false (rw (value-is c.before) at c.if-value_at-lt0.false)) loop.invariant.1,
+          (c.value_at.ensures.value ∙ ap (λ (e : Affine). value e v) c.inequality.ensures)
+          (lt_z_false (rw (value-is c.value_at.result c.value_at.ensures.small) at c.if-value_at-lt0.false)) loop.invariant.1,
     )
 
 pub returns : goal.returns

@@ -12,20 +12,16 @@ loop-k-init c = (omega (arith, c.at_most-k.ensures), narrows_refl _ _)
 
 pub returns-then-r : goal.returns-then-r
 returns-then-r c =
-    let cut = c.before.before.before.before in
-    let at = cut.before in
-    let loop = at.loop-k in
+    let loop = c.loop-k in
     narrows_cut _ _ (loop.k - 1) _ _ _ (omega (arith, loop.invariant.0)) loop.invariant.1
-    (subst (λ (e : Affine). Cut e loop.c.list cut.cut-c.result.list) at.inequality.ensures cut.cut-c.ensures)
+    (subst (λ (e : Affine). Cut e loop.c.list c.cut-c.result.list) c.inequality.ensures c.cut-c.ensures)
 
 pub loop-k-preserved : goal.loop-k-preserved
 loop-k-preserved c =
-    let cut = c.before.before.before.before in
-    let at = cut.before in
-    let loop = at.loop-k in (
+    let loop = c.loop-k in (
       omega (arith, loop.invariant.0),
       narrows_cut _ _ (loop.k - 1) _ _ _ (omega (arith, loop.invariant.0)) loop.invariant.1
-          (subst (λ (e : Affine). Cut e loop.c.list cut.cut-c.result.list) at.inequality.ensures cut.cut-c.ensures),
+          (subst (λ (e : Affine). Cut e loop.c.list c.cut-c.result.list) c.inequality.ensures c.cut-c.ensures),
     )
 
 pub returns : goal.returns

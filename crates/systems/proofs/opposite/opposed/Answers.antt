@@ -15,16 +15,14 @@ returns-then-start-gt0 c = λ e. apart cc
 
 pub returns-then-apart : goal.returns-then-apart
 returns-then-apart c =
-    let at = c.before.before in
-    let loop = at.loop-k in
-    let last = at.before.before.before in
-    let s = last.args in
+    let loop = c.loop-k in
+    let s = c.args in
     let l = s.flat.now in
-    let e : affine last.inequality-last.result ≡ expr_at l (s.n - 1) =
-    last.inequality-last.ensures ∙ ap (λ (j : ℕ). expr_at l j) last.less.ensures in
+    let e : affine c.inequality-last.result ≡ expr_at l (s.n - 1) =
+    c.inequality-last.ensures ∙ ap (λ (j : ℕ). expr_at l j) c.less.ensures in
     λ q. apart_never l s.n (loop.k - 1) (s.n - 1) (omega arith) (omega arith)
     (subst (λ (b : Affine). Apart (expr_at l (loop.k - 1)) b) e
-    (subst (λ (a : Affine). Apart a (affine last.inequality-last.result)) at.inequality.ensures
+    (subst (λ (a : Affine). Apart a (affine c.inequality-last.result)) c.inequality.ensures
     (c.apart.ensures c.if-apart.true)))
 
 pub returns : goal.returns

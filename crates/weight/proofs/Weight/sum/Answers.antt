@@ -1,4 +1,4 @@
--- The branches are the cases of `sumW`; two numbers that were clamped have a sum that fits.
+-- The branches are the cases of `sum_w`; two numbers that were clamped have a sum that fits.
 use mathlib.Core.Path.{refl}
 use lib.IntN.{◌+ℤ◌}
 use mir.Syntax.{w64}

@@ -1,4 +1,4 @@
--- The branches before the test are the cases of `tighterW` with none; the test is `test-by-sum`.
+-- The branches before the test are the cases of `tighter_w` with none; the test is `test_by_sum`.
 use mathlib.Core.Bool.{not, ◌&&◌}
 use borrow.Author.Rules.{rules}
 use Rattle.weight.specs.Upper.{MOST, saturate}

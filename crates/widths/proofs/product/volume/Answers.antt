@@ -9,7 +9,7 @@ use Rattle.widths.proofs.product.volume.Goals as goal
 
 pub loop-i-init : goal.loop-i-init
 loop-i-init c =
-    let l : length c.args.b.list ≡ PARAMETERS = simp length-map at c.well_formed.0.1.1.0.1.0.1 in
+    let l : length c.args.b.list ≡ PARAMETERS = c.well_formed.0.1.1.0.1.0.1 in
     (omega arith, l, omega arith, omega arith)
 
 pub loop-i-preserved : goal.loop-i-preserved
@@ -20,7 +20,7 @@ loop-i-preserved c =
       loop.invariant.1,
       omega (arith, c.times-total.ensures),
       volume_turn b.list loop.i loop.total c.times-total.result c.width.result (omega (arith, loop.invariant.1))
-          c.width.ensures.0 c.times-total.ensures loop.invariant.3,
+          c.width.ensures.value c.times-total.ensures loop.invariant.3,
     )
 
 pub returns : goal.returns

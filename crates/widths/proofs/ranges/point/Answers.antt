@@ -11,22 +11,20 @@ use Rattle.widths.proofs.ranges.point.Goals as goal
 
 pub overflow_cast-x : goal.overflow_cast-x
 overflow_cast-x c =
-    let s = c.before.before in
-    let r = s.args.range in
-    let k = s.args.n in
+    let r = c.args.range in
+    let k = c.args.n in
     let f : SFits w16 r.low = search rules in
     let g : SFits w16 r.high = search rules in
-    let m = member r k s.pre in
+    let m = member r k c.requires in
     place_fits r.low r.high k f g m.most
 
 pub overflow_add-x : goal.overflow_add-x
 overflow_add-x c =
-    let s = c.before.before in
-    let r = s.args.range in
-    let k = s.args.n in
+    let r = c.args.range in
+    let k = c.args.n in
     let f : SFits w16 r.low = search rules in
     let g : SFits w16 r.high = search rules in
-    let m = member r k s.pre in
+    let m = member r k c.requires in
     let fk = place_fits r.low r.high k f g m.most in
     let el = passed w16 _ r.low c.wide16.ensures f in
     let fx = member_fits_64 r.low r.high k f g m.most in
@@ -35,12 +33,11 @@ overflow_add-x c =
 
 pub overflow_cast-x-2 : goal.overflow_cast-x-2
 overflow_cast-x-2 c =
-    let s = c.before.before in
-    let r = s.args.range in
-    let k = s.args.n in
+    let r = c.args.range in
+    let k = c.args.n in
     let f : SFits w16 r.low = search rules in
     let g : SFits w16 r.high = search rules in
-    let m = member r k s.pre in
+    let m = member r k c.requires in
     let fk = place_fits r.low r.high k f g m.most in
     let el = passed w16 _ r.low c.wide16.ensures f in
     let fx = member_fits_64 r.low r.high k f g m.most in
@@ -49,12 +46,11 @@ overflow_cast-x-2 c =
 
 pub returns : goal.returns
 returns c =
-    let s = c.before.before in
-    let r = s.args.range in
-    let k = s.args.n in
+    let r = c.args.range in
+    let k = c.args.n in
     let f : SFits w16 r.low = search rules in
     let g : SFits w16 r.high = search rules in
-    let m = member r k s.pre in
+    let m = member r k c.requires in
     let fk = place_fits r.low r.high k f g m.most in
     let el = passed w16 _ r.low c.wide16.ensures f in
     let fx = member_fits_64 r.low r.high k f g m.most in

@@ -1,4 +1,4 @@
--- The arms are the cases of `notedC`.
+-- The arms are the cases of `noted_c`.
 use mathlib.Core.Path.{refl}
 use Rattle.zones.specs.Hinted.{noted_c}
 use Rattle.zones.proofs.hint.noted.Goals as goal

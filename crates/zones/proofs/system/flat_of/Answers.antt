@@ -25,17 +25,15 @@ overflow_add-i c = omega (arith, c.loop-i.invariant.few)
 
 pub loop-i-preserved : goal.loop-i-preserved
 loop-i-preserved c =
-    let at-loop = c.before.before.before.before.before in
-    let a = at-loop.args in
+    let a = c.args in
     subst (Copied a.zone.ineqs _ _) (sym c.put.ensures)
-    (copied_turn a.zone.ineqs _ at-loop.loop-i.i at-loop.loop-i.flat at-loop.loop-i.invariant
+    (copied_turn a.zone.ineqs _ c.loop-i.i c.loop-i.flat c.loop-i.invariant
     c.loop-i-test.true)
 
 pub returns : goal.returns
 returns c =
     let loop = c.loop-i in
-    let asked = c.before.before in
-    let a = asked.args in record {
-      count_value = copied_all a.zone.ineqs _ loop.i a.zone.count loop.flat asked.at_most-n.ensures loop.invariant c.loop-i-test.false;
-      counted = asked.at_most-n.ensures;
+    let a = c.args in record {
+      count_value = copied_all a.zone.ineqs _ loop.i a.zone.count loop.flat c.at_most-n.ensures loop.invariant c.loop-i-test.false;
+      counted = c.at_most-n.ensures;
     }

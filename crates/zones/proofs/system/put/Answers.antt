@@ -30,9 +30,8 @@ shape_of-flat c = let a = c.args in c.loop-i.invariant.long ∙ length-set a.fla
 pub returns-after-loop-i : goal.returns-after-loop-i
 returns-after-loop-i c =
     let loop = c.loop-i in
-    let told = c.before.before in
-    let a = told.args in
-    written_whole a.flat.now a.k a.e _ loop.flat told.if-k-lt25.true told.if-flat-ge125.true
+    let a = c.args in
+    written_whole a.flat.now a.k a.e _ loop.flat c.if-k-lt25.true c.if-flat-ge125.true
     (to_z-of_z w32 a.e.constant (search rules))
     (writing_all a.e (5 * a.k) _ loop.i loop.flat loop.invariant (search rules))
 

@@ -1,4 +1,4 @@
--- The branches are the cases of `moreC`.
+-- The branches are the cases of `more_c`.
 use Rattle.zones.proofs.Steps.{more_in, more_full}
 use Rattle.zones.proofs.zone.with_inequality.Goals as goal
 

@@ -1,4 +1,4 @@
--- The branches are the cases of `sumB`.
+-- The branches are the cases of `sum_b`.
 use Rattle.expr.proofs.Cases.{sum_left, sum_right, sum_both}
 use Rattle.expr.proofs.bound.Bound.sum.Goals as goal
 

@@ -1,4 +1,4 @@
--- The branches before the test are the cases of `tighterB` with none; the sum is `test-by-sum`.
+-- The branches before the test are the cases of `tighter_b` with none; the sum is `test_by_sum`.
 use Rattle.expr.proofs.Cases.{test_left, test_right, test_both, less_one_asks, plus_one_asks}
 use Rattle.expr.proofs.bound.Bound.tighter.Goals as goal
 

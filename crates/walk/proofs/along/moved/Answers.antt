@@ -1,9 +1,9 @@
--- The guards, the resets, then the invariants on arrival, as in `moveTable`.
+-- The guards, the resets, then the invariants on arrival, as in `move_table`.
 use Rattle.expr.specs.Records.{point}
 use Rattle.weight_matrix.specs.Tables.{Table, resets_table}
 use Rattle.walk.specs.Walked.{invariants_table, move_table}
 use mathlib.Core.Path.{ap, ◌∙◌}
-use Rattle.walk.proofs.route.moved.Goals as goal
+use Rattle.walk.proofs.along.moved.Goals as goal
 
 pub returns : goal.returns
 unfolding move_table

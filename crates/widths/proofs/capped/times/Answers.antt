@@ -1,7 +1,7 @@
 -- A quotient of the largest usize says whether the product is past it.
 use native.Mathlib.Omega.{arith}
 use Rattle.widths.proofs.Products.{mul_within, mul_past}
-use Rattle.widths.proofs.saturating.times.Goals as goal
+use Rattle.widths.proofs.capped.times.Goals as goal
 
 pub returns-then-a-eq1 : goal.returns-then-a-eq1
 returns-then-a-eq1 c =

@@ -1,9 +1,9 @@
--- A wait, then the invariants, as in `stayTable`.
+-- A wait, then the invariants, as in `stay_table`.
 use Rattle.expr.specs.Records.{point}
 use Rattle.weight_matrix.specs.Tables.{Table}
 use Rattle.walk.specs.Walked.{invariants_table, stay_table}
 use mathlib.Core.Path.{ap, ◌∙◌}
-use Rattle.walk.proofs.route.stay.Goals as goal
+use Rattle.walk.proofs.along.stay.Goals as goal
 
 pub returns : goal.returns
 unfolding stay_table

@@ -8,7 +8,7 @@ use lib.ListN.{length}
 use mathlib.Core.Path.{◌≡◌, ap, ◌∙◌}
 use native.Mathlib.Omega.{arith}
 use Rattle.walk.proofs.Steps.{size_is, walk_begun, walk_turn, walk_done}
-use Rattle.walk.proofs.route.walk.Goals as goal
+use Rattle.walk.proofs.along.walk.Goals as goal
 
 pub loop-k-init : goal.loop-k-init
 unfolding sheet_in

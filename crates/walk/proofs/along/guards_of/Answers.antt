@@ -5,11 +5,11 @@ use Rattle.guards.specs.Guards.{no_guard}
 use Rattle.walk.specs.Walked.{guard_table}
 use borrow.Author.Rules.{rules}
 use lib.ListN.{length, get_or}
-use mathlib.Core.Logic.{⊎_elim}
 use mathlib.Core.Path.{◌≡◌, refl, ◌∙◌}
 use native.Mathlib.Omega.{arith}
 use Rattle.walk.proofs.Steps.{size_is, guard_made, guard_kept, guards_turn, guards_done}
-use Rattle.walk.proofs.route.guards_of.Goals as goal
+use Rattle.walk.proofs.along.guards_of.Goals.{then-changes, else-changes}
+use Rattle.walk.proofs.along.guards_of.Goals as goal
 
 pub loop-k-init : goal.loop-k-init
 loop-k-init c =
@@ -42,13 +42,13 @@ loop-k-preserved c =
     let v = i.invariant in
     let g = get_or a.guards i.k no_guard in
     let next : c.if-changes.now ≡ guard_table i.now a.clocks (point a.v) g =
-    ⊎_elim
-    (λ w. w.4 ∙ guard_made i.now a.clocks (point a.v) g _ e.bound_at-e.ensures _ w.3.ensures)
-    (λ w.
-    w.1
-    ∙ guard_kept i.now a.clocks (point a.v) g _ e.bound_at-e.ensures _ _ _ at_i.at_most-i.ensures at_j.at_most-j.ensures
-    told.changes.ensures w.0.left)
-    c.if-changes.branch in (
+    elim c.if-changes.branch [
+      then-changes w ↦ w.now-is ∙ guard_made i.now a.clocks (point a.v) g _ e.bound_at-e.ensures _ w.guarded-next.ensures
+    | else-changes w ↦
+      w.now-is
+      ∙ guard_kept i.now a.clocks (point a.v) g _ e.bound_at-e.ensures _ _ _ at_i.at_most-i.ensures at_j.at_most-j.ensures
+      told.changes.ensures w.if-changes.false
+    ] in (
       v.0,
       v.1,
       guards_turn a.clocks (point a.v) a.guards a.count i.k _ _ _ _ (omega arith) v.2 next,

@@ -3,7 +3,7 @@ use Rattle.expr.specs.Records.{point}
 use Rattle.walk.specs.Walked.{guards_table}
 use lib.ListN.{length, take, drop}
 use mathlib.Core.Path.{◌≡◌}
-use Rattle.walk.proofs.route.guards_of.Given as goal
+use Rattle.walk.proofs.along.guards_of.Given as goal
 
 -- The loop's invariant: what is left of the guards takes the matrix to where all of them take it.
 abbrev pub invariant-loop-k : goal.invariant-loop-k
