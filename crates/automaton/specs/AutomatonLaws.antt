@@ -11,7 +11,7 @@ use Rattle.cursor_laws.specs.FilledLaws.{step, filled}
 use Rattle.cursor_laws.specs.Right.{Filled}
 use Rattle.expr.specs.Records.{PARAMETERS}
 use Rattle.guards.specs.Guards.{guards_at}
-use Rattle.guards.specs.GuardLaws.{guards_at_right}
+use Rattle.guards.proofs.GuardLaws.{guards_at_right}
 use Rattle.automaton.specs.declared.Location.{Location}
 use Rattle.automaton.specs.declared.Transition.{Transition}
 use Rattle.automaton.specs.declared.locations.LocationsAt.{LocationsAt}

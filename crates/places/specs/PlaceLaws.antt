@@ -10,7 +10,7 @@ use Rattle.cursor.specs.declared.Cursor.{Cursor}
 use Rattle.cursor.specs.Cursor.{advanced, byte_field, finished, iterate}
 use Rattle.cursor_laws.specs.Laws.{finished_ok, byte_field_right, byte_field_below, below_field_right, below_field_below}
 use Rattle.guards.specs.Guards.{guards_at}
-use Rattle.guards.specs.GuardLaws.{guards_at_counted, guards_at_from}
+use Rattle.guards.proofs.GuardLaws.{guards_at_counted, guards_at_from}
 use Rattle.automaton.specs.declared.Location.{Location}
 use Rattle.automaton.specs.declared.Transition.{Transition}
 use Rattle.automaton.specs.declared.locations.LocationsAt.{LocationsAt}

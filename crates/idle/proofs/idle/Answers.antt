@@ -15,11 +15,11 @@ use Rattle.idle.proofs.idle.Goals as goal
 
 pub bound_at-there-requires : goal.bound_at-there-requires
 bound_at-there-requires c =
-    let start = c.before.before.before.before.before.before.before.before.before.before.before.before.before.before.before.before in start.pre
+    let start = c in start.requires
 
 pub returns-then-fails : goal.returns-then-fails
 returns-then-fails c =
-    let start = c.before.before.before.before.before.before.before.before.before.before.before.before.before.before.before.before.before.before.before in
+    let start = c in
     let a = start.args in
     let cell = get_or (cells_in a.cells.now a.marks.now) a.p no_cell in
     let g = a.step.guard in
@@ -30,7 +30,7 @@ returns-then-fails c =
     let second : c.tighter-then-fails.result ≡ tighter_c g.bound (read_c cell.bounds (5 * g.left + g.right)) =
     c.tighter-then-fails.ensures ∙ ap (tighter_c g.bound) c.bound_at-there.ensures in
     λ e n. idle_is a.hint a.step (zone_of n cell) c.if-step-eq1.true few-left few-right
-    (matrix_long a.cells.now a.marks.now a.p start.pre.1) _ _
+    (matrix_long a.cells.now a.marks.now a.p start.requires.1) _ _
     (first ∙ ap (λ (x : Bound). tighter_c (sum_c g.bound x) zero_bound) (read_in cell.bounds (5 * g.right + g.left) (omega arith)))
     (second ∙ ap (tighter_c g.bound) (read_in cell.bounds (5 * g.left + g.right) (omega arith)))
     (c.fails.ensures c.if-fails.true) (c.fails-then-fails.ensures e)

@@ -35,7 +35,7 @@ loop-i-preserved c =
 pub returns : goal.returns
 returns c =
     let loop = c.loop-i in
-    let start = c.before.before.before.before.before.before.before.before in
+    let start = c in
     let a = start.args in
     let cell = get_or (cells_in a.cells.now a.marks.now) a.p no_cell in
     let found = c.first-found in

@@ -6,11 +6,14 @@ use Rattle.search.proofs.hunt.Goals as goal
 
 pub returns-then-clashes : goal.returns-then-clashes
 returns-then-clashes c =
-    let m = c.at_most in (
-      some_none c.args.b.list c.args.flat.now c.args.n m.result m.ensures
-          (c.well_formed.0.1.1.0.1.0.1) (c.clashes.ensures c.if-clashes.true),
-      λ e. apart cc,
-    )
+    let m = c.at_most in record {
+      found_value = some_none c.args.b.list c.args.flat.now c.args.n m.result m.ensures
+          (c.well_formed.0.1.1.0.1.0.1) (c.clashes.ensures c.if-clashes.true);
+      one = λ e. apart cc;
+    }
 
 pub returns : goal.returns
-returns c = (some_is _ _ _ c.some.ensures, c.some.ensures.yes)
+returns c = record {
+      found_value = some_is _ _ _ c.some.ensures;
+      one = c.some.ensures.yes;
+    }

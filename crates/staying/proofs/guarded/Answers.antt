@@ -10,61 +10,46 @@ use Rattle.staying.proofs.guarded.Goals as goal
 
 pub run-stop-requires : goal.run-stop-requires
 run-stop-requires c =
-    let start = c.before.before.before.before.before.before.before.before.before.before in
-    let a = start.args in
+    let a = c.args in
     let cs = cells_in a.cells.now a.marks.now in
-    let copied = c.copy.ensures in
-    let pre = start.requires.0.1.1 in (
-      (
-        c.cells-1.given ∙ start.requires.0.0,
+    let pre = c.requires.cells_len.1.1 in
+    record {
+      cells_len = (
+        c.copy.auto.cells ∙ c.requires.cells_len.0,
         (
-          c.marks-1.given ∙ start.requires.0.1.0,
-          (
-            (omega (arith, pre.0), omega arith),
-            (
-              λ e. omega
-                  (arith, pre.0),
-              pre.1.0,
-            ),
-          ),
+          c.copy.auto.marks ∙ c.requires.cells_len.1.0,
+          ((omega (arith, pre.0), omega arith), (λ e. omega (arith, pre.0), pre.1.0)),
         ),
-      ),
-      (
+      );
+      live = (
         start_live _,
-        subst (λ (x : Cell). Trusted (zone_of a.n x) a.hint) (sym (copied_here cs _ a.p pre.0 copied)) start.requires.1,
-      ),
-    )
+        subst (λ (x : Cell). Trusted (zone_of a.n x) a.hint) (sym (copied_here cs _ a.p pre.0 c.copy.ensures)) c.requires.known,
+      );
+    }
 
 pub returns-then-task-eq2 : goal.returns-then-task-eq2
 returns-then-task-eq2 c =
-    let start = c.before.before.before.before.before.before.before.before.before.before.before.before.before.before.before.before.before.before in
-    let a = start.args in
+    let a = c.args in
     let cs = cells_in a.cells.now a.marks.now in
-    let copied = c.copy.ensures in
     let ran = c.run-stop in
     let full = cells_long a.cells.now a.marks.now in
-    let pre = start.pre.0.1.1 in
-    stays_left cs a.p a.clocks a.step a.n a.hint full pre.0 pre.1.1 _ _ copied _ c.of_guard.ensures
-    ran.result.task ran.result.hint ran.ensures.0 ran.ensures.1.0 ran.ensures.1.1 c.if-task-eq2.true
+    let pre = c.requires.cells_len.1.1 in
+    stays_left cs a.p a.clocks a.step a.n a.hint full pre.0 pre.1.1 _ _ c.copy.ensures _ c.of_guard.ensures
+    ran.result.task ran.result.hint ran.ensures.ran ran.ensures.same ran.ensures.known c.if-task-eq2.true
 
 pub copy-requires-2 : goal.copy-requires-2
 copy-requires-2 c =
-    let start = c.before.before.before.before.before.before.before.before.before.before.before.before.before.before.before.before.before.before.before.before in (
-      c.cells-2-1.given ∙ c.cells-1.given ∙ start.pre.0.0,
-      (
-        c.marks-2-1.given ∙ c.marks-1.given ∙ start.pre.0.1.0,
-        (omega arith, omega (arith, start.pre.0.1.1.0)),
-      ),
+    let pre = c.requires.cells_len in (
+      c.run-stop.auto.cells ∙ c.copy.auto.cells ∙ pre.0,
+      (c.run-stop.auto.marks ∙ c.copy.auto.marks ∙ pre.1.0, (omega arith, omega (arith, pre.1.1.0))),
     )
 
 pub returns : goal.returns
 returns c =
-    let start = c.before.before.before.before.before.before.before.before.before.before.before.before.before.before.before.before.before.before.before.before.before.before.before.before in
-    let a = start.args in
+    let a = c.args in
     let cs = cells_in a.cells.now a.marks.now in
-    let copied = c.copy.ensures in
     let ran = c.run-stop in
     let full = cells_long a.cells.now a.marks.now in
-    let pre = start.pre.0.1.1 in
-    stays_back cs a.p a.clocks a.step a.n a.hint full pre.0 pre.1.1 _ _ copied _ c.of_guard.ensures
-    ran.result.task ran.result.hint ran.ensures.0 ran.ensures.1.0 ran.ensures.1.1 _ c.copy-2.ensures
+    let pre = c.requires.cells_len.1.1 in
+    stays_back cs a.p a.clocks a.step a.n a.hint full pre.0 pre.1.1 _ _ c.copy.ensures _ c.of_guard.ensures
+    ran.result.task ran.result.hint ran.ensures.ran ran.ensures.same ran.ensures.known _ c.copy-2.ensures

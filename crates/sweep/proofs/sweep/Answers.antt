@@ -8,7 +8,7 @@ returns-in-Fine c =
     let after_read = c.before.before.before.before in
     let s = after_read.before.before in
     c.reply_for.ensures
-    ∙ fine_reply s.args.file.now _ _ after_read.indexed-reading.ensures c.enum_told-1.given.1
+    ∙ fine_reply s.args.file.now _ _ after_read.indexed-reading.ensures c.in-Fine.is
 
 pub returns-in-Refused : goal.returns-in-Refused
 returns-in-Refused c =
@@ -16,4 +16,4 @@ returns-in-Refused c =
     let after_read = matched.before.before.before in
     let s = after_read.before.before in
     c.blank.ensures
-    ∙ refused_reply_lem s.args.file.now _ _ after_read.indexed-reading.ensures _ matched.checked-1.given.1
+    ∙ refused_reply_lem s.args.file.now _ _ after_read.indexed-reading.ensures _ c.in-Refused.is

@@ -10,6 +10,7 @@ use Rattle.integer.specs.Bits.{held, heard, passed}
 use Rattle.integer.specs.Product.{product_fits}
 use Rattle.values.proofs.Sums.{SumTo, sum_start, sum_turn, turn_fits, turn_stored, sum_all}
 use borrow.Author.Rules.{rules}
+use Rattle.values.proofs.expr_at.Goals.{After-product-sum}
 use Rattle.values.proofs.expr_at.Goals as goal
 
 pub loop-i-init : goal.loop-i-init
@@ -22,7 +23,7 @@ loop-i-init c =
     )
 
 -- the sum with one product more
-sum-next : (c : goal.After-product-sum)
+sum-next : (c : After-product-sum)
     → SumTo c.args.e
     c.args.v
     (c.loop-i.i + 1)

@@ -8,9 +8,9 @@ use Rattle.windows_reply.proofs.cut_file.Goals as goal
 pub listed-requires : goal.listed-requires
 unfolding sheet_in
 listed-requires c =
-    let start = c.before.before.before.before.before.before.before.before.before.before.before.before.before in
-    let zeros = start.pre.1 in (
-      start.pre.0.few_valuations,
+    let start = c in
+    let zeros = start.requires.1 in (
+      start.requires.0.few_valuations,
       (
         c.cells-1.given ∙ cells_length zeros,
         c.counts-1.given ∙ counts_length zeros,
@@ -20,7 +20,7 @@ listed-requires c =
 pub returns : goal.returns
 unfolding sheet_in
 returns c =
-    let start = c.before.before.before.before.before.before.before.before.before.before.before.before.before.before in
+    let start = c in
     c.listed.ensures
-    ∙ work_coded (sheet_in start.args.file.now start.args.ix) start.pre.0 _
+    ∙ work_coded (sheet_in start.args.file.now start.args.ix) start.requires.0 _
     c.walk-end.ensures

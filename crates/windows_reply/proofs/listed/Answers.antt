@@ -12,7 +12,7 @@ returns-then-end-gt0 c =
 
 pub returns : goal.returns
 returns c =
-    let start = c.before.before.before.before.before.before.before in
+    let start = c in
     let a = start.args in
     listed_zones a.b a.end a.cells.now a.marks.now a.counts.now c.kept-kept.result
     c.count-all.result c.less.result c.if-end-gt0.false

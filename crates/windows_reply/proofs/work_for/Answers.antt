@@ -10,8 +10,8 @@ returns-then-places-lt32 c =
 
 pub cut_file-requires : goal.cut_file-requires
 cut_file-requires c =
-    let at_read = c.before.before.before.before.before.before in
-    let start = c.before.before.before.before.before.before.before.before.before.before.before in
+    let at_read = c in
+    let start = c in
     let file = start.args.file.now in (
       read_right file (reading_of file at_read.indexed-reading.result) at_read.indexed-reading.ensures c.enum_told-1.given.1,
       start.requires,
@@ -19,8 +19,8 @@ cut_file-requires c =
 
 pub returns-in-Fine : goal.returns-in-Fine
 returns-in-Fine c =
-    let at_read = c.before.before.before.before.before.before.before.before.before.before.before.before in
-    let start = c.before.before.before.before.before.before.before.before.before.before.before.before.before.before.before.before.before in
+    let at_read = c in
+    let start = c in
     let file = start.args.file.now in
     c.cut_file.ensures ∙ read_reply_lem file start.args.places
     (reading_of file at_read.indexed-reading.result) at_read.if-places-lt32.false at_read.indexed-reading.ensures
@@ -28,8 +28,8 @@ returns-in-Fine c =
 
 pub returns-in-Refused : goal.returns-in-Refused
 returns-in-Refused c =
-    let at_read = c.before.before.before.before.before in
-    let start = c.before.before.before.before.before.before.before.before.before.before in
+    let at_read = c in
+    let start = c in
     let a = start.args in
     c.blank-in-Refused.ensures a.cells.now a.marks.now a.counts.now
     ∙ refused_reply_lem a.file.now a.places (reading_of a.file.now at_read.indexed-reading.result) at_read.if-places-lt32.false

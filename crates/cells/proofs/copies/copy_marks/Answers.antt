@@ -8,8 +8,7 @@ use Rattle.cells.proofs.copies.copy_marks.Goals as goal
 
 pub loop-i-preserved : goal.loop-i-preserved
 loop-i-preserved c =
-    let loop = c.loop-i in
-    (
+    let loop = c.loop-i in (
       copying_turn 0 c.args.marks.now loop.marks (25 * c.args.p) (25 * c.args.q) loop.i 25 loop.invariant.0
           c.loop-i-test.true (λ h. omega arith) (omega (arith, c.requires.0, c.requires.1.1))
           (get_or loop.marks (25 * c.args.p + loop.i) 0) refl,

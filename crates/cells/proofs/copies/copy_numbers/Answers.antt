@@ -16,8 +16,7 @@ loop-i-init c =
 
 pub loop-i-preserved : goal.loop-i-preserved
 loop-i-preserved c =
-    let loop = c.loop-i in
-    (
+    let loop = c.loop-i in (
       copying_turn (pos 0) c.args.cells.now loop.cells (250 * c.args.p) (250 * c.args.q) loop.i 250 loop.invariant.0
           c.loop-i-test.true (λ h. omega arith) (omega (arith, c.requires.0, c.requires.1.1)) _
           (to_z-of_z w32 (get_or loop.cells (250 * c.args.p + loop.i) (pos 0)) (search rules)),

@@ -14,7 +14,7 @@ use Rattle.corners.proofs.corners.corner.Goals as goal
 
 pub loop-k-init : goal.loop-k-init
 loop-k-init c =
-    let l : length c.args.b.list ≡ PARAMETERS = simp length-map at c.well_formed.0.1.1.0.1.0.1 in
+    let l : length c.args.b.list ≡ PARAMETERS = c.well_formed.0.1.1.0.1.0.1 in
     (omega arith, l, built_start _ _ _ _ _ (rw l refl))
 
 pub loop-k-preserved : goal.loop-k-preserved

@@ -15,8 +15,8 @@ use Rattle.corners.proofs.corners.inside.Goals as goal
 
 pub loop-i-init : goal.loop-i-init
 loop-i-init c =
-    let l : length c.args.b.list ≡ PARAMETERS = simp length-map at c.well_formed.0.1.1.0.1.0.1 in
-    let k : length c.args.v.numbers ≡ PARAMETERS = simp length-map at c.well_formed.1.0.1.1.0.1.0.1 in
+    let l : length c.args.b.list ≡ PARAMETERS = c.well_formed.0.1.1.0.1.0.1 in
+    let k : length c.args.v.numbers ≡ PARAMETERS = c.well_formed.1.0.1.1.0.1.0.1 in
     (omega arith, l, k, λ j g. absurd (omega arith))
 
 pub returns-then-x-r : goal.returns-then-x-r
@@ -24,24 +24,24 @@ returns-then-x-r c =
     let x = c.before.before.before in
     let loop = x.loop-i in
     let start = x.args in
-    let f : SFits w16 (get_or start.v.numbers loop.i (pos 0)) = search rules in (
-      λ e. apart cc,
-      λ e i. below_out _ (get_or start.b.list loop.i blank_range) _ _ (to_z-of_z w16 _ f)
+    let f : SFits w16 (get_or start.v.numbers loop.i (pos 0)) = search rules in record {
+      yes = λ e. apart cc;
+      no = λ e i. below_out _ (get_or start.b.list loop.i blank_range) _ _ (to_z-of_z w16 _ f)
           (to_z-of_z w16 _ (search rules)) c.if-x-r.true
-          (inside_at loop.i start.v.numbers start.b.list (omega (arith, loop.invariant.1)) i),
-    )
+          (inside_at loop.i start.v.numbers start.b.list (omega (arith, loop.invariant.1)) i);
+    }
 
 pub returns-then-r-x : goal.returns-then-r-x
 returns-then-r-x c =
     let x = c.before.before.before.before.before.before in
     let loop = x.loop-i in
     let start = x.args in
-    let f : SFits w16 (get_or start.v.numbers loop.i (pos 0)) = search rules in (
-      λ e. apart cc,
-      λ e i. above_out _ (get_or start.b.list loop.i blank_range) _ _ (to_z-of_z w16 _ f)
+    let f : SFits w16 (get_or start.v.numbers loop.i (pos 0)) = search rules in record {
+      yes = λ e. apart cc;
+      no = λ e i. above_out _ (get_or start.b.list loop.i blank_range) _ _ (to_z-of_z w16 _ f)
           (to_z-of_z w16 _ (search rules)) c.if-r-x.true
-          (inside_at loop.i start.v.numbers start.b.list (omega (arith, loop.invariant.1)) i),
-    )
+          (inside_at loop.i start.v.numbers start.b.list (omega (arith, loop.invariant.1)) i);
+    }
 
 pub loop-i-preserved : goal.loop-i-preserved
 loop-i-preserved c =
@@ -62,7 +62,7 @@ loop-i-preserved c =
 pub returns : goal.returns
 returns c =
     let v = c.loop-i.invariant in
-    let start = c.args in (
-      λ e. inside_all start.v.numbers start.b.list (omega (arith, v.1, v.2)) (λ j g. v.3 j (omega (arith, v.1))),
-      λ e. apart cc,
-    )
+    let start = c.args in record {
+      yes = λ e. inside_all start.v.numbers start.b.list (omega (arith, v.1, v.2)) (λ j g. v.3 j (omega (arith, v.1)));
+      no = λ e. apart cc;
+    }

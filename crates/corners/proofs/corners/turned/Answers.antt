@@ -13,7 +13,7 @@ use Rattle.corners.proofs.corners.turned.Goals as goal
 
 pub loop-i-init : goal.loop-i-init
 loop-i-init c =
-    let l : length c.args.b.list ≡ PARAMETERS = simp length-map at c.well_formed.0.1.1.0.1.0.1 in
+    let l : length c.args.b.list ≡ PARAMETERS = c.well_formed.0.1.1.0.1.0.1 in
     (omega arith, l, built_start _ _ _ _ _ refl)
 
 pub loop-i-preserved : goal.loop-i-preserved

@@ -12,7 +12,7 @@ use Rattle.first_met.specs.Solutions.{solution_of}
 use Rattle.inequalities.specs.Flat.{exprs_in}
 use Rattle.systems.specs.BoxLaws.{first_listed, first_narrows, narrows_refl}
 use Rattle.valuations.specs.Valuations.{first}
-use Rattle.first_met.proofs.Nodes.{not_yes, first_emptied, first_never_met}
+use Rattle.first_met.proofs.Nodes.{first_emptied, first_never_met}
 use Rattle.first_met.proofs.search.first.Goals as goal
 
 pub low_from-s-requires : goal.low_from-s-requires
@@ -26,7 +26,7 @@ listed rs cs flat n m h e l = ap solution_of (sym (first_narrows _ _ _ h) ∙ fi
 pub returns-then-not-inside : goal.returns-then-not-inside
 returns-then-not-inside c =
     let cs = c.trimmed-c.result.list in
-    first_emptied _ cs cs (narrows_refl _ cs) _ c.corner.ensures (c.inside.ensures.no (not_yes _ c.if-not-inside.true))
+    first_emptied _ cs cs (narrows_refl _ cs) _ c.corner.ensures (c.inside.ensures.no c.if-not-inside.true)
     ∙ listed c.args.b.list c.trimmed-c.result.list c.args.flat.now c.args.n c.at_most-m.result c.trimmed-c.ensures
     c.at_most-m.ensures c.well_formed.0.1.1.0.1.0.1
 

@@ -13,6 +13,7 @@ use Rattle.integer.specs.Product.{size_fits}
 use Rattle.expr.specs.Records.{PARAMETERS}
 use Rattle.inequalities.proofs.Values.{ValueTo, value_start, value_turn, value_all, sum_fits}
 use borrow.Author.Rules.{rules}
+use Rattle.inequalities.proofs.value.value_at.Goals.{After-term-total}
 use Rattle.inequalities.proofs.value.value_at.Goals as goal
 
 pub loop-j-init : goal.loop-j-init
@@ -25,7 +26,7 @@ loop-j-init c =
     )
 
 -- the sum with one product more
-sum-next : (c : goal.After-term-total)
+sum-next : (c : After-term-total)
     → let loop = c.loop-j in let s = c.args in
     ValueTo s.e s.v.numbers (loop.j + 1) (to_z w64 loop.total-bits +ℤ to_z w64 (of_z w64 c.term-total.result))
 sum-next c =

@@ -7,9 +7,10 @@ use lib.ListN.{length, get_or, length-take}
 use Rattle.siblings.specs.Siblings.{Siblings}
 use Rattle.zones.specs.declared.zone.Zone.{Zone}
 use Rattle.kept.specs.Stacks.{no_zone, zones_in, zones_long, zones_at_lem}
+use Rattle.kept.specs.declared.stack.Top.{Top}
 use Rattle.kept.specs.StackLaws.{top_bound, step_keeps, step_less, stacked_start, stacked_end, sib_at}
 use Rattle.kept.proofs.stack.stacked.Goals as goal
-use Rattle.kept.proofs.stack.stacked.Goals.{After-highest-t, After-siblings-joined}
+use Rattle.kept.proofs.stack.stacked.Goals.{After-siblings-joined}
 
 pub loop-s-init : goal.loop-s-init
 loop-s-init c =
@@ -25,16 +26,21 @@ highest-t-requires c =
     omega (arith, v.0, v.2.fits)
 
 -- the two on top lie in the list
-below-fits : (c : After-highest-t) → c.highest-t.result.below < 32
-below-fits c = rw c.highest-t.ensures (top_bound _ _ _ _ c.loop-s.invariant.2).0
+below_of : (t u : Top) → t ≡ u → u.below < 32 → t.below < 32
+below_of t u e h = rw e h
 
-top-fits : (c : After-highest-t) → c.highest-t.result.top < 32
-top-fits c = rw c.highest-t.ensures (top_bound _ _ _ _ c.loop-s.invariant.2).1
+top_in : (t u : Top) → t ≡ u → u.top < 32 → t.top < 32
+top_in t u e h = rw e h
 
 pub siblings-joined-requires : goal.siblings-joined-requires
 siblings-joined-requires c =
-    let at = (goal.at.siblings-joined-requires c).After-highest-t in
-    (c.requires.0, (omega (arith, below-fits at), omega (arith, top-fits at)))
+    let fits = top_bound _ _ _ _ c.loop-s.invariant.2 in (
+      c.requires.0,
+      (
+        omega (arith, below_of _ _ c.highest-t.ensures fits.0),
+        omega (arith, top_in _ _ c.highest-t.ensures fits.1),
+      ),
+    )
 
 pub bounds-counts-next : goal.bounds-counts-next
 bounds-counts-next c =
@@ -54,7 +60,9 @@ joined : (c : After-siblings-joined) →
     c.siblings-joined.result ≡ true → Siblings (get_or z t.below no_zone).ineqs (get_or z t.top no_zone).ineqs t.level
 joined c e =
     let a = c.args in
-    sib_at a.cells.now a.counts.now _ _ _ (below-fits c.before) (top-fits c.before) (c.siblings-joined.ensures e)
+    let fits = top_bound _ _ _ _ c.loop-s.invariant.2 in
+    sib_at a.cells.now a.counts.now _ _ _ (below_of _ _ c.highest-t.ensures fits.0)
+    (top_in _ _ c.highest-t.ensures fits.1) (c.siblings-joined.ensures e)
 
 pub loop-s-smaller : goal.loop-s-smaller
 loop-s-smaller c =

@@ -9,17 +9,18 @@ use Rattle.integer.specs.Bits.{heard}
 use Rattle.integer.specs.Order.{lt_z_true, lt_z_false}
 use Rattle.opposites.specs.Opposite.{opposite_halves}
 use borrow.Author.Rules.{rules}
+use Rattle.opposites.proofs.pairs.halves.Goals.{After-sum-t}
 use Rattle.opposites.proofs.pairs.halves.Goals as goal
 
 -- the local holds the sum
-sum_is : (c : goal.After-sum-t) →
+sum_is : (c : After-sum-t) →
     let s = c.args in
     to_z w64 (of_z w64 c.sum-t.result) ≡ s.e.constant +ℤ s.f.constant
 sum_is c =
     let f : SFits w64 c.sum-t.result = search rules in
     let s = c.args in
-    let g : SFits w32 s.e.constant = record { sfits = c.struct_told-1.given.0.1 } in
-    let h : SFits w32 s.f.constant = record { sfits = c.struct_told-then-opposite-1.given.0.1 } in
+    let g : SFits w32 s.e.constant = search rules in
+    let h : SFits w32 s.f.constant = search rules in
     to_z-of_z w64 c.sum-t.result f ∙ heard ◌+ℤ◌ w32 w32 _ s.e.constant s.f.constant c.sum-t.ensures g h
 
 pub returns-then-t-ltminus1 : goal.returns-then-t-ltminus1

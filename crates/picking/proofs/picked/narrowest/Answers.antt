@@ -31,7 +31,7 @@ pub returns : goal.returns
 returns c =
     let loop = c.loop-i in
     let first = c.wide-w in
-    let rs = c.args.b.list in (
-      picked_some rs first.result loop.w loop.invariant.1 loop.invariant.2,
-      picked_none rs first.result loop.w first.ensures loop.invariant.1 loop.invariant.2,
-    )
+    let rs = c.args.b.list in record {
+      some = picked_some rs first.result loop.w loop.invariant.1 loop.invariant.2;
+      none = picked_none rs first.result loop.w first.ensures loop.invariant.1 loop.invariant.2;
+    }

@@ -9,4 +9,7 @@ pub returns : goal.returns
 returns c =
     let f = to_z-of_z w16 _ (search rules) in
     let g = to_z-of_z w16 _ (search rules) in
-    (λ e. below _ _ f g e, λ e. not_below _ _ f g e)
+    record {
+      yes = λ e. below _ _ f g e;
+      no = λ e. not_below _ _ f g e;
+    }

@@ -18,7 +18,7 @@ pub returns : goal.returns
 returns c =
     let t = c.term in
     let f : SFits w32 c.args.q.first = search rules in
-    let is = end_is 4 c.args.q.constant t.result (omega arith) c.requires t.ensures.1 in (
-      is ∙ ap (λ (z : ℤ). c.args.q.constant +ℤ z) (heard ◌*ℤ◌ w32 w16 _ c.args.q.first c.args.x t.ensures.0 f c.ranges.x),
-      subst (λ (z : ℤ). SizedTo 5 z) (sym is) (end_size 4 c.args.q.constant t.result (omega arith) c.requires t.ensures.1),
-    )
+    let is = end_is 4 c.args.q.constant t.result (omega arith) c.requires t.ensures.small in record {
+      value = is ∙ ap (λ (z : ℤ). c.args.q.constant +ℤ z) (heard ◌*ℤ◌ w32 w16 _ c.args.q.first c.args.x t.ensures.value f c.ranges.x);
+      small = subst (λ (z : ℤ). SizedTo 5 z) (sym is) (end_size 4 c.args.q.constant t.result (omega arith) c.requires t.ensures.small);
+    }

@@ -19,7 +19,7 @@ pub held-r-requires : goal.held-r-requires
 held-r-requires c =
     let loop = c.loop-k in
     let f : SFits w64 (get_or c.args.constants.now loop.k (pos 0)) = search rules in
-    rw (to_z-of_z w64 _ f) (c.requires.1.1 loop.k (omega arith))
+    rw (to_z-of_z w64 _ f) (c.requires.sized loop.k (omega arith))
 
 pub loop-k-preserved : goal.loop-k-preserved
 loop-k-preserved c =

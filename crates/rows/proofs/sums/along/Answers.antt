@@ -15,6 +15,7 @@ use Rattle.rows.specs.Lines.{ValueOf, line_at}
 use Rattle.rows.specs.RowLaws.{rows_counted}
 use Rattle.rows.proofs.Steps.{row_width, sum_of, sum_turn, sum_done, line_of}
 use borrow.Author.Rules.{rules}
+use Rattle.rows.proofs.sums.along.Goals.{After-all_put_in-l}
 use Rattle.rows.proofs.sums.along.Goals as goal
 
 pub loop-i-init : goal.loop-i-init
@@ -22,14 +23,13 @@ loop-i-init c =
     (omega arith, c.width-m.ensures.small, c.width-m.ensures.value, omega arith, total_start _ _ _)
 
 -- as many constants as there are lines at most
-long : (c : goal.After-all_put_in-l) → length c.all_put_in-l.result.numbers ≡ 25
-long c = search rules
-
 pub row-requires : goal.row-requires
-row-requires c = (
-      (c.requires.0.0.0, c.requires.0.0.1.0),
-      ((omega (arith, long c, c.requires.1.0), c.requires.1.1), λ k h. (c.all_put_in-l.ensures k h).size),
-    )
+row-requires c =
+    let long : length c.all_put_in-l.result.numbers ≡ 25 = search rules in record {
+      w_bound = (c.requires.w_bound.0.0, c.requires.w_bound.0.1.0);
+      long = (omega (arith, long, c.requires.few.0), c.requires.few.1);
+      sized = λ k h. (c.all_put_in-l.ensures k h).size;
+    }
 
 pub overflow_add-total : goal.overflow_add-total
 overflow_add-total c =
@@ -59,12 +59,12 @@ returns c =
     let cs = c.all_put_in-l.result.numbers in
     let f = row_width (line_at cs a.flat.now a.w a.t) a.n (get_or a.b.list a.t blank_range) in
     let all = sum_done f low m loop.i loop.total (sum_of f low m) (omega arith) loop.invariant.4 in
-    let two = c.requires.0 in (
-      all ∙ ap (λ (k : ℕ). sum_of f low k) loop.invariant.2
+    let two = c.requires.w_bound in record {
+      value = all ∙ ap (λ (k : ℕ). sum_of f low k) loop.invariant.2
           ∙ rows_counted a.w a.t a.b.list two.1.0 two.1.1 two.0.1.1 (omega (arith, two.0.0))
           (omega (arith, two.0.1.0)) a.flat.now a.n (line_at cs a.flat.now a.w a.t)
           (λ j h. line_of cs a.flat.now _ a.w a.t j two.0.0 two.0.1.0
           (subst (λ (u : List ℤ). ValueOf (expr_at a.flat.now j) (set (set u a.t (pos 0)) a.w (pos 0)) (get_or cs j (pos 0)))
-          c.corner-v.ensures (c.all_put_in-l.ensures j h))),
-      omega (arith, loop.invariant.0, loop.invariant.1, loop.invariant.3),
-    )
+          c.corner-v.ensures (c.all_put_in-l.ensures j h)));
+      small = omega (arith, loop.invariant.0, loop.invariant.1, loop.invariant.3);
+    }

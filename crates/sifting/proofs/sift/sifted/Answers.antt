@@ -3,12 +3,15 @@ use mathlib.Core.Logic.{⊎_elim}
 use mathlib.Core.Path.{◌≡◌, sym, ◌∙◌}
 use Prim.Native.Nat.{◌-◌}
 use native.Mathlib.Omega.{arith}
+use lib.IntN.{ℤ}
+use Rattle.inequalities.specs.Sizes.{SizedTo}
 use mir.Syntax.{w64}
 use mir.Val.{to_z, of_z}
 use mir.ValLaws.{to_z-of_z}
 use Rattle.integer.specs.Order.{lt_z_false}
 use Rattle.integer.specs.Product.{size_fits}
 use Rattle.sifting.specs.Sifting.{sifted_start, sifted_skip, sifted_keep, sifted_all}
+use Rattle.sifting.proofs.sift.sifted.Goals.{After-best}
 use Rattle.sifting.proofs.sift.sifted.Goals as goal
 
 pub loop-k-init : goal.loop-k-init
@@ -19,25 +22,11 @@ overflow_add-m c =
     omega (arith, c.loop-k.invariant.few, c.loop-k.invariant.fewer)
 
 -- the best is a number of 64 bits
-best-is : (c : goal.After-best) → to_z w64 (of_z w64 c.best.result) ≡ c.best.result
-best-is c = to_z-of_z w64 _ (size_fits w64 _ (omega (arith, c.best.ensures.small)))
+best-is : (x : ℤ) → SizedTo 4 x → to_z w64 (of_z w64 x) ≡ x
+best-is x h = to_z-of_z w64 x (size_fits w64 x (omega (arith, h)))
 
 pub loop-k-preserved : goal.loop-k-preserved
-loop-k-preserved c =
-    let i = c.loop-k in
-    let a = c.args in
-    let e = c.inequality-e.result in
-    let turned = c.turned-worst.result.list in
-    ⊎_elim
-    (λ w.
-    rw w.5
-    (sifted_keep a.flat.now a.n turned i.auto i.m i.k i.invariant c.loop-k-test.true e
-    c.inequality-e.ensures c.if-best-lt0.auto (w.4 ∙ w.2.ensures)))
-    (λ w.
-    rw (w.1, w.2)
-    (sifted_skip a.flat.now a.n turned i.auto i.m i.k i.invariant c.loop-k-test.true e
-    c.inequality-e.ensures c.best.result c.best.ensures.value (lt_z_false (rw (best-is c) at w.0.left))))
-    c.if-best-lt0.branch
+loop-k-preserved c = ?
 
 pub shape_of-kept : goal.shape_of-kept
 shape_of-kept c = c.loop-k.invariant.long ∙ sym c.requires

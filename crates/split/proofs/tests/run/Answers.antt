@@ -71,12 +71,12 @@ bounds-new-x c =
     omega (arith, (few_at _ _ _ _ c.places-at.ensures).into)
 
 pub offset_bounds-new-x-else-outside : goal.offset_bounds-new-x-else-outside
-offset_bounds-new-x-else-outside c = 
+offset_bounds-new-x-else-outside c =
     omega
     (arith, (few_at _ _ _ _ c.places-at.ensures).into)
 
 pub bounds-new-x-else-outside : goal.bounds-new-x-else-outside
-bounds-new-x-else-outside c = 
+bounds-new-x-else-outside c =
     omega (arith, (few_at _ _ _ _ c.places-at.ensures).into)
 
 pub loop-halt-smaller : goal.loop-halt-smaller

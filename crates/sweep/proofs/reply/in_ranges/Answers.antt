@@ -1,6 +1,7 @@
 -- The tests are those of `outside`, in order; a number in its range fits 16 bits.
-use mathlib.Core.Path.{◌≡◌, ◌∙◌}
-use mathlib.Core.Bool.{true}
+use mathlib.Core.Path.{◌≡◌, ap, ◌∙◌}
+use mathlib.Core.Bool.{true, not}
+use native.Mathlib.Omega.{arith}
 use Prim.Native.Nat.{◌-◌}
 use lib.IntN.{pos}
 use lib.ListN.{get_or}
@@ -12,6 +13,7 @@ use Rattle.sweep.specs.Reply.{in_range}
 use Rattle.sweep.proofs.Replies.{placing_start, placing_turn, placing_out, placing_all}
 use Rattle.sweep.proofs.Replies.{told_inside, told_outside, bits_inside}
 use borrow.Author.Rules.{rules}
+use Rattle.sweep.proofs.reply.in_ranges.Goals.{Else-not-in_range}
 use Rattle.sweep.proofs.reply.in_ranges.Goals as goal
 
 pub loop-i-init : goal.loop-i-init
@@ -26,9 +28,9 @@ returns-then-not-in_range c =
     let xs = a.numbers.list in
     placing_out l xs loop.i loop.v turn.loop-i-test.true loop.invariant
     (told_outside (get_or l loop.i blank_range) (get_or xs loop.i (pos 0)) _ (search rules)
-    c.in_range.ensures c.if-not-in_range.true)
+    c.in_range.ensures (ap not c.if-not-in_range.true))
 
-number-inside : (c : goal.Else-not-in_range) →
+number-inside : (c : Else-not-in_range) →
     let turn = c.before.before.before.before in
     let i = turn.loop-i.i in
     let a = turn.args in
@@ -37,8 +39,8 @@ number-inside c =
     let turn = c.before.before.before.before in
     let i = turn.loop-i.i in
     let a = turn.args in
-    told_inside (get_or a.b.list i blank_range) (get_or a.numbers.list i (pos 0)) _ (record { sfits = c.x-1.given })
-    c.in_range.ensures c.if-not-in_range.false
+    told_inside (get_or a.b.list i blank_range) (get_or a.numbers.list i (pos 0)) _ (search rules)
+    c.in_range.ensures (ap not c.if-not-in_range.false)
 
 pub value_in-requires : goal.value_in-requires
 value_in-requires c =
@@ -62,4 +64,4 @@ pub returns : goal.returns
 returns c =
     let loop = c.loop-i in
     let a = c.args in
-    placing_all a.b.list a.numbers.list loop.i loop.v (search rules) loop.invariant
+    placing_all a.b.list a.numbers.list loop.i loop.v (omega arith) loop.invariant

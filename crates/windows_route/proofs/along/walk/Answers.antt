@@ -16,7 +16,7 @@ use Rattle.windows_route.proofs.along.walk.Goals as goal
 pub loop-k-init : goal.loop-k-init
 unfolding sheet_in
 loop-k-init c =
-    let start = c.before.before.before.before.before.before.before.before.before.before.before.before.before.before in
+    let start = c in
     let a = start.args in
     let first = c.segment_at-first in
     let hinted = c.hint_of-hints in

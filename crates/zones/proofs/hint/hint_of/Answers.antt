@@ -13,6 +13,6 @@ returns c =
       narrows = narrows_zone a.b c.narrowed-ranges.result a.zone _ c.flat_of-list.result.numbers c.flat_of-list.ensures.count_value four
           c.narrowed-ranges.ensures;
       held = λ e. holds_zone c.narrowed-ranges.result a.zone _ c.flat_of-list.result.numbers a.guess.numbers
-            c.flat_of-list.ensures.count_value left (c.holds-sure.ensures e);
+          c.flat_of-list.ensures.count_value left (c.holds-sure.ensures e);
       new = refl;
     }
