@@ -3,11 +3,11 @@ use Rattle.std.specs.Prelude.{◌≡◌, List, true, ℕ, ◌≤◌, ◌<◌, �
 use Rattle.std.proofs.Common.{sym, ap, subst, ◌∙◌, arith}
 use Rattle.coded.specs.CodedRead.{entry_coded}
 use Rattle.cutting.specs.Cutting as cutting
-use Rattle.cutting.specs.DisjointProof.{zones_apart}
+use Rattle.cutting.proofs.DisjointProof.{zones_apart}
 use Rattle.cutting.specs.Held.{holds, at, HeldBy}
 use Rattle.expr.specs.Ranges.{Inside}
 use Rattle.expr.specs.Records.{range_list}
-use Rattle.reading.specs.Accepted.{read_well_formed}
+use Rattle.reading.proofs.Accepted.{read_well_formed}
 use Rattle.soundness.specs.TheoremsProof.{matrices_agree, zones_tightest, held_iff_run}
 use Rattle.sweep.specs.Proofs.{reply_entry, sweep_right}
 use Rattle.sweep.specs.Theorems.{sheet_of}

@@ -11,8 +11,8 @@ use Rattle.cutting.specs.Cutting.{Listing, listed, refused, start_b, zones_of}
 use Rattle.cutting.specs.Cutting as cutting
 use Rattle.coded.specs.CodedRead.{holds_coded}
 use Rattle.cutting.specs.Held.{InRanges, holds}
-use Rattle.cutting.specs.NumberedProof.{some_number, zones_numbered}
-use Rattle.cutting.specs.ShapeProof.{zones_shaped}
+use Rattle.cutting.proofs.NumberedProof.{some_number, zones_numbered}
+use Rattle.cutting.proofs.ShapeProof.{zones_shaped}
 use Rattle.expr.specs.Ranges.{Inside}
 use Rattle.expr.specs.Records.{range_list}
 use Rattle.reading.specs.File.{Fine, read_of}

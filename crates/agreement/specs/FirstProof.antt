@@ -7,14 +7,14 @@ use Rattle.integer.specs.Apart.{apart}
 use Rattle.integer.specs.Order.{≤ℤ-antisym}
 use Rattle.cutting.specs.Cutting as cutting
 use Rattle.cutting.specs.FirstHeld.{first_held, StartsFirst}
-use Rattle.cutting.specs.FirstHeldProof.{zones_first}
+use Rattle.cutting.proofs.FirstHeldProof.{zones_first}
 use Rattle.cutting.specs.Held.{InRanges}
 use Rattle.coded.specs.CodedTests.{inside_length}
 use Rattle.expr.specs.Ranges.{In, Inside}
 use Rattle.expr.specs.Records.{PARAMETERS, places_from, blank_range, point, range_list, valuation_of}
 use Rattle.expr.specs.RecordLaws.{places_same}
 use Rattle.expr.specs.declared.range.Range.{Range}
-use Rattle.reading.specs.Accepted.{read_well_formed}
+use Rattle.reading.proofs.Accepted.{read_well_formed}
 use Rattle.reading.specs.File.{Fine, read_of}
 use Rattle.valuations.specs.First.{Earlier}
 use Rattle.sheet.specs.WellFormed.{WellFormed}

@@ -8,9 +8,9 @@ use Rattle.answers.specs.Numbers.{numbered}
 use Rattle.answers.specs.declared.Numbered.{Numbered}
 use Rattle.cutting.specs.Cutting.{Listing, listed, refused, zones_of, SevenOrEight}
 use Rattle.cutting.specs.Cutting as cutting
-use Rattle.cutting.specs.NumberedProof.{zones_numbered}
+use Rattle.cutting.proofs.NumberedProof.{zones_numbered}
 use Rattle.reading.specs.File.{Fine, read_of, OfFile}
-use Rattle.reading.specs.Accepted.{read_numbered}
+use Rattle.reading.proofs.Accepted.{read_numbered}
 use Rattle.sheet.specs.declared.Sheet.{Sheet}
 use Rattle.sweep.specs.Theorems.{sheet_of}
 use Rattle.windows_reply.specs.Reply as windows

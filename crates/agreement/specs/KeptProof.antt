@@ -6,7 +6,7 @@ use Rattle.expr.specs.Records.{range_list}
 use Rattle.valuations.specs.Once.{valuations_once}
 use Rattle.valuations.specs.SearchLaws.{valuations_inside, valuations_all}
 use Rattle.reading.specs.File.{Fine, read_of}
-use Rattle.reading.specs.Accepted.{read_well_formed}
+use Rattle.reading.proofs.Accepted.{read_well_formed}
 use Rattle.soundness.specs.CountsProof.{kept_counts_runs, cut_counts_the_rest, kept_and_cut}
 use Rattle.sweep.specs.Proofs.{sweep_right}
 use Rattle.sweep.specs.Theorems.{sheet_of, IsRun, IsVoid}

@@ -8,15 +8,15 @@ use Rattle.coded.specs.CodedTests.{pad_size}
 use Rattle.coded.specs.Records.{zone_of}
 use Rattle.constrain.specs.Rules.{entry_c}
 use Rattle.cutting.specs.Cutting as cutting
-use Rattle.cutting.specs.ShapeProof.{zones_shaped}
+use Rattle.cutting.proofs.ShapeProof.{zones_shaped}
 use Rattle.dbm.specs.Matrix.{Outside}
 use Rattle.expr.specs.Records.{bound_as}
 use Rattle.expr.specs.declared.bound.Bound.{Bound}
-use Rattle.reading.specs.Accepted.{read_well_formed}
+use Rattle.reading.proofs.Accepted.{read_well_formed}
 use Rattle.sheet.specs.WellFormed.{WellFormed}
 use Rattle.sizes.specs.SizeLaws.{zero_size}
 use Rattle.sizes.specs.Sizes.{AtMostB, ENTRY}
-use Rattle.sizes.specs.SizesProof.{numbers_small}
+use Rattle.sizes.proofs.SizesProof.{numbers_small}
 use Rattle.sweep.specs.Theorems.{sheet_of}
 use Rattle.timed.specs.Automaton.{route_of}
 use Rattle.timed.specs.Right.{route_short}

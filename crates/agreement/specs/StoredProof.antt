@@ -10,7 +10,7 @@ use Rattle.constrain.specs.Rules.{entry_c}
 use Rattle.cutting.specs.Cutting.{Listing, listed, refused, zones_of}
 use Rattle.cutting.specs.Cutting as cutting
 use Rattle.cutting.specs.Shape.{Shaped}
-use Rattle.cutting.specs.ShapeProof.{zones_shaped}
+use Rattle.cutting.proofs.ShapeProof.{zones_shaped}
 use Rattle.dbm.specs.Matrix.{Outside}
 use Rattle.expr.specs.Affine.{Affine}
 use Rattle.weight.specs.Upper.{Upper}

@@ -14,8 +14,8 @@ use Rattle.cutting.specs.Cutting.{and_then}
 use Rattle.cutting.specs.Cutting as cutting
 use Rattle.cutting.specs.Every.{Right}
 use Rattle.cutting.specs.Ways.{Way, Outcome, leads, refuses, list_way, counting, without_counts}
-use Rattle.cutting.specs.CeilingProof.{zones_more, zones_length, counting_without}
-use Rattle.cutting.specs.NumberedProof.{some_number}
+use Rattle.cutting.proofs.CeilingProof.{zones_more, zones_length, counting_without}
+use Rattle.cutting.proofs.NumberedProof.{some_number}
 use Rattle.expr.specs.Affine.{Affine, opposite}
 use Rattle.expr.specs.Records.{affine, expr_of, bound_as, range_list, zero_expr}
 use Rattle.valuations.specs.Valuations.{first}
@@ -23,7 +23,7 @@ use Rattle.expr.specs.declared.number.Expr.{Expr}
 use Rattle.expr.specs.declared.range.Ranges.{Ranges}
 use Rattle.guards.specs.declared.Guard.{Guard}
 use Rattle.sizes.specs.Sizes.{AtMostE, AtMostM, AsksAtMost, ENTRY, TEST, SmallGuard}
-use Rattle.sizes.specs.SizesProof.{numbers_small}
+use Rattle.sizes.proofs.SizesProof.{numbers_small}
 use Rattle.timed.specs.Lists.{AllOf}
 use Rattle.coded.specs.Records.{bounds_of, zone_of, zones_in, coded}
 use Rattle.coded.specs.Counts.{counts_in, coded_ways}

@@ -18,7 +18,7 @@ use Rattle.dbm.specs.Entries.{up_to_4}
 use Rattle.guards.specs.declared.Guard.{Guard}
 use Rattle.sizes.specs.SizeLaws.{at_most_b_more, zero_size}
 use Rattle.sizes.specs.Sizes.{AtMostB, AtMostM, LIMIT, ENTRY, SUM, TEST, SmallGuard, SmallRules}
-use Rattle.sizes.specs.SizesProof.{numbers_small}
+use Rattle.sizes.proofs.SizesProof.{numbers_small}
 use Rattle.coded.specs.Records.{bounds_of}
 use Rattle.coded.specs.Coded.{entry_at, get_d_at, set_entry}
 use Rattle.coded.specs.CodedTests.{pad_b, limit_pad, sum_coded, test_coded}

@@ -7,9 +7,10 @@ use Rattle.std.proofs.Math.ListN.{length, replicate}
 use Rattle.cutting.specs.Cutting.{Bounds, start_b, start_zone, Listing, listed, refused, on_bounds, step_zones, and_then, cut_steps}
 use Rattle.cutting.specs.Cutting.{zones_along, zones_of}
 use Rattle.cutting.specs.Cutting as cutting
-use Rattle.cutting.specs.Every.{Right, GuardIs, step_right}
+use Rattle.cutting.specs.Every.{Right, GuardIs}
+use Rattle.cutting.proofs.Every.{step_right}
 use Rattle.cutting.specs.Listings.{on_length}
-use Rattle.cutting.specs.NumberedProof.{some_number}
+use Rattle.cutting.proofs.NumberedProof.{some_number}
 use Rattle.dbm.specs.Entries.{up_to_4, eqb_no, reset_bit, bits_resets}
 use Rattle.dbm.specs.Matrix.{delayed, reset_m, resets_m}
 use Rattle.weight.specs.Upper.{none}
@@ -21,14 +22,16 @@ use Rattle.sheet.specs.declared.Sheet.{Sheet}
 use Rattle.automaton.specs.declared.Transition.{Transition}
 use Rattle.sheet.specs.WellFormed.{WellFormed}
 use Rattle.sizes.specs.Sizes.{AtMostM, ENTRY, SmallGuard}
-use Rattle.sizes.specs.SizesProof.{ZoneTraced, lasting, start_right, zone_small, guard_small}
+use Rattle.sizes.proofs.SizesProof.{ZoneTraced, lasting, start_right, zone_small, guard_small}
 use Rattle.timed.specs.Automaton.{invariants, guards_of, route_of, transition_at}
 use Rattle.sheet.specs.Lookup.{location_c, transition_c}
 use Rattle.timed.specs.Indexed.{location_in_lem, transition_in_lem}
 use Rattle.timed.specs.Lists.{AllOf}
-use Rattle.timed.specs.Right.{StepRight, filled_all, steps_right, route_delays, lowest, lowest_inside}
+use Rattle.timed.specs.Right.{StepRight, filled_all, lowest, lowest_inside}
+use Rattle.timed.proofs.Right.{steps_right, route_delays}
 use Rattle.timed.specs.Steps.{Step, delay, guard, resets, arrival_steps, stay_steps, move_steps, steps_from, steps_of, moves, delays}
-use Rattle.timed.specs.Visits.{Visits, resets_then, move_joined, steps_visits, steps_moves, after, after_delays}
+use Rattle.timed.specs.Visits.{Visits, resets_then, move_joined, after, after_delays}
+use Rattle.timed.proofs.Visits.{steps_visits, steps_moves}
 use Rattle.coded.specs.Records.{row_of, bounds_of, zone_of, zones_in, coded}
 use Rattle.coded.specs.CodedGuard.{guard_coded}
 use Rattle.split.specs.Guarded.{guarded_c}

@@ -7,7 +7,7 @@ use mathlib.Core.List.{List, [], ◌∷◌, map, append-nil, Memᴰ}
 use Rattle.cutting.specs.Cutting as cutting
 use Rattle.cutting.specs.Ways.{Way, Outcome, leads, refuses, guard_ways}
 use Rattle.cutting.specs.Ceiling.{CEILING}
-use Rattle.cutting.specs.CeilingProof.{ceiling_holds}
+use Rattle.cutting.proofs.CeilingProof.{ceiling_holds}
 use Rattle.expr.specs.declared.bound.Bound.{Bound}
 use Rattle.expr.specs.declared.bound.Asked.{Asked}
 use Rattle.expr.specs.declared.bound.Asked.TheVariants.{Yes, No, Ask}
@@ -18,7 +18,7 @@ use Rattle.guards.specs.Right.{GuardRight}
 use Rattle.guards.specs.declared.Guard.{Guard}
 use Rattle.sheet.specs.WellFormed.{WellFormed}
 use Rattle.sheet.specs.declared.Sheet.{Sheet}
-use Rattle.sizes.specs.SizesProof.{numbers_small, guard_small}
+use Rattle.sizes.proofs.SizesProof.{numbers_small, guard_small}
 use Rattle.timed.specs.Lists.{AllOf}
 use Rattle.timed.specs.Right.{all_append}
 use Rattle.timed.specs.Steps.{steps_of}

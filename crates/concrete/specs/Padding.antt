@@ -2,8 +2,9 @@
 use Rattle.std.specs.Prelude.{◌≡◌, refl, List, [], ◌∷◌, ℕ, ℤ}
 use Rattle.std.proofs.Common.{subst, ◌∙◌}
 use Rattle.dbm.specs.Matrix.{Matrix, start, Outcome, void, kept, Outside}
-use Rattle.dbm.specs.Entries.{delayed_outside, resets_outside}
-use Rattle.dbm.specs.Guard.{guarded_outside}
+use Rattle.dbm.specs.Entries.{resets_outside}
+use Rattle.dbm.proofs.Entries.{delayed_outside}
+use Rattle.dbm.proofs.Guard.{guarded_outside}
 use Rattle.weight.specs.Upper.{Upper, none}
 use Rattle.expr.specs.Bounds.{at_v}
 use Rattle.expr.specs.Records.{bound_as}

@@ -5,12 +5,12 @@ use Rattle.integer.specs.Parts.{p, n, -parts, zs}
 use Rattle.dbm.specs.Matrix.{Matrix, start, Outcome, void, kept, Keeps, State, Meets, times, Reached}
 use Rattle.dbm.specs.Weights.{keeps_in}
 use Rattle.dbm.specs.State.{difference_times, closed_state, start_closed, start_met}
-use Rattle.dbm.specs.Tight.{closed_tight, times_reached, times_above, times_near}
+use Rattle.dbm.proofs.Tight.{closed_tight, times_reached, times_above, times_near}
 use Rattle.weight.specs.Upper.{Upper, none, upper, zero_w}
 use Rattle.sheet.specs.declared.Sheet.{Sheet}
 use Rattle.sheet.specs.WellFormed.{WellFormed}
 use Rattle.timed.specs.Automaton.{route_of}
-use Rattle.timed.specs.Right.{steps_right}
+use Rattle.timed.proofs.Right.{steps_right}
 use Rattle.timed.specs.Runs.{Clocks, begin, RunAlong, difference, TightestAlong}
 use Rattle.timed.specs.Steps.{steps_of}
 use Rattle.concrete.specs.Walk.{sweep_along, sweep_at}

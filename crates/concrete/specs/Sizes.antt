@@ -8,8 +8,9 @@ use Rattle.integer.specs.Parts.{p, n, pos_parts, nat_abs_parts}
 use Rattle.integer.specs.Product.{size_in, sum_size, product_size}
 use Rattle.dbm.specs.Matrix.{Matrix, start, delayed, reset_m, resets_m, guarded, Outcome, void, kept}
 use Rattle.dbm.specs.State.{start_closed}
-use Rattle.dbm.specs.Size.{AtMost, Small, Visit, at_most_more, at_most_sum, small_visit, delayed_visit, visit_small, guarded_visit}
-use Rattle.dbm.specs.Size.{reset_visit}
+use Rattle.dbm.specs.Size.{AtMost, Small, Visit, at_most_more, at_most_sum, small_visit, visit_small}
+use Rattle.dbm.proofs.Size.{delayed_visit, guarded_visit}
+use Rattle.dbm.proofs.Size.{reset_visit}
 use Rattle.expr.specs.Affine.{dot, value}
 use Rattle.weight.specs.Upper.{Upper, none, upper, zero_w, sum_w, tighter_w, MOST, saturated}
 use Rattle.expr.specs.Bounds.{at_v}
@@ -23,7 +24,8 @@ use Rattle.guards.specs.Right.{ExprRight, GuardRight}
 use Rattle.sheet.specs.WellFormed.{WellFormed}
 use Rattle.timed.specs.Automaton.{route_of}
 use Rattle.timed.specs.Lists.{AllOf}
-use Rattle.timed.specs.Right.{StepRight, filled_at, places_all, steps_right, route_delays}
+use Rattle.timed.specs.Right.{StepRight, filled_at, places_all}
+use Rattle.timed.proofs.Right.{steps_right, route_delays}
 use Rattle.timed.specs.Steps.{Step, delay, guard, resets, steps_of, delays}
 use Rattle.timed.specs.Visits.{after, after_delays, none_more}
 use Rattle.concrete.specs.Walk.{and_then, step, walk, sweep_along, sweep_at}

@@ -11,9 +11,9 @@ use Rattle.dbm.specs.Matrix.{Closed, After}
 use Rattle.dbm.specs.Weights.{keeps-≡, keeps_times}
 use Rattle.dbm.specs.Entries.{same_or_not, put_same, put_other}
 use Rattle.dbm.specs.State.{difference_times, times_moved, times_put}
-use Rattle.dbm.specs.Guard.{guarded_right, after_none}
-use Rattle.dbm.specs.Delay.{delayed_closed, delayed_met, delayed_from}
-use Rattle.dbm.specs.Reset.{reset_closed, reset_met, reset_from}
+use Rattle.dbm.proofs.Guard.{guarded_right, after_none}
+use Rattle.dbm.proofs.Delay.{delayed_closed, delayed_met, delayed_from}
+use Rattle.dbm.proofs.Reset.{reset_closed, reset_met, reset_from}
 use Rattle.expr.specs.Affine.{Affine, value}
 use Rattle.weight.specs.Upper.{Upper, none, upper}
 use Rattle.expr.specs.Bounds.{at_v}

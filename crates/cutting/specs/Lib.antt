@@ -13,12 +13,5 @@ pub mod Shape
 pub mod Numbered
 pub mod Ways
 pub mod Ceiling
-pub mod Works
 pub mod Every
-pub mod Comes
 pub mod Listings
-pub mod CeilingProof
-pub mod DisjointProof
-pub mod FirstHeldProof
-pub mod NumberedProof
-pub mod ShapeProof

@@ -1,7 +1,7 @@
 -- What each rule of `Matrix` leaves at an entry.
 use Rattle.std.specs.Prelude.{◌≡◌, ◌⊎◌, ◌≢◌, Bool, ◌&&◌, leb, ltb, ℤ}
 use Rattle.std.proofs.Math.Path.{refl}
-use Rattle.std.proofs.Common.{sym, subst, ap, ◌∙◌, inl, inr, div-one, arith, le→leb, leb→le, lt→ltb}
+use Rattle.std.proofs.Common.{sym, subst, ◌∙◌, inl, inr, div-one, arith, le→leb, leb→le, lt→ltb}
 use Rattle.std.proofs.Math.Bool.{true, false, cond}
 use Prim.Native.Nat.{ℕ, zero, suc, ◌/◌, ◌%◌, ◌^◌, ◌≤◌, ◌<◌}
 use Rattle.std.proofs.Math.Dec.{T, eqb, eqb→eq, eqb_refl}
@@ -47,7 +47,7 @@ same_or_not i r = by_test i r (eqb i r) refl
 pub inside_yes : (w i j : ℕ) → i ≤ w → j ≤ w → inside w i j ≡ true
 inside_yes w i j h k = rw (leb_yes i w h, leb_yes j w k)
 
-and_false : (b : Bool) → (b && false) ≡ false
+pub and_false : (b : Bool) → (b && false) ≡ false
 and_false true = refl
 and_false false = refl
 
@@ -112,12 +112,6 @@ module _ {A : Type 0} (w : ℕ) (nothing : A) (m : Matrix A) where
   unfolding delayed
   delayed_stays i j = rw (eqb_no (suc j) 0 (omega arith), and_false (leb i w), and_false (ltb 0 i)) refl
 
-  pub delayed_outside : (i j : ℕ) → Outside w i j → delayed w nothing m i j ≡ m i j
-  unfolding delayed
-  delayed_outside i j (inl h) = rw (leb_no i w h, and_false (ltb 0 i)) refl
-  delayed_outside i zero (inr h) = absurd (omega arith)
-  delayed_outside i (suc j) (inr h) = delayed_stays i j
-
 -- ---- a reset: where the new entry is read
 abbrev pub source : ℕ → ℕ → ℕ
 source r i = cond (eqb i r) 0 i
@@ -147,21 +141,11 @@ module _ {A : Type 0} (w r : ℕ) (m : Matrix A) where
   unfolding reset_m
   reset_outside i j h = rw (inside_no w i j h) refl
 
-  at_source : (i j : ℕ) (a b : Bool) → ((a ≡ true) → (b ≡ true) → m i j ≡ m 0 0) → reset_at m a b i j ≡ m (cond a 0 i) (cond b 0 j)
+  pub at_source : (i j : ℕ) (a b : Bool) → ((a ≡ true) → (b ≡ true) → m i j ≡ m 0 0) → reset_at m a b i j ≡ m (cond a 0 i) (cond b 0 j)
   at_source i j true true h = h refl refl
   at_source i j true false h = refl
   at_source i j false true h = refl
   at_source i j false false h = refl
-
-  pub reset_inside : (i j : ℕ) → i ≤ w → j ≤ w → (i ≡ r → m r r ≡ m 0 0) → reset_m w r m i j ≡ m (source r i) (source r j)
-  unfolding reset_m
-  reset_inside i j hi hj h = rw (inside_yes w i j hi hj) (at_source i j (eqb i r) (eqb j r) (λ a b. same (is_r i a) (is_r j b)))
-    where
-      is_r : (k : ℕ) → eqb k r ≡ true → k ≡ r
-      is_r k e = eqb→eq k r (subst T (sym e) tt)
-
-      same : i ≡ r → j ≡ r → m i j ≡ m 0 0
-      same a b = ap (λ (k : ℕ). m k j) a ∙ ap (m r) b ∙ h a
 
 -- ---- a clock put to a value
 module _ (r : ℕ) (v : ℤ) (x : ℕ → ℤ) where

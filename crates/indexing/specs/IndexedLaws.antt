@@ -32,7 +32,7 @@ use Rattle.indexing.specs.declared.Indexing.{Indexing}
 use Rattle.reading.specs.File.{Fine, blank_sheet, Read, bodies_of, judged_bodies, read_of}
 use Rattle.indexing.specs.Indexed.{blank_index, index_of, sheet_at, indexed_as}
 use Rattle.reading.specs.Versions.{most_few}
-use Rattle.reading.specs.Accepted.{read_well_formed}
+use Rattle.reading.proofs.Accepted.{read_well_formed}
 
 -- the blank index stands for the blank sheet
 pub blank_same : (s : List ℕ) → sheet_in s blank_index ≡ blank_sheet

@@ -18,7 +18,7 @@ use Rattle.answers.specs.Numbers.{numbered}
 use Rattle.expr.specs.Records.{affine, range_list, valuation_of}
 use Rattle.expr.specs.declared.range.Ranges.{Ranges}
 use Rattle.valuations.specs.Valuations.{first, numbers_in}
-use Rattle.cutting.specs.ShapeProof.{zones_shaped}
+use Rattle.cutting.proofs.ShapeProof.{zones_shaped}
 use Rattle.sheet.specs.declared.Sheet.{Sheet}
 use Rattle.reading.specs.File.{read_of}
 use Rattle.windows_reply.specs.Reply.{WindowsReply, answered_of, answered_as, refused_reply, listing_reply, sheet_reply, read_reply, reply_of}

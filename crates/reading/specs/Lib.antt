@@ -2,5 +2,4 @@
 -- are files of the paper, byte by byte.
 pub mod File
 pub mod Versions
-pub mod Accepted
 pub mod Examples

@@ -1,2 +1,3 @@
 -- The cases of a segment.
 pub mod Cases
+pub mod SegmentLaws

@@ -1,18 +1,16 @@
 -- What is left of a route behind a segment.
-use Rattle.std.specs.Prelude.{◌≡◌, Bool, true, false, List, [], ◌∷◌, ℕ, zero, suc, ◌+◌, ◌≤◌, ◌<◌, ltb, eqb, length, get_or, take, drop}
+use Rattle.std.specs.Prelude.{◌≡◌, List, [], ◌∷◌, ℕ, suc, ◌≤◌, ◌<◌, get_or, take, drop}
 use Rattle.std.proofs.Math.Path.{refl, sym, ap}
-use Rattle.std.proofs.Common.{subst, ◌∙◌, add-one, arith, ltb-true, ltb-false, eqb-true, length-take, drop_of_length-le, drop-cons, get_or-take}
-use Rattle.std.proofs.lemmas.Bool.{eqb-false}
+use Rattle.std.proofs.Common.{◌∙◌, arith, length-take, drop_of_length-le, drop-cons, get_or-take}
 use Rattle.automaton.specs.declared.Location.{Location}
 use Rattle.automaton.specs.declared.Transition.{Transition}
-use Rattle.expr.specs.declared.range.Ranges.{Ranges}
 use Rattle.sheet.specs.declared.Sheet.{Sheet}
 use Rattle.sheet.specs.Lookup.{location_c, transition_c}
 use Rattle.steps.specs.Steps.{steps_all}
 use Rattle.steps.specs.declared.step.Step.{Step}
 use Rattle.steps.specs.declared.step.Steps.{Steps}
-use Rattle.segments.specs.Lists.{Lists, invariant_steps, stay_steps, move_steps, stay_is, invariants_are, move_is}
-use Rattle.segments.specs.Segments.{moves_of, size, Moved, Segmented}
+use Rattle.segments.specs.Lists.{Lists, invariant_steps, invariants_are}
+use Rattle.segments.specs.Segments.{moves_of, size, Segmented}
 use Rattle.segments.specs.Walked.{stay_all, move_all, walk_all, start_all, started_all, zones_all}
 use Rattle.segments.specs.declared.segment.Segment.{Segment}
 use Rattle.zones.specs.declared.zone.Zones.{Zones}
@@ -35,7 +33,7 @@ module _ (s : Sheet) where
   unfolding walk_all
   walk_cons ns n rest visit l zs h = rw h refl
 
-  walk_turn : (k l : ℕ) (zs whole : Zones) (here there : Location) (t : Transition) → k < size s
+  pub walk_turn : (k l : ℕ) (zs whole : Zones) (here there : Location) (t : Transition) → k < size s
       → walk_all s k l (drop k (moves_of s)) zs ≡ whole → t ≡ transition_c s (get_or s.route k 0) → here ≡ location_c s l
       → there ≡ location_c s t.to
       → walk_all s (suc k) t.to (drop (suc k) (moves_of s))
@@ -46,18 +44,18 @@ module _ (s : Sheet) where
       (sym
       (walk_cons (drop k (moves_of s)) (get_or (moves_of s) k 0) (drop (suc k) (moves_of s)) k l zs (drop-cons (moves_of s) k 0 h)) ∙ e)
 
-  walk_done : (k l : ℕ) (zs whole : Zones) (here : Location) → size s ≤ k → walk_all s k l (drop k (moves_of s)) zs ≡ whole
+  pub walk_done : (k l : ℕ) (zs whole : Zones) (here : Location) → size s ≤ k → walk_all s k l (drop k (moves_of s)) zs ≡ whole
       → here ≡ location_c s l → stay_all s.ranges s.clocks here zs ≡ whole
   unfolding walk_all
   walk_done k l zs whole here h e eh =
       let f : stay_all s.ranges s.clocks (location_c s l) zs ≡ whole = rw (drop_of_length-le (moves_of s) h) at e in
       ap (λ (p : Location). stay_all s.ranges s.clocks p zs) eh ∙ f
 
-  after_steps : (l : List Step) (ss : Steps) (zs : Zones) → Lists 20 l ss
+  pub after_steps : (l : List Step) (ss : Steps) (zs : Zones) → Lists 20 l ss
       → steps_all s.ranges s.clocks (steps_in ss) zs ≡ steps_all s.ranges s.clocks l zs
   after_steps l ss zs h = ap (λ (x : List Step). steps_all s.ranges s.clocks x zs) h.same
 
-  no_steps : (zs : Zones) → steps_all s.ranges s.clocks [] zs ≡ zs
+  pub no_steps : (zs : Zones) → steps_all s.ranges s.clocks [] zs ≡ zs
   unfolding steps_all
   no_steps zs = refl
 
@@ -89,60 +87,3 @@ module _ (s : Sheet) where
             );
         over = λ h. absurd (omega arith);
       }
-
-  module _ (k : ℕ) (here : Location) (zs : Zones) (a : Ahead s k here zs) (r : Segment) (g : Segmented s (suc k) here r) where
-    abbrev next : Zones
-    next = steps_all s.ranges s.clocks (steps_in r.steps) zs
-
-    ahead_moves : k < size s → Ahead s (suc k) r.there next
-    ahead_moves h =
-        let m = g.moves k refl h in
-        let v = a.moving (omega arith) in
-        record {
-          moving =
-              λ _. (
-                m.t.to,
-                (
-                  m.there,
-                  ap (walk_all s (suc k) m.t.to (drop (suc k) (moves_of s)))
-                      (after_steps (move_steps here k m.t r.there) r.steps zs m.steps
-                      ∙ move_is s.ranges s.clocks here k m.t r.there zs)
-                      ∙ walk_turn k v.0 zs (zones_all s) here r.there m.t h v.1.1 m.found v.1.0 m.there,
-                ),
-              );
-          over = λ o. absurd (omega arith);
-        }
-
-    ahead_stays : k ≡ size s → Ahead s (suc k) r.there next
-    ahead_stays h =
-        let v = a.moving (omega arith) in
-        record {
-          moving = λ o. absurd (omega arith);
-          over =
-              λ _.
-              after_steps (stay_steps here) r.steps zs (g.stays (ap suc h))
-              ∙ stay_is s.ranges s.clocks here zs
-              ∙ walk_done k v.0 zs (zones_all s) here (omega arith) v.1.1 v.1.0;
-        }
-
-    ahead_ends : size s < k → Ahead s (suc k) r.there next
-    ahead_ends h =
-        record {
-          moving = λ o. absurd (omega arith);
-          over = λ _. after_steps [] r.steps zs (g.ends (omega arith)) ∙ no_steps zs ∙ a.over h;
-        }
-
-    -- behind one segment more
-    pub ahead_next : Ahead s (suc k) r.there next
-    ahead_next = first (ltb k (size s)) refl
-      where
-        second : (t : Bool) → eqb k (size s) ≡ t → size s ≤ k → Ahead s (suc k) r.there next
-        second true e h = ahead_stays (eqb-true k (size s) e)
-        second false e h = ahead_ends (past k (size s) h (eqb-false k (size s) e))
-          where
-            past : (k n : ℕ) → n ≤ k → (k ≡ n → ⊥) → n < k
-            past k n h o = omega (arith, o)
-
-        first : (t : Bool) → ltb k (size s) ≡ t → Ahead s (suc k) r.there next
-        first true e = ahead_moves (ltb-true k (size s) e)
-        first false e = second (eqb k (size s)) refl (ltb-false k (size s) e)

@@ -9,10 +9,11 @@ use mathlib.Core.List.{List, [], ◌∷◌}
 use Rattle.std.specs.Int.Signed.{le_z}
 use Rattle.integer.specs.Apart.{apart}
 use Rattle.dbm.specs.Entries.{limited_inside}
-use Rattle.dbm.specs.Guard.{way, limited_closed}
+use Rattle.dbm.specs.Guard.{way}
+use Rattle.dbm.proofs.Guard.{limited_closed}
 use Rattle.dbm.specs.Matrix.{Matrix, limited_m, Outcome, kept, ◌⊑◌}
 use Rattle.dbm.specs.Weights.{⊑-≡, sum_zero, zero_sum}
-use Rattle.cutting.specs.Comes.{Comes, zero_at, pushed_limited}
+use Rattle.cutting.proofs.Comes.{Comes, zero_at, pushed_limited}
 use Rattle.cutting.specs.Cutting.{Bounds, Tree, cut, keep, asks, tested, Place, put_entry, places, pushed, guard_tree}
 use Rattle.cutting.specs.Held.{at}
 use Rattle.expr.specs.Affine.{Affine, value}

@@ -3,6 +3,4 @@ pub mod Sizes
 pub mod SizeLaws
 pub mod Traces
 pub mod Through
-pub mod StepsTraced
 pub mod GuardTraced
-pub mod SizesProof

@@ -1,7 +1,8 @@
 -- A guard i - j with weight e on a closed matrix, at one valuation: which instants lie on a shortest path before and after it.
 use Rattle.std.specs.Prelude.{◌≡◌, ℕ, ◌≤◌, ℤ}
 use Rattle.std.proofs.Common.{sym, ap, ◌∙◌}
-use Rattle.dbm.specs.Guard.{way, limited_way, limited_old}
+use Rattle.dbm.specs.Guard.{way}
+use Rattle.dbm.proofs.Guard.{limited_way, limited_old}
 use Rattle.dbm.specs.Matrix.{Matrix, limited_m, ◌⊑◌, Closed}
 use Rattle.dbm.specs.Weights.{⊑_refl, ⊑-≡, ⊑_trans, sum_mono, sum_assoc, sum_comm, sum_zero}
 use Rattle.weight.specs.Upper.{Upper, sum_w, zero_w}

@@ -7,7 +7,7 @@ use mathlib.Core.List.{List, [], ◌∷◌, ◌++◌, append_assoc}
 use Rattle.cutting.specs.Cutting.{start_zone, Zone, listed, step_zones, cut_steps, zones_along}
 use Rattle.cutting.specs.Held.{found, list_of}
 use Rattle.cutting.specs.Listings.{listed_same, listed_first}
-use Rattle.cutting.specs.Works.{append_nil, each, each_kept, delay_found, guard_found, resets_found, start_at}
+use Rattle.cutting.proofs.Works.{append_nil, each, each_kept, delay_found, guard_found, resets_found, start_at}
 use Rattle.dbm.specs.Matrix.{Matrix, start, Outcome, void, kept}
 use Rattle.expr.specs.Ranges.{Inside}
 use Rattle.weight.specs.Upper.{Upper}

@@ -12,7 +12,7 @@ use Rattle.sheet.specs.declared.Sheet.{Sheet}
 use Rattle.sheet.specs.WellFormed.{WellFormed}
 use Rattle.cursor_laws.specs.Right.{Small}
 use Rattle.walk.specs.Coded.{coded, row_at, table_not_void}
-use Rattle.walk.specs.CodedWalk.{sweep_coded}
+use Rattle.walk.proofs.CodedWalk.{sweep_coded}
 use Rattle.sweep.specs.Reply.{swept, outside, or_outside, sheet_reply}
 use Rattle.sweep.specs.ReplyLaws.{outside_none}
 use Rattle.concrete.specs.Sizes.{Thousands, start_visited, walk_visited}
@@ -21,7 +21,8 @@ use Rattle.walk.specs.Walked.{sweep_table}
 use Rattle.concrete.specs.Walk.{sweep_along, sweep_at}
 use Rattle.timed.specs.Automaton.{route_of}
 use Rattle.timed.specs.Lists.{AllOf}
-use Rattle.timed.specs.Right.{filled_at, places_all, steps_right}
+use Rattle.timed.specs.Right.{filled_at, places_all}
+use Rattle.timed.proofs.Right.{steps_right}
 use Rattle.timed.specs.Steps.{steps_of}
 
 -- a matrix that Sweep comes to is zero at (0, 0)

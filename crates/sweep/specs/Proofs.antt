@@ -8,7 +8,7 @@ use Rattle.weight.specs.Upper.{Upper}
 use Rattle.expr.specs.Ranges.{Inside}
 use Rattle.expr.specs.Records.{range_list}
 use Rattle.reading.specs.File.{Fine, read_of}
-use Rattle.reading.specs.Accepted.{read_well_formed}
+use Rattle.reading.proofs.Accepted.{read_well_formed}
 use Rattle.weight_matrix.specs.Records.{row}
 use Rattle.walk.specs.Coded.{in_row, weight_as_lem}
 use Rattle.concrete.specs.Padding.{padded}

@@ -23,7 +23,7 @@ use Rattle.corners.specs.Boxes.{low_of, turn, point_of, Points}
 use Rattle.opposites.specs.Opposite.{Apart}
 use Rattle.systems.specs.Boxes.{Narrows, Never}
 use Rattle.valuations.specs.First.{Earlier}
-use Rattle.valuations.specs.FirstProof.{search_right}
+use Rattle.valuations.proofs.FirstProof.{search_right}
 use Rattle.valuations.specs.SearchLaws.{total, first_over, or_else, lead, fix, satisfies_fix, width_in, width_zero, width_suc, total_skip}
 use Rattle.valuations.specs.SearchLaws.{valuations_inside, valuations_length, count_whole, first_whole, first_none}
 use Rattle.valuations.specs.SearchLaws.{first_same, count_same, count_few, count_zero, own_end, step_up, back_end}

@@ -1,11 +1,11 @@
 -- What request (b) of paper 02 made of runs. Paper 01 had the invariants judged at the end of each stay only (`LeadsAtEnds`, `RunAtEnds`).
 -- `ArrivalsRight` says that the runs are exactly those of these whose start and arrivals meet the invariants as well. ArrivalsProof has
 -- the proof.
-use Rattle.std.specs.Prelude.{◌≡◌, ◌↔◌, List, [], ◌∷◌, ℕ, ◌≤◌, ℤ}
+use Rattle.std.specs.Prelude.{◌≡◌, List, [], ◌∷◌, ℕ, ◌≤◌, ℤ}
 use Prim.{Unit}
 use Rattle.sheet.specs.declared.Sheet.{Sheet}
 use Rattle.timed.specs.Automaton.{invariants, guards_of, transition_at}
-use Rattle.timed.specs.Runs.{Clocks, begin, waited, after_resets, AllHold, Leads, RunAlong}
+use Rattle.timed.specs.Runs.{Clocks, begin, waited, after_resets, AllHold, Leads}
 
 -- paper 01's rule: as Leads, with nothing asked on arrival
 unfoldable pub LeadsAtEnds : Sheet → List ℤ → ℕ → ℕ → List ℕ → Clocks → Clocks → Type 0
@@ -40,17 +40,3 @@ unfolding Leads LeadsAtEnds
 leads_at_ends s v D l [] x y r = r
 leads_at_ends s v D l (n ∷ ns) x y (d, h, g, a, r) =
     (d, h, g, leads_at_ends s v D (transition_at s n).to ns (after_resets (transition_at s n).resets (waited d x)) y r)
-
-abbrev pub at_ends : {s : Sheet} {route : List ℕ} {v : List ℤ} → RunAlong s route v → RunAtEnds s route v
-at_ends {s} {route} {v} r = record {
-  parts = r.parts;
-  some_part = r.some_part;
-  end = r.end;
-  leads = leads_at_ends s v r.parts 0 route begin r.end r.leads;
-}
-
--- a run by paper 01's rule is one by request (b)'s exactly if its start and its arrivals meet the invariants
-abbrev pub ArrivalsRight : Type 0
-ArrivalsRight =
-    (s : Sheet) (route : List ℕ) (v : List ℤ) (r : RunAtEnds s route v)
-    → (StartMeets s route v r × ArrivalsMeet s v r.parts 0 route begin r.end r.leads) ↔ ((q : RunAlong s route v) × (at_ends q ≡ r))

@@ -6,10 +6,8 @@
 pub mod Automaton
 pub mod Runs
 pub mod Arrivals
-pub mod ArrivalsProof
 pub mod Steps
 pub mod Lists
-pub mod Unique
 pub mod Visits
 pub mod Right
 pub mod Indexed

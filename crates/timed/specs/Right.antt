@@ -16,8 +16,7 @@ use Rattle.guards.specs.Right.{GuardRight}
 use Rattle.sheet.specs.WellFormed.{WellFormed}
 use Rattle.timed.specs.Lists.{AllOf}
 use Rattle.timed.specs.Automaton.{invariants, guards_of, transition_at, route_of}
-use Rattle.timed.specs.Steps.{Step, delay, guard, resets, arrival_steps, stay_steps, move_steps, steps_from, steps_of, delays}
-use Rattle.timed.specs.Visits.{steps_delays}
+use Rattle.timed.specs.Steps.{Step, delay, guard, resets, arrival_steps, stay_steps, move_steps}
 
 -- the guards of the list are right for the sheet
 abbrev pub GuardsAll : Sheet → List Guard → Type 0
@@ -100,28 +99,10 @@ module _ {s : Sheet} (f : WellFormed s) where
       (resets (transition_at s n).resets ∷ arrival_steps s (suc visit) to)
       (guards_all_lem visit (guards_of s n) (guards_right n)) (tt, arrival_right (suc visit) to)
 
-  from_right : (ns : List ℕ) (visit l : ℕ) → StepsAll s (steps_from s visit l ns)
-  unfolding steps_from
-  from_right [] visit l = stay_right visit l
-  from_right (n ∷ ns) visit l =
-      let rest = steps_from s (suc visit) (transition_at s n).to ns in
-      all_append (StepRight s.parameters s.clocks) (stay_steps s visit l) (move_steps s visit n ++ rest) (stay_right visit l)
-      (all_append (StepRight s.parameters s.clocks) (move_steps s visit n) rest (move_right visit n)
-      (from_right ns (suc visit) (transition_at s n).to))
-
-  pub steps_right : (route : List ℕ) → StepsAll s (steps_of s route)
-  unfolding steps_of
-  steps_right route =
-      all_append (StepRight s.parameters s.clocks) (arrival_steps s 0 0) (steps_from s 0 0 route) (arrival_right 0 0)
-      (from_right route 0 0)
-
   -- ---- the sheet's own route
   pub route_short : length (route_of s) ≤ 32
   unfolding route_of
   route_short = let few = f.route.few in simp length-take (omega arith)
-
-  pub route_delays : delays (steps_of s (route_of s)) ≤ 33
-  route_delays = omega (arith, route_short, steps_delays s (route_of s))
 
 -- ---- its ranges have a valuation: the lowest of each
 abbrev pub lowest : Sheet → List ℤ

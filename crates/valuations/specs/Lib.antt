@@ -1,7 +1,6 @@
 -- What is read first: Valuations (satisfiability, for any number of parameters) and First (what the first valuation in order is). The
 -- other files are laws of these.
 pub mod First
-pub mod FirstProof
 pub mod Once
 pub mod SearchLaws
 pub mod Totals

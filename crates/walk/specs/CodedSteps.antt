@@ -10,7 +10,8 @@ use Rattle.std.proofs.Math.ListN.{get_or, set}
 use borrow.Author.Tests.{ltb-true, ltb-false, leb-true, eqb-true, eqb-false, le-ltb, eq-eqb, ne_eqb}
 use Rattle.dbm.specs.Matrix.{Matrix, delayed, reset_at, reset_m, resets_m, limited_m, void, kept, guarded}
 use Rattle.dbm.specs.Entries.{up_to_4, cond_same, reset_bit, bits_resets, inside_yes, limited_inside, limited_outside, delayed_none}
-use Rattle.dbm.specs.Entries.{delayed_zero, delayed_stays, delayed_outside, reset_outside}
+use Rattle.dbm.specs.Entries.{delayed_zero, delayed_stays, reset_outside}
+use Rattle.dbm.proofs.Entries.{delayed_outside}
 use Rattle.dbm.specs.Guard.{way}
 use Rattle.dbm.specs.Size.{AtMost, Small}
 use Rattle.weight.specs.Upper.{Upper, none, sum_w, tighter_w, zero_w, saturated}

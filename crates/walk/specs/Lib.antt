@@ -2,5 +2,4 @@
 -- serve this.
 pub mod Coded
 pub mod CodedSteps
-pub mod CodedWalk
 pub mod Walked

@@ -15,7 +15,7 @@ use Rattle.answers.specs.declared.file.Refusal.TheVariants.{Size, Contents, Body
 use Rattle.answers.specs.declared.windows.Answer.{Answer}
 use Rattle.answers.specs.declared.windows.Answer.TheVariants as answer
 use Rattle.cutting.specs.Cutting.{Listing, listed, refused, zones_of}
-use Rattle.cutting.specs.ShapeProof.{zones_shaped}
+use Rattle.cutting.proofs.ShapeProof.{zones_shaped}
 use Rattle.reading.specs.File.{read_of}
 use Rattle.sheet.specs.declared.Sheet.{Sheet}
 use Rattle.windows_reply.specs.Reply.{answered_as, refused_reply, listing_reply, sheet_reply, read_reply, reply_of}

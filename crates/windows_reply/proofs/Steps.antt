@@ -26,7 +26,7 @@ use Rattle.reading.specs.declared.Reading.{Reading}
 use Rattle.indexing.specs.declared.Indexing.{Indexing}
 use Rattle.sheet.specs.declared.Sheet.{Sheet}
 use Rattle.reading.specs.File.{Fine, Read, read_as, read_of}
-use Rattle.reading.specs.Accepted.{reading_well_formed}
+use Rattle.reading.proofs.Accepted.{reading_well_formed}
 use Rattle.sheet.specs.WellFormed.{WellFormed}
 use Rattle.windows_reply.specs.Reply.{sheet_reply, read_reply, reply_of}
 use Rattle.windows_reply.specs.Work.{shown_of, blank_shown, refused_by, listed_c, zones_at, take_closed}

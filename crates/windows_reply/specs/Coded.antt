@@ -2,7 +2,7 @@
 use Rattle.std.specs.Prelude.{◌≡◌, refl, ℕ}
 use Rattle.std.proofs.Common.{ap, ◌∙◌, inl, inr, lt-ltb}
 use Rattle.cutting.specs.Cutting.{Listing, listed, refused, zones_of, SevenOrEight}
-use Rattle.cutting.specs.NumberedProof.{some_number, zones_numbered}
+use Rattle.cutting.proofs.NumberedProof.{some_number, zones_numbered}
 use Rattle.valuations.specs.SearchLaws.{count_all}
 use Rattle.expr.specs.Records.{range_list}
 use Rattle.sheet.specs.declared.Sheet.{Sheet}

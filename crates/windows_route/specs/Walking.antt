@@ -18,7 +18,8 @@ use Rattle.split.specs.Stack.{no_part, load}
 use Rattle.split.specs.Trees.{Ran}
 use Rattle.passing.specs.declared.pass.Pass.{Pass}
 use Rattle.segments.specs.Lists.{Lists, stay_steps, move_steps, stay_is, move_is}
-use Rattle.segments.specs.SegmentLaws.{steps_in, Ahead, ahead_starts, ahead_next}
+use Rattle.segments.specs.SegmentLaws.{steps_in, Ahead, ahead_starts}
+use Rattle.segments.proofs.SegmentLaws.{ahead_next}
 use Rattle.segments.specs.Segments.{moves_of, size, Segmented}
 use Rattle.segments.specs.Walked.{walk_all, start_all, zones_all}
 use Rattle.segments.specs.declared.segment.Segment.{Segment}

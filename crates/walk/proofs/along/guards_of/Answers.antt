@@ -43,11 +43,11 @@ loop-k-preserved c =
     let g = get_or a.guards i.k no_guard in
     let next : c.if-changes.now ≡ guard_table i.now a.clocks (point a.v) g =
     elim c.if-changes.branch [
-      then-changes w ↦ w.now-is ∙ guard_made i.now a.clocks (point a.v) g _ e.bound_at-e.ensures _ w.guarded-next.ensures
-    | else-changes w ↦
-      w.now-is
-      ∙ guard_kept i.now a.clocks (point a.v) g _ e.bound_at-e.ensures _ _ _ at_i.at_most-i.ensures at_j.at_most-j.ensures
-      told.changes.ensures w.if-changes.false
+      | then-changes w ↦ w.now-is ∙ guard_made i.now a.clocks (point a.v) g _ e.bound_at-e.ensures _ w.guarded-next.ensures
+      | else-changes w ↦
+          w.now-is
+          ∙ guard_kept i.now a.clocks (point a.v) g _ e.bound_at-e.ensures _ _ _ at_i.at_most-i.ensures at_j.at_most-j.ensures
+          told.changes.ensures w.if-changes.false
     ] in (
       v.0,
       v.1,

@@ -16,7 +16,7 @@ use Rattle.timed.specs.Steps.{Step, delay, guard, resets, steps_of}
 use Rattle.cutting.specs.Cutting.{Zone, start_zone, listed, step_zones, cut_steps, zones_along, zones_of}
 use Rattle.cutting.specs.Held.{InRanges, holds, at, found, list_of}
 use Rattle.cutting.specs.Listings.{listed_same, listed_first}
-use Rattle.cutting.specs.Works.{each, guard_at, delay_found, guard_found, resets_found}
+use Rattle.cutting.proofs.Works.{each, guard_at, delay_found, guard_found, resets_found}
 use Rattle.cutting.specs.Disjoint.{AlongDisjoint, PiecesDisjoint, ZonesApart}
 
 -- ---- steps leave no more than there was

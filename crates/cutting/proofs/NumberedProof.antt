@@ -6,7 +6,8 @@ use Rattle.expr.specs.Records.{range_list}
 use Rattle.timed.specs.Automaton.{route_of}
 use Rattle.timed.specs.Steps.{steps_of}
 use Rattle.cutting.specs.Cutting.{start_zone, zones_along, zones_of, SevenOrEight}
-use Rattle.cutting.specs.Every.{Right, Has, AnyMatrix, any_lasting, parts_right}
+use Rattle.cutting.specs.Every.{Right, Has, AnyMatrix}
+use Rattle.cutting.proofs.Every.{any_lasting, parts_right}
 use Rattle.cutting.specs.Numbered.{AlongNumbered, ZonesNumbered}
 
 abbrev Any : List Affine → Type 0

@@ -5,11 +5,12 @@ use Rattle.std.proofs.Common.{sym, subst, ◌∙◌, arith, eqb-true}
 use Rattle.std.proofs.Math.Bool.{true, false}
 use Rattle.std.proofs.lemmas.Bool.{eqb-false}
 use Rattle.std.proofs.Math.Dec.{eqb}
-use Rattle.dbm.specs.Entries.{eqb_yes, eqb_no, delayed_none, delayed_zero, delayed_stays, source, source_0, source-≤, reset_inside}
+use Rattle.dbm.specs.Entries.{eqb_yes, eqb_no, delayed_none, delayed_zero, delayed_stays, source, source_0, source-≤}
+use Rattle.dbm.proofs.Entries.{reset_inside}
 use Rattle.dbm.specs.Matrix.{Matrix, start, delayed, reset_m, resets_m, ◌⊑◌, Closed}
 use Rattle.dbm.specs.State.{start_closed}
 use Rattle.dbm.specs.Weights.{⊑-≡, ⊑-none, sum_none, zero_sum}
-use Rattle.cutting.specs.Comes.{zero_at}
+use Rattle.cutting.proofs.Comes.{zero_at}
 use Rattle.cutting.specs.Cutting.{Bounds, start_b}
 use Rattle.expr.specs.Affine.{Affine}
 use Rattle.expr.specs.Bounds.{at_v, zero_b}

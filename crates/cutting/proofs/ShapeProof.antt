@@ -4,7 +4,8 @@ use Rattle.std.specs.Prelude.{◌≡◌, refl, Bool, true, false, cond, ℕ, zer
 use Rattle.std.proofs.Common.{subst, ◌∙◌, inl, inr, arith, eqb-true, length-append}
 use mathlib.Core.List.{List, [], ◌∷◌, ◌++◌, Memᴰ}
 use Rattle.dbm.specs.Matrix.{Outside}
-use Rattle.dbm.specs.Entries.{delayed_outside, resets_outside}
+use Rattle.dbm.specs.Entries.{resets_outside}
+use Rattle.dbm.proofs.Entries.{delayed_outside}
 use Rattle.expr.specs.Affine.{Affine, opposite}
 use Rattle.weight.specs.Upper.{Upper, none}
 use Rattle.expr.specs.Bounds.{sum_b, tighter_b, Question, yes', no', ask, zero_b}
@@ -12,7 +13,8 @@ use Rattle.expr.specs.Records.{range_list}
 use Rattle.expr.specs.declared.range.Range.{Range}
 use Rattle.timed.specs.Automaton.{route_of}
 use Rattle.timed.specs.Steps.{Step, steps_of}
-use Rattle.cutting.specs.Every.{Leaves, LastingM, Splits, Right, one_of, Has, parts_right}
+use Rattle.cutting.specs.Every.{Leaves, LastingM, Splits, Right, one_of, Has}
+use Rattle.cutting.proofs.Every.{parts_right}
 use Rattle.cutting.specs.Cutting.{Bounds, start_b, start_zone, Zone, Tree, cut, keep, tested, Place, put_entry, row_from}
 use Rattle.cutting.specs.Cutting.{rows_from, places, pushed, guard_tree, listed, INEQS, ZONES, cut_steps, zones_along, zones_of}
 use Rattle.cutting.specs.Shape.{Blank, Shaped, AlongShaped, ZonesShaped}

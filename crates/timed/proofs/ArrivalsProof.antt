@@ -1,13 +1,29 @@
 -- The proof of `ArrivalsRight`.
-use Rattle.std.specs.Prelude.{◌≡◌, refl, ℕ, ℤ}
+use Rattle.std.specs.Prelude.{◌≡◌, ◌↔◌, refl, ℕ, ℤ}
 use Rattle.std.proofs.Math.Path.{ap}
 use Rattle.std.proofs.Common.{subst}
 use mathlib.Core.List.{List, [], ◌∷◌}
 use Rattle.sheet.specs.declared.Sheet.{Sheet}
 use Rattle.timed.specs.Automaton.{invariants, guards_of, transition_at}
 use Rattle.timed.specs.Runs.{Clocks, begin, waited, after_resets, AllHold, Leads, RunAlong}
-use Rattle.timed.specs.Arrivals.{LeadsAtEnds, RunAtEnds, ArrivalsMeet, StartMeets, leads_at_ends, at_ends, ArrivalsRight}
+use Rattle.timed.specs.Arrivals.{LeadsAtEnds, RunAtEnds, ArrivalsMeet, StartMeets, leads_at_ends}
 
+-- ---- the claim
+abbrev pub at_ends : {s : Sheet} {route : List ℕ} {v : List ℤ} → RunAlong s route v → RunAtEnds s route v
+at_ends {s} {route} {v} r = record {
+  parts = r.parts;
+  some_part = r.some_part;
+  end = r.end;
+  leads = leads_at_ends s v r.parts 0 route begin r.end r.leads;
+}
+
+-- a run by paper 01's rule is one by request (b)'s exactly if its start and its arrivals meet the invariants
+abbrev pub ArrivalsRight : Type 0
+ArrivalsRight =
+    (s : Sheet) (route : List ℕ) (v : List ℤ) (r : RunAtEnds s route v)
+    → (StartMeets s route v r × ArrivalsMeet s v r.parts 0 route begin r.end r.leads) ↔ ((q : RunAlong s route v) × (at_ends q ≡ r))
+
+-- ---- the proof
 module _ (s : Sheet) (v : List ℤ) (D : ℕ) where
   -- a way by paper 01's rule whose arrivals meet the invariants
   arriving : (ns : List ℕ) (l : ℕ) (x y : Clocks) (r : LeadsAtEnds s v D l ns x y) → ArrivalsMeet s v D l ns x y r

@@ -17,7 +17,8 @@ use Rattle.timed.specs.Automaton.{invariants, guards_of, transition_at, route_of
 use Rattle.sheet.specs.Lookup.{location_c, transition_c}
 use Rattle.timed.specs.Indexed.{location_in_lem, transition_in_lem}
 use Rattle.timed.specs.Lists.{AllOf}
-use Rattle.timed.specs.Right.{StepRight, filled_all, steps_right, route_delays}
+use Rattle.timed.specs.Right.{StepRight, filled_all}
+use Rattle.timed.proofs.Right.{steps_right, route_delays}
 use Rattle.timed.specs.Steps.{Step, delay, guard, resets, arrival_steps, stay_steps, move_steps, steps_from, steps_of, delays}
 use Rattle.timed.specs.Visits.{after, after_delays}
 use Rattle.weight_matrix.specs.Tables.{Table, start_table, void_table, delayed_table, resets_table}

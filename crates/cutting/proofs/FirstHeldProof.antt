@@ -9,14 +9,15 @@ use Rattle.expr.specs.Ranges.{Inside}
 use Rattle.expr.specs.Records.{range_list}
 use Rattle.integer.specs.Apart.{apart}
 use Rattle.valuations.specs.First.{IsFirst}
-use Rattle.valuations.specs.FirstProof.{search_right}
+use Rattle.valuations.proofs.FirstProof.{search_right}
 use Rattle.valuations.specs.SearchLaws.{first_none}
 use Rattle.valuations.specs.Valuations.{satisfies, first, numbers_in}
 use Rattle.expr.specs.declared.range.Range.{Range}
 use Rattle.timed.specs.Automaton.{route_of}
 use Rattle.timed.specs.Steps.{steps_of}
 use Rattle.cutting.specs.Cutting.{Zone, start_zone, listed, never, zones_along, zones_of}
-use Rattle.cutting.specs.Every.{Splits, Has, Right, one_of, AnyMatrix, any_lasting, parts_right}
+use Rattle.cutting.specs.Every.{Splits, Has, Right, one_of, AnyMatrix}
+use Rattle.cutting.proofs.Every.{any_lasting, parts_right}
 use Rattle.cutting.specs.FirstHeld.{first_held, AlongFirst, ZonesFirst}
 
 -- the search finds a valuation that meets the inequalities

@@ -26,7 +26,7 @@ use Rattle.cutting.specs.Cutting.{Bounds, start_b, Zone, Tree, cut, keep, asks, 
 use Rattle.cutting.specs.Cutting.{INEQS, ZONES, never, list_zone, worked, guard_zones, on_bounds, step_zones}
 use Rattle.cutting.specs.Held.{holds, at, found, list_of}
 use Rattle.cutting.specs.Listings.{listed_same, not_listed, worked_refused, guards_refused}
-use Rattle.cutting.specs.Comes.{Comes, guard_comes}
+use Rattle.cutting.proofs.Comes.{Comes, guard_comes}
 
 -- ---- lists
 pub append_nil : {A : Type 0} (xs : List A) → xs ++ [] ≡ xs

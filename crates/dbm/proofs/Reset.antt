@@ -9,7 +9,8 @@ use Rattle.integer.specs.Parts.{p, n, -parts, zs}
 use Rattle.weight.specs.Upper.{Upper, zero_w}
 use Rattle.dbm.specs.Matrix.{Matrix, reset_m, Keeps, State, Meets, put, times, Closed}
 use Rattle.dbm.specs.Weights.{keeps_in}
-use Rattle.dbm.specs.Entries.{same_or_not, source, source-≤, source_same, source_0, source_other, reset_inside, put_same, put_other}
+use Rattle.dbm.specs.Entries.{same_or_not, source, source-≤, source_same, source_0, source_other, put_same, put_other}
+use Rattle.dbm.proofs.Entries.{reset_inside}
 use Rattle.dbm.specs.State.{times_state, chosen}
 
 module _ {w r : ℕ} {m : Matrix (Upper ℤ)} (c : Closed w m) (hr : r ≤ w) where

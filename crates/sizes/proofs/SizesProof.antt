@@ -11,10 +11,11 @@ use Rattle.integer.specs.Product.{size_in}
 use Rattle.cursor_laws.specs.Right.{Small}
 use Rattle.cutting.specs.Cutting.{Bounds, Zone, start_zone, Tree, cut, keep, asks, tested, Place, places, pushed, guard_tree, never, listed}
 use Rattle.cutting.specs.Cutting.{cut_steps}
-use Rattle.cutting.specs.Every.{Leads, Lasting, GuardIs, Right, one_of, steps_right}
-use Rattle.cutting.specs.FirstHeldProof.{Met, never_met}
-use Rattle.cutting.specs.ShapeProof.{Placed, places_placed}
-use Rattle.cutting.specs.Works.{satisfies_one_more, never_fails, of_opposite, not_opposite}
+use Rattle.cutting.specs.Every.{Leads, Lasting, GuardIs, Right, one_of}
+use Rattle.cutting.proofs.Every.{steps_right}
+use Rattle.cutting.proofs.FirstHeldProof.{Met, never_met}
+use Rattle.cutting.proofs.ShapeProof.{Placed, places_placed}
+use Rattle.cutting.proofs.Works.{satisfies_one_more, never_fails, of_opposite, not_opposite}
 use Rattle.expr.specs.Affine.{Affine, value, opposite}
 use Rattle.expr.specs.Bounds.{sum_b, tighter_b, zero_b}
 use Rattle.expr.specs.Laws.{opposite_holds}
@@ -30,14 +31,14 @@ use Rattle.sheet.specs.WellFormed.{WellFormed}
 use Rattle.sheet.specs.declared.Sheet.{Sheet}
 use Rattle.timed.specs.Lists.{AllOf}
 use Rattle.timed.specs.Right.{StepRight, filled_at, places_all, lowest, lowest_inside}
-use Rattle.timed.specs.Right as right
+use Rattle.timed.proofs.Right as right
 use Rattle.timed.specs.Steps.{Step, delay, guard, resets, steps_of, delays}
-use Rattle.timed.specs.Visits.{steps_delays}
+use Rattle.timed.proofs.Visits.{steps_delays}
 use Rattle.weight.specs.Upper.{Upper}
 use Rattle.sizes.specs.Sizes.{AtMostE, AtMostB, AtMostM, AsksAtMost, LIMIT, ENTRY, SUM, TEST, SmallGuard, SmallRules, NumbersSmall}
 use Rattle.sizes.specs.SizeLaws.{at_most_b_more, zero_size, sum_size_b, tested_size}
 use Rattle.sizes.specs.Traces.{Traced, traced_small}
-use Rattle.sizes.specs.StepsTraced.{start_traced, delayed_traced, resets_traced}
+use Rattle.sizes.proofs.StepsTraced.{start_traced, delayed_traced, resets_traced}
 use Rattle.sizes.specs.GuardTraced.{Fits, fits_alike, traced_alike, guard_fits}
 
 -- ---- zones

@@ -9,7 +9,7 @@ use Rattle.integer.specs.Product.{*ℤ-assoc, *ℤ-distribl-sub}
 use Rattle.weight.specs.Upper.{Upper, none, upper, sum_w, zero_w}
 use Rattle.dbm.specs.Matrix.{Matrix, Keeps, Meets, scale_w, scaled, ◌⊑◌, Closed, SomeState, Reached}
 use Rattle.dbm.specs.Weights.{⊑-none, ⊑-out, keeps_in, D-parts, scale_mono, scale_sum, scale_zero, keeps_scaled}
-use Rattle.dbm.specs.Guard.{limited_closed, limited_met}
+use Rattle.dbm.proofs.Guard.{limited_closed, limited_met}
 use Rattle.dbm.specs.State.{closed_state}
 
 -- ---- scaled matrices

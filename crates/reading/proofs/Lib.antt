@@ -1,0 +1,2 @@
+-- Accepted shows what holds of every sheet that is read.
+pub mod Accepted

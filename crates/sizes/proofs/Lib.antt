@@ -1,0 +1,3 @@
+-- The proof of what specs/Sizes states.
+pub mod StepsTraced
+pub mod SizesProof

@@ -1,0 +1,2 @@
+-- The proof of what specs/First states.
+pub mod FirstProof
