@@ -1,4 +1,4 @@
-// Links the archives of the proved search, of Sweep and of Windows, which `rt staticlib` writes of search_c, sweep_c and windows_c.
+// Links the archives of the proved search, of Sweep and of Windows, which `tools/prove lib` writes of search_c, sweep_c and windows_c.
 use std::path::Path;
 
 fn main() {

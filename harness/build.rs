@@ -1,4 +1,4 @@
-//! Links the archive of Sweep's C function, which `rt staticlib sweep_c` writes.
+//! Links the archive of Sweep's C function, which `tools/prove lib sweep_c` writes.
 
 use std::path::Path;
 

@@ -1,7 +1,8 @@
 """The proved programs: Windows (the program of crate listing) and Sweep (the C archive of crate sweep_c).
 
-Each is built when it is missing, or not built from the crates as they are now. LISTING names another listing program
-and SWEEP another shared library with sweep_sheet; they are for tests, and the command says that it uses them.
+Each is built when it is missing, or not built from the crates as they are now. `rt` leaves what it builds in the crate's
+out/; from there it is copied to target/. LISTING names another listing program and SWEEP another shared library with
+sweep_sheet; they are for tests, and the command says that it uses them.
 """
 
 import ctypes
@@ -20,9 +21,9 @@ from progress import Progress
 
 ROOT = Path(__file__).resolve().parents[2]
 CRATES = ROOT / "crates"
-WORK = ROOT / "target" / "moyanthu"
-LISTING = ROOT / "target" / "bin" / "listing"
-ARCHIVE = ROOT / "target" / "staticlib" / "libsweep_c.a"
+TARGET = ROOT / "target"
+WORK = TARGET / "moyanthu"
+LISTING = TARGET / "bin" / "listing"
 LIBRARY = WORK / "libsweep.so"
 
 
@@ -34,7 +35,7 @@ def windows_command():
     if os.environ.get("LISTING"):
         print_error(f"moyanthu: Windows is {plain(os.environ['LISTING'])} (from LISTING), not the proved program\n")
         return shlex.split(os.environ["LISTING"])
-    ensure("listing", LISTING, lambda: prove("check", "listing"))
+    proved("run", "listing")
     return [str(LISTING)]
 
 
@@ -75,43 +76,63 @@ def loaded_sweep(path):
 # Building them
 
 
-def ensure(crate, product, build):
-    """Builds a product unless it is the one that was built from the crates as they are now. One command builds at a
+def product(how, crate):
+    """Where rt leaves what `rt run` or `rt lib` builds of a crate, and where it is copied to."""
+    name, folder = (crate, "bin") if how == "run" else (f"lib{crate}.a", "staticlib")
+    return CRATES / crate / "out" / name, TARGET / folder / name
+
+
+def proved(how, crate):
+    """The program (run) or the archive (lib) of a crate, proved and built from the crates as they are now."""
+    made = product(how, crate)[1]
+    ensure(crate, made, lambda: prove(how, crate))
+    return made
+
+
+def ensure(crate, made, build):
+    """Builds a product unless it is the one that was built from the crates as they are now. One command builds it at a
     time; the others wait for it."""
-    note = WORK / f"{crate}.sum"
-    if built(note, crate, product):
+    note = WORK / f"{made.name}.sum"
+    if built(note, crate, made):
         return
     try:
         WORK.mkdir(parents=True, exist_ok=True)
-        with open(WORK / "lock", "wb") as lock:
+        with open(WORK / f"{made.name}.lock", "wb") as lock:
             fcntl.flock(lock, fcntl.LOCK_EX)
-            if not built(note, crate, product):
+            if not built(note, crate, made):
                 build()
-                note.write_text(checksum(crate, product), encoding="ascii")
+                note.write_text(checksum(crate, made), encoding="ascii")
     except OSError as why:
         raise failed(why.filename or WORK, why) from why
 
 
-def built(note, crate, product):
+def built(note, crate, made):
     try:
-        return note.read_text(encoding="ascii") == checksum(crate, product)
+        return note.read_text(encoding="ascii") == checksum(crate, made)
     except (OSError, ValueError):
         return False
 
 
-def checksum(crate, product):
+def checksum(crate, made):
     """Of a product and of all files of the crates that it is built from."""
-    total = hashlib.sha256(product.read_bytes())
+    total = hashlib.sha256(made.read_bytes())
     for name in sorted(needed(crate)):
-        for path in sorted(path for path in (CRATES / name).rglob("*") if path.is_file()):
-            total.update(f"\n{path.relative_to(CRATES)}\n".encode("utf-8", "surrogateescape") + path.read_bytes())
+        folder = CRATES / name
+        for path in sorted(path for path in folder.rglob("*") if path.is_file()):
+            if path.relative_to(folder).parts[0] != "out":
+                total.update(f"\n{path.relative_to(CRATES)}\n".encode("utf-8", "surrogateescape") + path.read_bytes())
     return total.hexdigest()
+
+
+def imports_of():
+    """What each crate of crates.txt imports from. `staticlib` may stand behind a crate's name there."""
+    lines = (line.partition("#")[0].split(":") for line in (ROOT / "crates.txt").read_text(encoding="utf-8").split("\n"))
+    return {line[0].split()[0]: line[1].split() for line in lines if len(line) == 2}
 
 
 def needed(crate):
     """A crate and all crates of this repository that it imports from."""
-    lines = (line.partition("#")[0].split(":") for line in (ROOT / "crates.txt").read_text(encoding="utf-8").split("\n"))
-    imports = {line[0].strip(): line[1].split() for line in lines if len(line) == 2}
+    imports = imports_of()
     found, open_names = set(), [crate]
     while open_names:
         name = open_names.pop()
@@ -123,8 +144,7 @@ def needed(crate):
 
 def build_library():
     """The archive as a shared library."""
-    prove("staticlib", "sweep_c")
-    command = ["cc", "-shared", "-o", LIBRARY, "-Wl,--whole-archive", ARCHIVE, "-Wl,--no-whole-archive"]
+    command = ["cc", "-shared", "-o", LIBRARY, "-Wl,--whole-archive", proved("lib", "sweep_c"), "-Wl,--no-whole-archive"]
     try:
         done = subprocess.run(command, capture_output=True, check=False)
     except OSError as why:
@@ -134,17 +154,14 @@ def build_library():
 
 
 def prove(how, crate):
-    """Runs `rt check` or `rt staticlib` on a crate, and says on standard error how far it is."""
-    rt = shutil.which("rt")
-    if not rt:
-        raise Fault("rt is not on the path: it is the command of the Rattle kit, which proves and builds the programs",
-                    FAILED)
+    """Runs `rt run` or `rt lib` in a crate's folder, and says on standard error how far it is."""
+    rt = kit_command()
     WORK.mkdir(parents=True, exist_ok=True)
     log = WORK / f"{crate}.log"
     total = len(needed(crate))
     print_error(f"rt {how} {crate}: proves {total} crates, some minutes the first time; each that has not changed since is "
                 "passed over\n")
-    with open(log, "wb") as out, subprocess.Popen([rt, how, crate], cwd=ROOT, stdin=subprocess.DEVNULL,
+    with open(log, "wb") as out, subprocess.Popen([rt, how], cwd=CRATES / crate, stdin=subprocess.DEVNULL,
                                                   stdout=subprocess.PIPE, stderr=subprocess.STDOUT) as process:
         try:
             follow(process.stdout, out, Progress(f"rt {how} {crate}", total, each=True))
@@ -155,6 +172,59 @@ def prove(how, crate):
         last = log.read_text(encoding="utf-8", errors="replace").splitlines()[-20:]
         lines = "".join(f"\n    {plain(line[:200])}" for line in last)
         raise Fault(f"rt {how} {crate}: status {process.returncode} (all it printed is in {log}){lines}", FAILED)
+    take(*product(how, crate))
+
+
+def kit_command():
+    rt = shutil.which("rt")
+    if not rt:
+        raise Fault("rt is not on the path: it is the command of the Rattle kit, which proves and builds the programs",
+                    FAILED)
+    return rt
+
+
+def take(left, made):
+    """Copies what was built to its place in target/."""
+    try:
+        made.parent.mkdir(parents=True, exist_ok=True)
+        shutil.copy(left, f"{made}.new")
+        os.replace(f"{made}.new", made)
+    except OSError as why:
+        raise failed(why.filename or made, why) from why
+
+
+def from_ci(how, crate):
+    """Takes a program that `rt ci` has just built here, or compiles an archive over the libraries that it has just built
+    here, whose proofs `rt lib` would do again. Where that fails, it is built by `rt run` or `rt lib`."""
+    left, made = product(how, crate)
+
+    def build():
+        if how == "lib" and not compiled(crate, left) or not left.is_file():
+            prove(how, crate)
+        else:
+            take(left, made)
+
+    ensure(crate, made, build)
+
+
+def compiled(crate, archive):
+    """Whether rattle, the compiler below rt, has proved a crate and written its archive over the libraries that lie in out/."""
+    done = subprocess.run([kit_command(), "doc"], capture_output=True, check=False, text=True)
+    kit, imports = Path(done.stdout.strip()).parent, imports_of()
+    words = ["build", "--crate-name", crate, "src/lib.rt", "--crate-type", "staticlib", "--links", f"{crate}=", "--jobs", "2"]
+    for name in ("core", "std", *(name for name in imports[crate] if name not in imports)):
+        words += ["--extern", f"{name}={kit}/rlibs/{name}.rlib"]
+    words += ["-L", f"dependency={kit}/rlibs"]
+    for name in sorted(needed(crate) - {crate}):
+        rlib = CRATES / name / "out" / "rlib"
+        words += ["--extern", f"{name}={rlib}/{name}.rlib"] if name in imports[crate] else []
+        words += ["-L", f"dependency={rlib}"]
+    words += ["--antt-project", f"{kit}/rattle/logic/antt-project.json", "--logic-built", f"{kit}/logic_built"]
+    words += ["--toolchain", f"{kit}/toolchain", "--backend", "llvm", "-o", f"out/{archive.name}"]
+    WORK.mkdir(parents=True, exist_ok=True)
+    with open(WORK / f"{crate}.log", "wb") as log:
+        command = [f"{kit}/bin/rattle", *words]
+        return not subprocess.run(command, cwd=CRATES / crate, stdin=subprocess.DEVNULL, stdout=log, stderr=log, check=False).returncode
 
 
 def follow(pipe, out, progress):
@@ -171,10 +241,11 @@ def follow(pipe, out, progress):
                 *lines, line = (line + data).split(b"\n")
                 for text in lines:
                     words = text.split()
-                    if words[:1] == [b"rt:"] and words[2:3] == [b"proved"]:
-                        done, crate = done + 1, words[1].decode("utf-8", "replace")
-                        if b"unchanged" not in text:
-                            progress.step(done, f" ({crate})")
+                    if words[:1] == [b"crate"] and len(words) > 2:
+                        crate = words[1].rstrip(b":").decode("utf-8", "replace")
+                    elif words[:1] == [b"logic=proved"]:
+                        done += 1
+                        progress.step(done, f" ({crate})")
             elif progress.terminal:
                 progress.step(done, f" ({crate})" if crate else "")
     progress.close()

@@ -19,13 +19,16 @@ from stored import ROOT
 RT = """#!/bin/sh
 echo "$@" >> "$TRIED"
 [ -n "$SLOW" ] && sleep "$SLOW"
-echo 'rt: integer proved (unchanged since it was last proved)'
-echo 'rt: expr proved (3 s)'
-[ -n "$FAIL" ] && { echo 'fn expr::sum: NOT PROVED'; exit 1; }
-echo "rt: listing proved (1 s)"
-mkdir -p target/bin
-printf '#!/bin/sh\\ncat > /dev/null\\necho pieces 0 kept 0 cut 11\\n' > target/bin/listing
-chmod +x target/bin/listing
+echo 'rt: chose --jobs 2 for expr'
+[ -n "$FAIL" ] && { echo 'fn expr::sum: not proved'; echo 'logic=not-proved'; exit 1; }
+echo 'fn expr::sum: proved'
+echo 'crate expr: modules loaded=1 checked=2'
+echo 'logic=proved functions=1 native=nat'
+echo 'crate listing: modules loaded=1 checked=2'
+echo 'logic=proved functions=1 native=nat'
+mkdir -p out
+printf '#!/bin/sh\\ncat > /dev/null\\necho pieces 0 kept 0 cut 11\\n' > out/listing
+chmod +x out/listing
 """
 
 
@@ -72,9 +75,9 @@ class Build(unittest.TestCase):
         done, count = self.windows()
         self.assertEqual((done.returncode, count), (1, 1), done.stderr)
         self.assertIn("0 pieces", done.stdout)
-        self.assertIn("rt check listing: proves 3 crates, some minutes the first time", done.stderr)
-        self.assertIn("rt check listing: 2 of 3 (expr), ", done.stderr)
-        self.assertIn("rt check listing: 3 of 3 (listing), ", done.stderr)
+        self.assertIn("rt run listing: proves 3 crates, some minutes the first time", done.stderr)
+        self.assertIn("rt run listing: 1 of 3 (expr), ", done.stderr)
+        self.assertIn("rt run listing: 2 of 3 (listing), ", done.stderr)
         done, count = self.windows()
         self.assertEqual((done.returncode, count, done.stderr), (1, 1, ""))
         other = self.root / "crates" / "other" / "src" / "lib.rt"
@@ -95,8 +98,8 @@ class Build(unittest.TestCase):
     def test_what_fails(self):
         done, _ = self.windows(FAIL="1")
         self.assertEqual((done.returncode, done.stdout), (4, ""))
-        self.assertIn("rt check listing: status 1", done.stderr)
-        self.assertIn("fn expr::sum: NOT PROVED", done.stderr)
+        self.assertIn("rt run listing: status 1", done.stderr)
+        self.assertIn("fn expr::sum: not proved", done.stderr)
         (self.path / "rt").unlink()
         done, _ = self.windows()
         self.assertEqual(done.returncode, 4)
@@ -123,10 +126,22 @@ class Build(unittest.TestCase):
             os.killpg(process.pid, signal.SIGKILL)  # what the stand-in has left
 
     def test_prove_alone(self):
-        done = self.run_tool("prove", "check", "listing")
+        done = self.run_tool("prove", "run", "listing")
         self.assertEqual(done.returncode, 0, done.stderr)
-        self.assertIn("3 of 3 (listing)", done.stderr)
+        self.assertIn("2 of 3 (listing)", done.stderr)
         self.assertEqual(self.run_tool("prove", "listing").returncode, 3)
+
+    def test_after_rt_ci(self):
+        """The program that rt ci has left is taken as it is."""
+        left = self.root / "crates" / "listing" / "out" / "listing"
+        left.parent.mkdir()
+        left.write_text("#!/bin/sh\ncat > /dev/null\necho pieces 0 kept 0 cut 11\n", encoding="utf-8")
+        left.chmod(0o755)
+        done = self.run_tool("prove", "run", "listing", "--from-ci")
+        self.assertEqual((done.returncode, self.tries()), (0, 0), done.stderr)
+        done, count = self.windows()
+        self.assertEqual((done.returncode, count), (1, 0), done.stderr)
+        self.assertIn("0 pieces", done.stdout)
 
 
 class Lines(unittest.TestCase):
@@ -148,7 +163,7 @@ class Scripts(unittest.TestCase):
         for name in ("examples/build", "bench/run", "harness/run"):
             lines = [line for line in (ROOT / name).read_text(encoding="utf-8").splitlines() if not line.startswith("#")]
             self.assertTrue(any("tools/prove " in line for line in lines), name)
-            self.assertFalse(any("rt check" in line or "rt staticlib" in line for line in lines), name)
+            self.assertFalse(any("rt run" in line or "rt lib" in line for line in lines), name)
 
 
 class Needed(unittest.TestCase):

@@ -1,6 +1,7 @@
 -- What writing and copying numbers makes of cells.
 use Rattle.std.specs.Prelude.{◌≡◌, refl, Bool, true, false, ◌≢◌, ltb, eqb, ℤ, pos, length, set, take}
-use Rattle.std.proofs.Common.{sym, subst, ◌∙◌, add-one, eqb-true, ltb-true, ltb-false, lt-ltb, le-ltb, length-set, length-drop, get_or-set_same, get_or-set_other, get_or-drop, ext_get_or, take_all}
+use Rattle.std.proofs.Common.{sym, subst, ◌∙◌, add-one, eqb-true, ltb-true, ltb-false, lt-ltb, le-ltb, length-set, length-drop}
+use Rattle.std.proofs.Common.{get_or-set_same, get_or-set_other, get_or-drop, ext_get_or, take_all}
 use Rattle.std.proofs.Math.Path.{ap}
 use mathlib.Core.List.{List, [], ◌∷◌, map}
 use Prim.Native.Nat.{ℕ, zero, suc, ◌+◌, ◌-◌, ◌*◌, ◌%◌, ◌≤◌, ◌<◌, min}

@@ -35,7 +35,8 @@ reset_if_b w r bit m = cond (eqb bit 1) (cond (ltb w r) m (reset_b w r m)) m
 
 -- resets in rising order: bit i - 1 for clock i
 unfoldable pub resets_b : ℕ → ℕ → List Bound → List Bound
-resets_b w bits m = reset_if_b w 4 (bits / 8 % 2) (reset_if_b w 3 (bits / 4 % 2) (reset_if_b w 2 (bits / 2 % 2) (reset_if_b w 1 (bits % 2) m)))
+resets_b w bits m =
+    reset_if_b w 4 (bits / 8 % 2) (reset_if_b w 3 (bits / 4 % 2) (reset_if_b w 2 (bits / 2 % 2) (reset_if_b w 1 (bits % 2) m)))
 
 -- ---- zones in order
 -- the first n of a list changed

@@ -1,7 +1,9 @@
 -- A step keeps what the stack and the zones still to come hold together.
-use Rattle.std.specs.Prelude.{◌≡◌, Bool, cond, ◌⊎◌, List, [], ◌∷◌, ℕ, zero, suc, ◌+◌, ◌-◌, ◌*◌, ◌≤◌, ◌<◌, eqb, ℤ, length, get_or, set, take, drop}
+use Rattle.std.specs.Prelude.{◌≡◌, Bool, cond, ◌⊎◌, List, [], ◌∷◌, ℕ, zero, suc, ◌+◌, ◌-◌, ◌*◌, ◌≤◌, ◌<◌, eqb, ℤ, length, get_or, set}
+use Rattle.std.specs.Prelude.{take, drop}
 use Rattle.std.proofs.Math.Path.{refl}
-use Rattle.std.proofs.Common.{sym, ap, ◌∙◌, inl, inr, add-one, arith, length-take, length-set, drop_of_length-le, drop-cons, get_or-take, get_or-set_same, get_or-set_other}
+use Rattle.std.proofs.Common.{sym, ap, ◌∙◌, inl, inr, add-one, arith, length-take, length-set, drop_of_length-le, drop-cons, get_or-take}
+use Rattle.std.proofs.Common.{get_or-set_same, get_or-set_other}
 use Rattle.std.proofs.Math.Bool.{true, false}
 use Rattle.std.proofs.Math.Dec.{ltb}
 use borrow.Author.Tests.{lt-ltb, le-ltb, ltb-true, ltb-false, eqb-true, eqb-false}
@@ -18,7 +20,8 @@ use Rattle.kept.specs.declared.stack.Stack.{Stack}
 use Rattle.kept.specs.declared.stack.Top.{Top}
 
 -- ---- what the first k items hold
-on_step : (b : Ranges) (zs : List Zone) (l : List Item) (k : ℕ) → held_on b zs l (suc k) ≡ held_on b zs l k + held_by_item b zs (get_or l k no_item)
+on_step : (b : Ranges) (zs : List Zone) (l : List Item) (k : ℕ)
+    → held_on b zs l (suc k) ≡ held_on b zs l k + held_by_item b zs (get_or l k no_item)
 unfolding held_on
 on_step b zs l k = refl
 
@@ -118,7 +121,8 @@ module _ (zs : List Zone) (c n : ℕ) (e : n ≡ length (take c zs)) (room : n �
     -- what the two hold is what the one does
     two_held : (b : Ranges) → held_by_item b zs a + held_by_item b zs d ≡ held_by_item b zs item
     two_held b =
-        ap (λ (m : ℕ). held_by_item b zs a + count (range_list b) (first_of (get_or zs d.at no_zone).ineqs m)) (sym same) ∙ sib.sum (range_list b)
+        ap (λ (m : ℕ). held_by_item b zs a + count (range_list b) (first_of (get_or zs d.at no_zone).ineqs m)) (sym same)
+        ∙ sib.sum (range_list b)
 
     on_two : (b : Ranges) → held_on b zs s.list s.count ≡ held_on b zs s.list (s.count - 2) + held_by_item b zs a + held_by_item b zs d
     on_two b =
@@ -194,7 +198,8 @@ module _ (zs : List Zone) (c n : ℕ) (e : n ≡ length (take c zs)) (room : n �
           → Siblings (get_or zs (top_if x a d).below no_zone).ineqs
           (get_or zs (top_if x a d).top no_zone).ineqs
           (top_if x a d).level
-          → (top_by a d ≡ record { below = a.at; top = d.at; level = a.count }) × ((a.count ≡ d.count) × Siblings (get_or zs a.at no_zone).ineqs
+          → (top_by a d ≡ record { below = a.at; top = d.at; level = a.count })
+          × ((a.count ≡ d.count) × Siblings (get_or zs a.at no_zone).ineqs
           (get_or zs d.at no_zone).ineqs a.count)
       one a d true q k = (rw q refl, (eqb-true a.count d.count q, k))
       one a d false q k = absurd (omega (arith, k.some))
@@ -212,7 +217,8 @@ module _ (zs : List Zone) (c n : ℕ) (e : n ≡ length (take c zs)) (room : n �
           rw (le-ltb s.count 2 two, top_two s two, k.0) (joined zs c n e room s h go two a d refl refl k.1.0 k.1.1)
 
   pub step_keeps : (t : Top) (x : Bool) (m : ℕ) → t ≡ top_of s
-      → (x ≡ true → Siblings (get_or zs t.below no_zone).ineqs (get_or zs t.top no_zone).ineqs t.level) → (s.next < n → m ≡ (get_or zs s.next no_zone).count)
+      → (x ≡ true → Siblings (get_or zs t.below no_zone).ineqs (get_or zs t.top no_zone).ineqs t.level)
+      → (s.next < n → m ≡ (get_or zs s.next no_zone).count)
       → Stacked zs c n (step_of s t x n m)
   unfolding step_of
   step_keeps t true m q sib f = rw q (step_joined (rw q at (sib refl)))

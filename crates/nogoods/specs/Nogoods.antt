@@ -1,5 +1,6 @@
 -- Expressions that are below 0 at a valuation, three of them.
-use Rattle.std.specs.Prelude.{◌≡◌, refl, false, List, [], ◌∷◌, ℕ, zero, suc, ◌+◌, ◌%◌, ◌<◌, ℤ, pos, negsuc, ◌+ℤ◌, get_or, set, replicate, ◌≤ℤ◌, ◌<ℤ◌}
+use Rattle.std.specs.Prelude.{◌≡◌, refl, false, List, [], ◌∷◌, ℕ, zero, suc, ◌+◌, ◌%◌, ◌<◌, ℤ, pos, negsuc, ◌+ℤ◌, get_or, set, replicate}
+use Rattle.std.specs.Prelude.{◌≤ℤ◌, ◌<ℤ◌}
 use Rattle.std.proofs.Common.{ap, ◌∙◌, arith}
 use Rattle.std.proofs.Math.IntN.{zero-*ℤ}
 use Rattle.std.proofs.lemmas.List.{get_or-replicate}
@@ -38,7 +39,8 @@ same_places l k (suc n) a h =
     let i : a + 0 ≡ a = omega arith in
     λ j. (rw i at (h 0 (omega arith))) j ∷ same_places l k n (suc a) (λ m g. later m (h (suc m) (omega arith))) j
   where
-    later : (m : ℕ) → get_or l (a + suc m) (pos 0) ≡ get_or k (a + suc m) (pos 0) → get_or l (suc a + m) (pos 0) ≡ get_or k (suc a + m) (pos 0)
+    later : (m : ℕ) → get_or l (a + suc m) (pos 0) ≡ get_or k (a + suc m) (pos 0)
+        → get_or l (suc a + m) (pos 0) ≡ get_or k (suc a + m) (pos 0)
     later m q =
         let i : a + suc m ≡ suc a + m = omega arith in
         rw i at q

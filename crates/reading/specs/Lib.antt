@@ -1,5 +1,5 @@
--- What is read first: File, the whole file. Accepted shows what holds of every sheet that is read, with Versions for its version; Examples
--- are files of the paper, byte by byte.
+-- What is read first: File, the whole file. Versions shows what holds of its version, and proofs/Accepted of every sheet that is read;
+-- Examples are files of the paper, byte by byte.
 pub mod File
 pub mod Versions
 pub mod Examples

@@ -62,7 +62,8 @@ module _ (cs : List Cell) (p : ℕ) (l : List ℤ) (m : List ℕ) (w : Working c
 
   -- .. or not
   module _ (l' : List ℤ) (m' : List ℕ) (s : Bool) (k : ℕ) (b : Bound)
-      (put : cells_in l' m' ≡ cond s (put_bound (cells_in l m) p k b) (cells_in l m)) (hl : length l' ≡ length l) (hm : length m' ≡ length m)
+      (put : cells_in l' m' ≡ cond s (put_bound (cells_in l m) p k b) (cells_in l m))
+      (hl : length l' ≡ length l) (hm : length m' ≡ length m)
     where
       pub entered_matrix : matrix_at p l' m' ≡ cond s (set (matrix_at p l m) k b) (matrix_at p l m)
       entered_matrix = by s put
@@ -83,5 +84,6 @@ module _ (cs : List Cell) (p : ℕ) (l : List ℤ) (m : List ℕ) (w : Working c
                 marks_long = hm ∙ w.marks_long;
                 there = w.there;
                 full = w.full;
-                rest = subst (λ (x : List Cell). x ≡ set cs p (with_matrix (get_or cs p no_cell) (get_or x p no_cell).bounds)) (sym e) w.rest;
+                rest =
+                    subst (λ (x : List Cell). x ≡ set cs p (with_matrix (get_or cs p no_cell) (get_or x p no_cell).bounds)) (sym e) w.rest;
               }

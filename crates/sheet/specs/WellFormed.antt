@@ -1,5 +1,5 @@
 -- What holds of every sheet that `read` of crate reading gives (paper 01, "The sheet file"). Definitions only; that it holds is a
--- theorem of reading/specs/Accepted.
+-- theorem of reading/proofs/Accepted.
 use Rattle.std.specs.Prelude.{ℕ, ◌≤◌, ◌<◌, ◌≡◌, ◌⊎◌, get_or}
 use Rattle.cursor_laws.specs.Right.{Filled}
 use Rattle.contents.specs.Contents.{most_parameters}

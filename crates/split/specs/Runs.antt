@@ -272,7 +272,8 @@ module _ (b : Ranges) (e : Expr) (f : Bool → TreeC) (k : ℕ) (z : Zone) (out 
 
     module _ (o : never_c b z (opposite_c e) ≡ false) where
       ask_split : ltb z.count 24 ≡ true
-          → worked_c b (f false) (suc k) (plus_c z (opposite_c e)) (worked_c b (f true) (suc k) (plus_c z e) out) ≡ worked_c b (ask_t e f) k z out
+          → worked_c b (f false) (suc k) (plus_c z (opposite_c e)) (worked_c b (f true) (suc k) (plus_c z e) out)
+          ≡ worked_c b (ask_t e f) k z out
       unfolding worked_c
       ask_split l = rw (n, o, l) refl
 

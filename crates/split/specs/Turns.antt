@@ -20,7 +20,8 @@ use Rattle.expr.specs.declared.bound.Test.{Test}
 use Rattle.expr.specs.declared.number.Expr.{Expr}
 use Rattle.expr.specs.declared.number.Valuation.{Valuation}
 use Rattle.expr.specs.declared.range.Ranges.{Ranges}
-use Rattle.parts.specs.Parts.{with_bounds, standing, put_c, pushed_c, answered_c, halted_c, counted_c, forward_c, next, after_c, enters_c, turn_c}
+use Rattle.parts.specs.Parts.{with_bounds, standing, put_c, pushed_c, answered_c, halted_c, counted_c, forward_c, next, after_c, enters_c}
+use Rattle.parts.specs.Parts.{turn_c}
 use Rattle.parts.specs.declared.part.Next.{Next}
 use Rattle.parts.specs.declared.part.Part.{Part}
 use Rattle.parts.specs.declared.part.Turn.{Turn}

@@ -34,7 +34,8 @@ task_c st = cond (asks_c st) start_task kept_task
 
 -- the zone at place p at 89, and what the step makes of it at 64
 unfoldable pub taken_c : List Cell → ℕ → ℕ → Step → List Cell
-taken_c cs p w st = on_matrix (set (set cs 89 (get_or cs p no_cell)) 64 (get_or (set cs 89 (get_or cs p no_cell)) p no_cell)) 64 (changed_b st w)
+taken_c cs p w st =
+    on_matrix (set (set cs 89 (get_or cs p no_cell)) 64 (get_or (set cs 89 (get_or cs p no_cell)) p no_cell)) 64 (changed_b st w)
 
 -- ---- what the places have then
 module _ (cs : List Cell) (p w : ℕ) (st : Step) (full : length cs ≡ 90) (few : p < 64) where

@@ -1,5 +1,6 @@
 -- A hint that fits a list of inequalities: its nogoods say of the list what they say of a zone; and how nogoods are learned and passed on.
-use Rattle.std.specs.Prelude.{◌≡◌, refl, Bool, true, false, cond, ◌&&◌, List, [], ◌∷◌, ◌++◌, map, ℕ, zero, suc, ltb, eqb, ℤ, pos, take, set}
+use Rattle.std.specs.Prelude.{◌≡◌, refl, Bool, true, false, cond, ◌&&◌, List, [], ◌∷◌, ◌++◌, map, ℕ, zero, suc, ltb, eqb, ℤ, pos, take}
+use Rattle.std.specs.Prelude.{set}
 use Rattle.std.proofs.Common.{sym, ap, subst, ◌∙◌, true≢false, arith, eqb-true}
 use Rattle.std.proofs.Math.Option.{Option}
 use Rattle.std.proofs.Math.Option as option

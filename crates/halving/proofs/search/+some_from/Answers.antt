@@ -24,7 +24,7 @@ returns-then-m-eq0 t c =
     let l : length c.narrowed-c.result.list ≡ PARAMETERS =
         narrows_long _ _ _ PARAMETERS c.narrowed-c.ensures c.well_formed.0.1.1.0.1.0.1 in
     some_pointed _ _ _ c.narrowed-c.ensures _ c.corner-v.ensures l
-    (widest_points _ _ c.widest-w.ensures (omega (arith, c.width.ensures.value, c.if-m-eq0.true)))
+    (widest_points _ _ c.widest-w.ensures (omega (arith, c.width-m.ensures.value, c.if-m-eq0.true)))
     (sym c.meets.ensures ∙ c.if-meets.false)
 
 some_at : (x : ℕ) → (x / 2 ≡ 0 → ⊥) → 0 < x / 2
@@ -37,35 +37,35 @@ less-at : {a b t : ℕ} → a < b → b ≡ t → a < t
 less-at h e = rw e at h
 
 pub lower-requires : goal.lower-requires
-lower-requires t c = (some_at _ c.if-m-eq0.false, few_at _ _ c.if-m-eq0.false c.width.ensures.value)
+lower-requires t c = (some_at _ c.if-m-eq0.false, few_at _ _ c.if-m-eq0.false c.width-m.ensures.value)
 
 pub some_from-s-requires : goal.some_from-s-requires
 some_from-s-requires t c =
     let l : length c.narrowed-c.result.list ≡ PARAMETERS =
         narrows_long _ _ _ PARAMETERS c.narrowed-c.ensures c.well_formed.0.1.1.0.1.0.1 in
     let h = fewer_lower _ _ _ c.narrowed-c.ensures c.widest-w.result _ _ refl (some_at _ c.if-m-eq0.false)
-        (few_at _ _ c.if-m-eq0.false c.width.ensures.value) (omega (arith, l, c.widest-w.ensures.place)) in
+        (few_at _ _ c.if-m-eq0.false c.width-m.ensures.value) (omega (arith, l, c.widest-w.ensures.place)) in
     (rw c.lower.ensures (less-at h c.decreases), tt)
 
 pub returns-then-s : goal.returns-then-s
 returns-then-s t c =
     some_lower _ _ _ c.narrowed-c.ensures c.widest-w.result _ _ refl (some_at _ c.if-m-eq0.false)
-    (few_at _ _ c.if-m-eq0.false c.width.ensures.value) c.some_from-s.result
+    (few_at _ _ c.if-m-eq0.false c.width-m.ensures.value) c.some_from-s.result
     (rw c.lower.ensures at c.some_from-s.ensures) c.if-s.true
 
 pub upper-requires : goal.upper-requires
-upper-requires t c = few_at _ _ c.if-m-eq0.false c.width.ensures.value
+upper-requires t c = few_at _ _ c.if-m-eq0.false c.width-m.ensures.value
 
 pub some_from-requires : goal.some_from-requires
 some_from-requires t c =
     let l : length c.narrowed-c.result.list ≡ PARAMETERS =
         narrows_long _ _ _ PARAMETERS c.narrowed-c.ensures c.well_formed.0.1.1.0.1.0.1 in
     let h = fewer_upper _ _ _ c.narrowed-c.ensures c.widest-w.result _ _ refl (some_at _ c.if-m-eq0.false)
-        (few_at _ _ c.if-m-eq0.false c.width.ensures.value) (omega (arith, l, c.widest-w.ensures.place)) in
+        (few_at _ _ c.if-m-eq0.false c.width-m.ensures.value) (omega (arith, l, c.widest-w.ensures.place)) in
     (rw c.upper.ensures (less-at h c.decreases), tt)
 
 pub returns : goal.returns
 returns t c =
     some_upper _ _ _ c.narrowed-c.ensures c.widest-w.result _ _ refl (some_at _ c.if-m-eq0.false)
-    (few_at _ _ c.if-m-eq0.false c.width.ensures.value) c.some_from-s.result c.some_from.result
+    (few_at _ _ c.if-m-eq0.false c.width-m.ensures.value) c.some_from-s.result c.some_from.result
     (rw c.lower.ensures at c.some_from-s.ensures) c.if-s.false (rw c.upper.ensures at c.some_from.ensures)

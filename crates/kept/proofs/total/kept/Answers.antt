@@ -44,8 +44,8 @@ held-now c =
     let loop = c.loop-i in
     let s = c.args in
     let q = get_or c.stacked-s.result.list loop.i no_item in
-    let e = c.count-total.ensures ∙ part_held s.b s.cells.now s.counts.now q _ (c.stacked-s.ensures.count_bound.1 loop.i c.loop-i-test.true)
-    c.at_most.ensures in
+    let e = c.count-total.ensures ∙ part_held s.b s.cells.now s.counts.now q _
+    (c.stacked-s.ensures.count_bound.1 loop.i c.loop-i-test.true) c.at_most.ensures in
     (e, held_few s.b (zones_in s.cells.now s.counts.now) q c.count-total.result c.requires.0 e)
 
 pub overflow_add-total : goal.overflow_add-total

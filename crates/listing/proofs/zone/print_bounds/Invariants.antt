@@ -4,7 +4,7 @@ use Prim.Native.Nat.{◌≤◌, ◌-◌}
 use Rattle.listing.proofs.zone.print_bounds.Given as goal
 
 abbrev pub invariant-loop-k : goal.invariant-loop-k
-invariant-loop-k l = l.k ≤ 25
+invariant-loop-k g l = l.k ≤ 25
 
 abbrev pub decreases-loop-k : goal.decreases-loop-k
-decreases-loop-k l = 25 - l.k
+decreases-loop-k g l = 25 - l.k

@@ -1,5 +1,4 @@
 -- Inequality by inequality: those so far are met exactly where the kept ones are.
-use mathlib.Core.Logic.{⊎_elim}
 use mathlib.Core.Path.{◌≡◌, sym, ◌∙◌}
 use Prim.Native.Nat.{◌-◌}
 use native.Mathlib.Omega.{arith}
@@ -13,6 +12,7 @@ use Rattle.integer.specs.Product.{size_fits}
 use Rattle.sifting.specs.Sifting.{sifted_start, sifted_skip, sifted_keep, sifted_all}
 use Rattle.sifting.proofs.sift.sifted.Goals.{After-best}
 use Rattle.sifting.proofs.sift.sifted.Goals as goal
+use Rattle.sifting.proofs.sift.sifted.Goals.{then-best-lt0, else-best-lt0}
 
 pub loop-k-init : goal.loop-k-init
 loop-k-init c = sifted_start _ _ _ _ c.requires
@@ -26,7 +26,18 @@ best-is : (x : ℤ) → SizedTo 4 x → to_z w64 (of_z w64 x) ≡ x
 best-is x h = to_z-of_z w64 x (size_fits w64 x (omega (arith, h)))
 
 pub loop-k-preserved : goal.loop-k-preserved
-loop-k-preserved c = ?
+loop-k-preserved c =
+    let i = c.loop-k in
+    let a = c.args in
+    let e = c.inequality-e.result in
+    let turned = c.turned-worst.result.list in
+    elim c.if-best-lt0.branch [
+      then-best-lt0 w ↦ rw (w.kept-is, w.m-is)
+          (sifted_keep a.flat.now a.n turned i.kept i.m i.k i.invariant c.loop-k-test.true e c.inequality-e.ensures _ w.store.ensures)
+    | else-best-lt0 w ↦ rw (w.kept-is, w.m-is)
+          (sifted_skip a.flat.now a.n turned i.kept i.m i.k i.invariant c.loop-k-test.true e c.inequality-e.ensures c.best.result
+          c.best.ensures.value (lt_z_false (rw (best-is c.best.result c.best.ensures.small) at w.if-best-lt0.false)))
+    ]
 
 pub shape_of-kept : goal.shape_of-kept
 shape_of-kept c = c.loop-k.invariant.long ∙ sym c.requires

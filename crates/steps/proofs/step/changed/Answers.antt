@@ -17,7 +17,8 @@ pub returns-then-step-lt2 : goal.returns-then-step-lt2
 returns-then-step-lt2 c =
     let a = c.args in
     let cs = cells_in a.cells.now a.marks.now in
-    on_same cs a.p (changed_b a.step a.clocks) (changed_not a.step a.clocks (get_or cs a.p no_cell).bounds c.if-step-lt1.false c.if-step-lt2.true)
+    on_same cs a.p (changed_b a.step a.clocks)
+    (changed_not a.step a.clocks (get_or cs a.p no_cell).bounds c.if-step-lt1.false c.if-step-lt2.true)
 
 pub returns : goal.returns
 returns c =

@@ -2,6 +2,7 @@
 use mathlib.Core.Path.{◌≡◌, refl, sym, subst, ◌∙◌}
 use Prim.Native.Nat.{ℕ, ◌-◌, ◌≤◌}
 use native.Mathlib.Omega.{arith}
+use borrow.Author.Rules.{rules}
 use lib.ListN.{length, get_or, length-map, length-set}
 use Rattle.index.specs.SheetIn.{sheet_in}
 use Rattle.passing.specs.Machine.{no_step}
@@ -16,16 +17,15 @@ use Rattle.windows_route.proofs.along.walk.Goals as goal
 pub loop-k-init : goal.loop-k-init
 unfolding sheet_in
 loop-k-init c =
-    let start = c in
-    let a = start.args in
+    let a = c.args in
     let first = c.segment_at-first in
     let hinted = c.hint_of-hints in
     let counted = c.moves-end in
-    let long : length first.result.steps.list ≡ 20 = simp length-map at first.type-inv.1.1.0.1.1.1.0.1.0.1 in
-    standing_starts (sheet_in a.file.now a.ix) _ _ first.result hinted.result _ _ _ _ _ _ _ _ _ _ counted.ensures.0
-    counted.ensures.1 c.location_at.ensures first.ensures long
-    (hinted_new a.ix.ranges blank_zone hinted.result hinted.ensures.0 hinted.ensures.1.0 hinted.ensures.1.1)
-    c.begun-s.ensures start.requires.cells start.requires.marks start.requires.counts refl refl refl
+    let long : length first.result.steps.list ≡ 20 = search rules in
+    standing_starts (sheet_in a.file.now a.ix) _ _ first.result hinted.result _ _ _ _ _ _ _ _ _ _ counted.ensures.value
+    counted.ensures.few c.location_at.ensures first.ensures long
+    (hinted_new a.ix.ranges blank_zone hinted.result hinted.ensures.narrows hinted.ensures.held hinted.ensures.new)
+    c.begun-s.ensures c.requires.cells c.requires.marks c.requires.counts refl refl refl
 
 pub overflow_add-top : goal.overflow_add-top
 overflow_add-top c =
@@ -68,21 +68,10 @@ run-stop-requires c =
     let st = c.loop-k.invariant in
     let go = c.if-s-steps.true in
     let busy = c.if-s-gt0.true in
-    let few = st.walking.machine.turned.few in (
-      (st.cells_long, (st.marks_long, ((omega arith, omega arith), (λ e. omega arith, st.few _)))),
-      (top_lives st go busy, (top_hinted st go busy).trusted),
-    )
-
-pub shape_of-cells-then-refusal-gt0 : goal.shape_of-cells-then-refusal-gt0
-shape_of-cells-then-refusal-gt0 c = c.cells-1.given ∙ c.loop-k.invariant.cells_long ∙
-    sym (cells_length c.requires)
-
-pub shape_of-marks-then-refusal-gt0 : goal.shape_of-marks-then-refusal-gt0
-shape_of-marks-then-refusal-gt0 c = c.marks-1.given ∙ c.loop-k.invariant.marks_long ∙ sym
-    (marks_length c.requires)
-
-pub shape_of-counts-then-refusal-gt0 : goal.shape_of-counts-then-refusal-gt0
-shape_of-counts-then-refusal-gt0 c = c.loop-k.invariant.counts_long ∙ sym (counts_length c.requires)
+    let few = st.walking.machine.turned.few in record {
+      cells_len = (st.cells_long, (st.marks_long, ((omega arith, omega arith), (λ e. omega arith, st.few _))));
+      live = (top_lives st go busy, (top_hinted st go busy).trusted);
+    }
 
 pub returns-then-refusal-gt0 : goal.returns-then-refusal-gt0
 unfolding sheet_in
@@ -91,12 +80,12 @@ returns-then-refusal-gt0 c =
     let go = c.if-s-steps.true in
     let busy = c.if-s-gt0.true in
     let few = st.walking.machine.turned.few in
-    let hl = c.cells-1.given ∙ st.cells_long in
-    let hm = c.marks-1.given ∙ st.marks_long in
+    let hl = c.run-stop.auto.cells ∙ st.cells_long in
+    let hm = c.run-stop.auto.marks ∙ st.marks_long in
     let done = c.run-stop in
-    refused_as _ _ _ _ c.loop-k.counts _ _ done.ensures.1.0 c.if-refusal-gt0.true
-    (stopped_refused st go busy _ _ hl hm done.result.hint done.result.task done.ensures.0 done.ensures.1.0
-    done.ensures.1.1 _ c.number-refusal.ensures c.if-refusal-gt0.true)
+    refused_as _ _ _ _ c.loop-k.counts _ _ done.ensures.same c.if-refusal-gt0.true
+    (stopped_refused st go busy _ _ hl hm done.result.hint done.result.task done.ensures.ran done.ensures.same
+    done.ensures.known _ c.number-refusal.ensures c.if-refusal-gt0.true)
 
 pub halved-requires : goal.halved-requires
 unfolding sheet_in
@@ -105,14 +94,14 @@ halved-requires c =
     let go = c.if-s-steps.true in
     let busy = c.if-s-gt0.true in
     let few = st.walking.machine.turned.few in
-    let hl = c.cells-1.given ∙ st.cells_long in
-    let hm = c.marks-1.given ∙ st.marks_long in
+    let hl = c.run-stop.auto.cells ∙ st.cells_long in
+    let hm = c.run-stop.auto.marks ∙ st.marks_long in
     let done = c.run-stop in
     let f = c.if-t-eq3.true in
-    let fits = split_fits st go busy _ _ hl hm done.result.hint done.result.task done.ensures.0 done.ensures.1.0
-    done.ensures.1.1 f in
-    let deep = split_deep st go busy _ _ hl hm done.result.hint done.result.task done.ensures.0 done.ensures.1.0
-    done.ensures.1.1 f in
+    let fits = split_fits st go busy _ _ hl hm done.result.hint done.result.task done.ensures.ran done.ensures.same
+    done.ensures.known f in
+    let deep = split_deep st go busy _ _ hl hm done.result.hint done.result.task done.ensures.ran done.ensures.same
+    done.ensures.known f in
     (hl, (hm, ((omega arith, omega arith), (fits.1, fits.0))))
 
 pub overflow_add-n : goal.overflow_add-n
@@ -121,14 +110,14 @@ overflow_add-n c =
     let go = c.if-s-steps.true in
     let busy = c.if-s-gt0.true in
     let few = st.walking.machine.turned.few in
-    let hl = c.cells-1.given ∙ st.cells_long in
-    let hm = c.marks-1.given ∙ st.marks_long in
+    let hl = c.run-stop.auto.cells ∙ st.cells_long in
+    let hm = c.run-stop.auto.marks ∙ st.marks_long in
     let done = c.run-stop in
     let f = c.if-t-eq3.true in
-    let fits = split_fits st go busy _ _ hl hm done.result.hint done.result.task done.ensures.0 done.ensures.1.0
-    done.ensures.1.1 f in
-    let deep = split_deep st go busy _ _ hl hm done.result.hint done.result.task done.ensures.0 done.ensures.1.0
-    done.ensures.1.1 f in
+    let fits = split_fits st go busy _ _ hl hm done.result.hint done.result.task done.ensures.ran done.ensures.same
+    done.ensures.known f in
+    let deep = split_deep st go busy _ _ hl hm done.result.hint done.result.task done.ensures.ran done.ensures.same
+    done.ensures.known f in
     omega arith
 
 pub hint_at-no-requires : goal.hint_at-no-requires
@@ -138,15 +127,15 @@ hint_at-no-requires c =
     let go = c.if-s-steps.true in
     let busy = c.if-s-gt0.true in
     let few = st.walking.machine.turned.few in
-    let hl = c.cells-1.given ∙ st.cells_long in
-    let hm = c.marks-1.given ∙ st.marks_long in
+    let hl = c.run-stop.auto.cells ∙ st.cells_long in
+    let hm = c.run-stop.auto.marks ∙ st.marks_long in
     let done = c.run-stop in
     let f = c.if-t-eq3.true in
-    let fits = split_fits st go busy _ _ hl hm done.result.hint done.result.task done.ensures.0 done.ensures.1.0
-    done.ensures.1.1 f in
-    let deep = split_deep st go busy _ _ hl hm done.result.hint done.result.task done.ensures.0 done.ensures.1.0
-    done.ensures.1.1 f in
-    (c.cells-then-t-eq3-1.given ∙ hl, (omega arith, omega arith))
+    let fits = split_fits st go busy _ _ hl hm done.result.hint done.result.task done.ensures.ran done.ensures.same
+    done.ensures.known f in
+    let deep = split_deep st go busy _ _ hl hm done.result.hint done.result.task done.ensures.ran done.ensures.same
+    done.ensures.known f in
+    (c.halved.auto.cells ∙ hl, (omega arith, omega arith))
 
 pub overflow_add-top-then-t-eq3 : goal.overflow_add-top-then-t-eq3
 overflow_add-top-then-t-eq3 c =
@@ -154,14 +143,14 @@ overflow_add-top-then-t-eq3 c =
     let go = c.if-s-steps.true in
     let busy = c.if-s-gt0.true in
     let few = st.walking.machine.turned.few in
-    let hl = c.cells-1.given ∙ st.cells_long in
-    let hm = c.marks-1.given ∙ st.marks_long in
+    let hl = c.run-stop.auto.cells ∙ st.cells_long in
+    let hm = c.run-stop.auto.marks ∙ st.marks_long in
     let done = c.run-stop in
     let f = c.if-t-eq3.true in
-    let fits = split_fits st go busy _ _ hl hm done.result.hint done.result.task done.ensures.0 done.ensures.1.0
-    done.ensures.1.1 f in
-    let deep = split_deep st go busy _ _ hl hm done.result.hint done.result.task done.ensures.0 done.ensures.1.0
-    done.ensures.1.1 f in
+    let fits = split_fits st go busy _ _ hl hm done.result.hint done.result.task done.ensures.ran done.ensures.same
+    done.ensures.known f in
+    let deep = split_deep st go busy _ _ hl hm done.result.hint done.result.task done.ensures.ran done.ensures.same
+    done.ensures.known f in
     omega arith
 
 pub overflow_add-n-then-t-eq3 : goal.overflow_add-n-then-t-eq3
@@ -170,14 +159,14 @@ overflow_add-n-then-t-eq3 c =
     let go = c.if-s-steps.true in
     let busy = c.if-s-gt0.true in
     let few = st.walking.machine.turned.few in
-    let hl = c.cells-1.given ∙ st.cells_long in
-    let hm = c.marks-1.given ∙ st.marks_long in
+    let hl = c.run-stop.auto.cells ∙ st.cells_long in
+    let hm = c.run-stop.auto.marks ∙ st.marks_long in
     let done = c.run-stop in
     let f = c.if-t-eq3.true in
-    let fits = split_fits st go busy _ _ hl hm done.result.hint done.result.task done.ensures.0 done.ensures.1.0
-    done.ensures.1.1 f in
-    let deep = split_deep st go busy _ _ hl hm done.result.hint done.result.task done.ensures.0 done.ensures.1.0
-    done.ensures.1.1 f in
+    let fits = split_fits st go busy _ _ hl hm done.result.hint done.result.task done.ensures.ran done.ensures.same
+    done.ensures.known f in
+    let deep = split_deep st go busy _ _ hl hm done.result.hint done.result.task done.ensures.ran done.ensures.same
+    done.ensures.known f in
     omega arith
 
 pub hint_at-yes-requires : goal.hint_at-yes-requires
@@ -187,15 +176,15 @@ hint_at-yes-requires c =
     let go = c.if-s-steps.true in
     let busy = c.if-s-gt0.true in
     let few = st.walking.machine.turned.few in
-    let hl = c.cells-1.given ∙ st.cells_long in
-    let hm = c.marks-1.given ∙ st.marks_long in
+    let hl = c.run-stop.auto.cells ∙ st.cells_long in
+    let hm = c.run-stop.auto.marks ∙ st.marks_long in
     let done = c.run-stop in
     let f = c.if-t-eq3.true in
-    let fits = split_fits st go busy _ _ hl hm done.result.hint done.result.task done.ensures.0 done.ensures.1.0
-    done.ensures.1.1 f in
-    let deep = split_deep st go busy _ _ hl hm done.result.hint done.result.task done.ensures.0 done.ensures.1.0
-    done.ensures.1.1 f in
-    (c.cells-then-t-eq3-1.given ∙ hl, (omega arith, omega arith))
+    let fits = split_fits st go busy _ _ hl hm done.result.hint done.result.task done.ensures.ran done.ensures.same
+    done.ensures.known f in
+    let deep = split_deep st go busy _ _ hl hm done.result.hint done.result.task done.ensures.ran done.ensures.same
+    done.ensures.known f in
+    (c.halved.auto.cells ∙ hl, (omega arith, omega arith))
 
 pub overflow_add-counts : goal.overflow_add-counts
 overflow_add-counts c =
@@ -203,14 +192,14 @@ overflow_add-counts c =
     let go = c.if-s-steps.true in
     let busy = c.if-s-gt0.true in
     let few = st.walking.machine.turned.few in
-    let hl = c.cells-1.given ∙ st.cells_long in
-    let hm = c.marks-1.given ∙ st.marks_long in
+    let hl = c.run-stop.auto.cells ∙ st.cells_long in
+    let hm = c.run-stop.auto.marks ∙ st.marks_long in
     let done = c.run-stop in
     let f = c.if-t-eq3.true in
-    let fits = split_fits st go busy _ _ hl hm done.result.hint done.result.task done.ensures.0 done.ensures.1.0
-    done.ensures.1.1 f in
-    let deep = split_deep st go busy _ _ hl hm done.result.hint done.result.task done.ensures.0 done.ensures.1.0
-    done.ensures.1.1 f in
+    let fits = split_fits st go busy _ _ hl hm done.result.hint done.result.task done.ensures.ran done.ensures.same
+    done.ensures.known f in
+    let deep = split_deep st go busy _ _ hl hm done.result.hint done.result.task done.ensures.ran done.ensures.same
+    done.ensures.known f in
     omega arith
 
 pub offset_bounds-counts-top-then-t-eq3 : goal.offset_bounds-counts-top-then-t-eq3
@@ -238,14 +227,14 @@ overflow_add-counts-then-t-eq3 c =
     let go = c.if-s-steps.true in
     let busy = c.if-s-gt0.true in
     let few = st.walking.machine.turned.few in
-    let hl = c.cells-1.given ∙ st.cells_long in
-    let hm = c.marks-1.given ∙ st.marks_long in
+    let hl = c.run-stop.auto.cells ∙ st.cells_long in
+    let hm = c.run-stop.auto.marks ∙ st.marks_long in
     let done = c.run-stop in
     let f = c.if-t-eq3.true in
-    let fits = split_fits st go busy _ _ hl hm done.result.hint done.result.task done.ensures.0 done.ensures.1.0
-    done.ensures.1.1 f in
-    let deep = split_deep st go busy _ _ hl hm done.result.hint done.result.task done.ensures.0 done.ensures.1.0
-    done.ensures.1.1 f in
+    let fits = split_fits st go busy _ _ hl hm done.result.hint done.result.task done.ensures.ran done.ensures.same
+    done.ensures.known f in
+    let deep = split_deep st go busy _ _ hl hm done.result.hint done.result.task done.ensures.ran done.ensures.same
+    done.ensures.known f in
     omega arith
 
 pub overflow_add-counts-then-t-eq3-2 : goal.overflow_add-counts-then-t-eq3-2
@@ -254,14 +243,14 @@ overflow_add-counts-then-t-eq3-2 c =
     let go = c.if-s-steps.true in
     let busy = c.if-s-gt0.true in
     let few = st.walking.machine.turned.few in
-    let hl = c.cells-1.given ∙ st.cells_long in
-    let hm = c.marks-1.given ∙ st.marks_long in
+    let hl = c.run-stop.auto.cells ∙ st.cells_long in
+    let hm = c.run-stop.auto.marks ∙ st.marks_long in
     let done = c.run-stop in
     let f = c.if-t-eq3.true in
-    let fits = split_fits st go busy _ _ hl hm done.result.hint done.result.task done.ensures.0 done.ensures.1.0
-    done.ensures.1.1 f in
-    let deep = split_deep st go busy _ _ hl hm done.result.hint done.result.task done.ensures.0 done.ensures.1.0
-    done.ensures.1.1 f in
+    let fits = split_fits st go busy _ _ hl hm done.result.hint done.result.task done.ensures.ran done.ensures.same
+    done.ensures.known f in
+    let deep = split_deep st go busy _ _ hl hm done.result.hint done.result.task done.ensures.ran done.ensures.same
+    done.ensures.known f in
     omega arith
 
 pub offset_bounds-counts-top-then-t-eq3-2 : goal.offset_bounds-counts-top-then-t-eq3-2
@@ -270,14 +259,14 @@ offset_bounds-counts-top-then-t-eq3-2 c =
     let go = c.if-s-steps.true in
     let busy = c.if-s-gt0.true in
     let few = st.walking.machine.turned.few in
-    let hl = c.cells-1.given ∙ st.cells_long in
-    let hm = c.marks-1.given ∙ st.marks_long in
+    let hl = c.run-stop.auto.cells ∙ st.cells_long in
+    let hm = c.run-stop.auto.marks ∙ st.marks_long in
     let done = c.run-stop in
     let f = c.if-t-eq3.true in
-    let fits = split_fits st go busy _ _ hl hm done.result.hint done.result.task done.ensures.0 done.ensures.1.0
-    done.ensures.1.1 f in
-    let deep = split_deep st go busy _ _ hl hm done.result.hint done.result.task done.ensures.0 done.ensures.1.0
-    done.ensures.1.1 f in
+    let fits = split_fits st go busy _ _ hl hm done.result.hint done.result.task done.ensures.ran done.ensures.same
+    done.ensures.known f in
+    let deep = split_deep st go busy _ _ hl hm done.result.hint done.result.task done.ensures.ran done.ensures.same
+    done.ensures.known f in
     omega arith
 
 pub bounds-counts-top-then-t-eq3-2 : goal.bounds-counts-top-then-t-eq3-2
@@ -286,14 +275,14 @@ bounds-counts-top-then-t-eq3-2 c =
     let go = c.if-s-steps.true in
     let busy = c.if-s-gt0.true in
     let few = st.walking.machine.turned.few in
-    let hl = c.cells-1.given ∙ st.cells_long in
-    let hm = c.marks-1.given ∙ st.marks_long in
+    let hl = c.run-stop.auto.cells ∙ st.cells_long in
+    let hm = c.run-stop.auto.marks ∙ st.marks_long in
     let done = c.run-stop in
     let f = c.if-t-eq3.true in
-    let fits = split_fits st go busy _ _ hl hm done.result.hint done.result.task done.ensures.0 done.ensures.1.0
-    done.ensures.1.1 f in
-    let deep = split_deep st go busy _ _ hl hm done.result.hint done.result.task done.ensures.0 done.ensures.1.0
-    done.ensures.1.1 f in
+    let fits = split_fits st go busy _ _ hl hm done.result.hint done.result.task done.ensures.ran done.ensures.same
+    done.ensures.known f in
+    let deep = split_deep st go busy _ _ hl hm done.result.hint done.result.task done.ensures.ran done.ensures.same
+    done.ensures.known f in
     simp length-set (omega (arith, st.counts_long))
 
 pub offset_bounds-tasks-d-then-t-eq3 : goal.offset_bounds-tasks-d-then-t-eq3
@@ -320,14 +309,14 @@ overflow_add-tasks c =
     let go = c.if-s-steps.true in
     let busy = c.if-s-gt0.true in
     let few = st.walking.machine.turned.few in
-    let hl = c.cells-1.given ∙ st.cells_long in
-    let hm = c.marks-1.given ∙ st.marks_long in
+    let hl = c.run-stop.auto.cells ∙ st.cells_long in
+    let hm = c.run-stop.auto.marks ∙ st.marks_long in
     let done = c.run-stop in
     let f = c.if-t-eq3.true in
-    let fits = split_fits st go busy _ _ hl hm done.result.hint done.result.task done.ensures.0 done.ensures.1.0
-    done.ensures.1.1 f in
-    let deep = split_deep st go busy _ _ hl hm done.result.hint done.result.task done.ensures.0 done.ensures.1.0
-    done.ensures.1.1 f in
+    let fits = split_fits st go busy _ _ hl hm done.result.hint done.result.task done.ensures.ran done.ensures.same
+    done.ensures.known f in
+    let deep = split_deep st go busy _ _ hl hm done.result.hint done.result.task done.ensures.ran done.ensures.same
+    done.ensures.known f in
     omega arith
 
 pub offset_bounds-tasks-d-then-t-eq3-2 : goal.offset_bounds-tasks-d-then-t-eq3-2
@@ -336,14 +325,14 @@ offset_bounds-tasks-d-then-t-eq3-2 c =
     let go = c.if-s-steps.true in
     let busy = c.if-s-gt0.true in
     let few = st.walking.machine.turned.few in
-    let hl = c.cells-1.given ∙ st.cells_long in
-    let hm = c.marks-1.given ∙ st.marks_long in
+    let hl = c.run-stop.auto.cells ∙ st.cells_long in
+    let hm = c.run-stop.auto.marks ∙ st.marks_long in
     let done = c.run-stop in
     let f = c.if-t-eq3.true in
-    let fits = split_fits st go busy _ _ hl hm done.result.hint done.result.task done.ensures.0 done.ensures.1.0
-    done.ensures.1.1 f in
-    let deep = split_deep st go busy _ _ hl hm done.result.hint done.result.task done.ensures.0 done.ensures.1.0
-    done.ensures.1.1 f in
+    let fits = split_fits st go busy _ _ hl hm done.result.hint done.result.task done.ensures.ran done.ensures.same
+    done.ensures.known f in
+    let deep = split_deep st go busy _ _ hl hm done.result.hint done.result.task done.ensures.ran done.ensures.same
+    done.ensures.known f in
     omega arith
 
 pub bounds-tasks-d-then-t-eq3-2 : goal.bounds-tasks-d-then-t-eq3-2
@@ -352,14 +341,14 @@ bounds-tasks-d-then-t-eq3-2 c =
     let go = c.if-s-steps.true in
     let busy = c.if-s-gt0.true in
     let few = st.walking.machine.turned.few in
-    let hl = c.cells-1.given ∙ st.cells_long in
-    let hm = c.marks-1.given ∙ st.marks_long in
+    let hl = c.run-stop.auto.cells ∙ st.cells_long in
+    let hm = c.run-stop.auto.marks ∙ st.marks_long in
     let done = c.run-stop in
     let f = c.if-t-eq3.true in
-    let fits = split_fits st go busy _ _ hl hm done.result.hint done.result.task done.ensures.0 done.ensures.1.0
-    done.ensures.1.1 f in
-    let deep = split_deep st go busy _ _ hl hm done.result.hint done.result.task done.ensures.0 done.ensures.1.0
-    done.ensures.1.1 f in
+    let fits = split_fits st go busy _ _ hl hm done.result.hint done.result.task done.ensures.ran done.ensures.same
+    done.ensures.known f in
+    let deep = split_deep st go busy _ _ hl hm done.result.hint done.result.task done.ensures.ran done.ensures.same
+    done.ensures.known f in
     omega arith
 
 pub offset_bounds-waits-d-then-t-eq3 : goal.offset_bounds-waits-d-then-t-eq3
@@ -386,14 +375,14 @@ overflow_add-waits c =
     let go = c.if-s-steps.true in
     let busy = c.if-s-gt0.true in
     let few = st.walking.machine.turned.few in
-    let hl = c.cells-1.given ∙ st.cells_long in
-    let hm = c.marks-1.given ∙ st.marks_long in
+    let hl = c.run-stop.auto.cells ∙ st.cells_long in
+    let hm = c.run-stop.auto.marks ∙ st.marks_long in
     let done = c.run-stop in
     let f = c.if-t-eq3.true in
-    let fits = split_fits st go busy _ _ hl hm done.result.hint done.result.task done.ensures.0 done.ensures.1.0
-    done.ensures.1.1 f in
-    let deep = split_deep st go busy _ _ hl hm done.result.hint done.result.task done.ensures.0 done.ensures.1.0
-    done.ensures.1.1 f in
+    let fits = split_fits st go busy _ _ hl hm done.result.hint done.result.task done.ensures.ran done.ensures.same
+    done.ensures.known f in
+    let deep = split_deep st go busy _ _ hl hm done.result.hint done.result.task done.ensures.ran done.ensures.same
+    done.ensures.known f in
     omega arith
 
 pub offset_bounds-waits-d-then-t-eq3-2 : goal.offset_bounds-waits-d-then-t-eq3-2
@@ -402,14 +391,14 @@ offset_bounds-waits-d-then-t-eq3-2 c =
     let go = c.if-s-steps.true in
     let busy = c.if-s-gt0.true in
     let few = st.walking.machine.turned.few in
-    let hl = c.cells-1.given ∙ st.cells_long in
-    let hm = c.marks-1.given ∙ st.marks_long in
+    let hl = c.run-stop.auto.cells ∙ st.cells_long in
+    let hm = c.run-stop.auto.marks ∙ st.marks_long in
     let done = c.run-stop in
     let f = c.if-t-eq3.true in
-    let fits = split_fits st go busy _ _ hl hm done.result.hint done.result.task done.ensures.0 done.ensures.1.0
-    done.ensures.1.1 f in
-    let deep = split_deep st go busy _ _ hl hm done.result.hint done.result.task done.ensures.0 done.ensures.1.0
-    done.ensures.1.1 f in
+    let fits = split_fits st go busy _ _ hl hm done.result.hint done.result.task done.ensures.ran done.ensures.same
+    done.ensures.known f in
+    let deep = split_deep st go busy _ _ hl hm done.result.hint done.result.task done.ensures.ran done.ensures.same
+    done.ensures.known f in
     omega arith
 
 pub bounds-waits-d-then-t-eq3-2 : goal.bounds-waits-d-then-t-eq3-2
@@ -418,14 +407,14 @@ bounds-waits-d-then-t-eq3-2 c =
     let go = c.if-s-steps.true in
     let busy = c.if-s-gt0.true in
     let few = st.walking.machine.turned.few in
-    let hl = c.cells-1.given ∙ st.cells_long in
-    let hm = c.marks-1.given ∙ st.marks_long in
+    let hl = c.run-stop.auto.cells ∙ st.cells_long in
+    let hm = c.run-stop.auto.marks ∙ st.marks_long in
     let done = c.run-stop in
     let f = c.if-t-eq3.true in
-    let fits = split_fits st go busy _ _ hl hm done.result.hint done.result.task done.ensures.0 done.ensures.1.0
-    done.ensures.1.1 f in
-    let deep = split_deep st go busy _ _ hl hm done.result.hint done.result.task done.ensures.0 done.ensures.1.0
-    done.ensures.1.1 f in
+    let fits = split_fits st go busy _ _ hl hm done.result.hint done.result.task done.ensures.ran done.ensures.same
+    done.ensures.known f in
+    let deep = split_deep st go busy _ _ hl hm done.result.hint done.result.task done.ensures.ran done.ensures.same
+    done.ensures.known f in
     omega arith
 
 pub pushed-s-requires : goal.pushed-s-requires
@@ -434,14 +423,14 @@ pushed-s-requires c =
     let go = c.if-s-steps.true in
     let busy = c.if-s-gt0.true in
     let few = st.walking.machine.turned.few in
-    let hl = c.cells-1.given ∙ st.cells_long in
-    let hm = c.marks-1.given ∙ st.marks_long in
+    let hl = c.run-stop.auto.cells ∙ st.cells_long in
+    let hm = c.run-stop.auto.marks ∙ st.marks_long in
     let done = c.run-stop in
     let f = c.if-t-eq3.true in
-    let fits = split_fits st go busy _ _ hl hm done.result.hint done.result.task done.ensures.0 done.ensures.1.0
-    done.ensures.1.1 f in
-    let deep = split_deep st go busy _ _ hl hm done.result.hint done.result.task done.ensures.0 done.ensures.1.0
-    done.ensures.1.1 f in
+    let fits = split_fits st go busy _ _ hl hm done.result.hint done.result.task done.ensures.ran done.ensures.same
+    done.ensures.known f in
+    let deep = split_deep st go busy _ _ hl hm done.result.hint done.result.task done.ensures.ran done.ensures.same
+    done.ensures.known f in
     deep
 
 pub loop-k-smaller-then-t-eq3 : goal.loop-k-smaller-then-t-eq3
@@ -451,20 +440,20 @@ loop-k-smaller-then-t-eq3 c =
     let go = c.if-s-steps.true in
     let busy = c.if-s-gt0.true in
     let few = st.walking.machine.turned.few in
-    let hl = c.cells-1.given ∙ st.cells_long in
-    let hm = c.marks-1.given ∙ st.marks_long in
+    let hl = c.run-stop.auto.cells ∙ st.cells_long in
+    let hm = c.run-stop.auto.marks ∙ st.marks_long in
     let done = c.run-stop in
     let f = c.if-t-eq3.true in
-    let fits = split_fits st go busy _ _ hl hm done.result.hint done.result.task done.ensures.0 done.ensures.1.0
-    done.ensures.1.1 f in
-    let deep = split_deep st go busy _ _ hl hm done.result.hint done.result.task done.ensures.0 done.ensures.1.0
-    done.ensures.1.1 f in
+    let fits = split_fits st go busy _ _ hl hm done.result.hint done.result.task done.ensures.ran done.ensures.same
+    done.ensures.known f in
+    let deep = split_deep st go busy _ _ hl hm done.result.hint done.result.task done.ensures.ran done.ensures.same
+    done.ensures.known f in
     let no = c.hint_at-no in
     let yes = c.hint_at-yes in
-    (stopped_split st go busy _ _ hl hm done.result.hint done.result.task done.ensures.0 done.ensures.1.0
-    done.ensures.1.1 f _ _ (c.cells-then-t-eq3-1.given ∙ hl)
-    (c.marks-then-t-eq3-1.given ∙ hm) c.halved.ensures no.result yes.result no.ensures.0
-    no.ensures.1.0 no.ensures.1.1 yes.ensures.0 yes.ensures.1.0 yes.ensures.1.1 _ _
+    (stopped_split st go busy _ _ hl hm done.result.hint done.result.task done.ensures.ran done.ensures.same
+    done.ensures.known f _ _ (c.halved.auto.cells ∙ hl)
+    (c.halved.auto.marks ∙ hm) c.halved.ensures no.result yes.result no.ensures.narrows
+    no.ensures.held no.ensures.same yes.ensures.narrows yes.ensures.held yes.ensures.same _ _
     c.answered-below.ensures c.answered-above.ensures _ c.pushed-s.ensures).1
 
 pub loop-k-preserved-then-t-eq3 : goal.loop-k-preserved-then-t-eq3
@@ -474,20 +463,20 @@ loop-k-preserved-then-t-eq3 c =
     let go = c.if-s-steps.true in
     let busy = c.if-s-gt0.true in
     let few = st.walking.machine.turned.few in
-    let hl = c.cells-1.given ∙ st.cells_long in
-    let hm = c.marks-1.given ∙ st.marks_long in
+    let hl = c.run-stop.auto.cells ∙ st.cells_long in
+    let hm = c.run-stop.auto.marks ∙ st.marks_long in
     let done = c.run-stop in
     let f = c.if-t-eq3.true in
-    let fits = split_fits st go busy _ _ hl hm done.result.hint done.result.task done.ensures.0 done.ensures.1.0
-    done.ensures.1.1 f in
-    let deep = split_deep st go busy _ _ hl hm done.result.hint done.result.task done.ensures.0 done.ensures.1.0
-    done.ensures.1.1 f in
+    let fits = split_fits st go busy _ _ hl hm done.result.hint done.result.task done.ensures.ran done.ensures.same
+    done.ensures.known f in
+    let deep = split_deep st go busy _ _ hl hm done.result.hint done.result.task done.ensures.ran done.ensures.same
+    done.ensures.known f in
     let no = c.hint_at-no in
     let yes = c.hint_at-yes in
-    (stopped_split st go busy _ _ hl hm done.result.hint done.result.task done.ensures.0 done.ensures.1.0
-    done.ensures.1.1 f _ _ (c.cells-then-t-eq3-1.given ∙ hl)
-    (c.marks-then-t-eq3-1.given ∙ hm) c.halved.ensures no.result yes.result no.ensures.0
-    no.ensures.1.0 no.ensures.1.1 yes.ensures.0 yes.ensures.1.0 yes.ensures.1.1 _ _
+    (stopped_split st go busy _ _ hl hm done.result.hint done.result.task done.ensures.ran done.ensures.same
+    done.ensures.known f _ _ (c.halved.auto.cells ∙ hl)
+    (c.halved.auto.marks ∙ hm) c.halved.ensures no.result yes.result no.ensures.narrows
+    no.ensures.held no.ensures.same yes.ensures.narrows yes.ensures.held yes.ensures.same _ _
     c.answered-below.ensures c.answered-above.ensures _ c.pushed-s.ensures).0
 
 pub offset_bounds-counts-at : goal.offset_bounds-counts-at
@@ -496,12 +485,12 @@ offset_bounds-counts-at c =
     let go = c.if-s-steps.true in
     let busy = c.if-s-gt0.true in
     let few = st.walking.machine.turned.few in
-    let hl = c.cells-1.given ∙ st.cells_long in
-    let hm = c.marks-1.given ∙ st.marks_long in
+    let hl = c.run-stop.auto.cells ∙ st.cells_long in
+    let hm = c.run-stop.auto.marks ∙ st.marks_long in
     let done = c.run-stop in
     let quiet = subst (λ (x : ℕ). x ≤ 0) c.number-refusal.ensures c.if-refusal-gt0.false in
-    let room = listed_room st go busy _ _ hl hm done.result.hint done.result.task done.ensures.0 done.ensures.1.0
-    done.ensures.1.1 quiet c.if-t-eq2.true in
+    let room = listed_room st go busy _ _ hl hm done.result.hint done.result.task done.ensures.ran done.ensures.same
+    done.ensures.known quiet c.if-t-eq2.true in
     omega (arith, st.counts_long)
 
 pub bounds-counts-at : goal.bounds-counts-at
@@ -510,12 +499,12 @@ bounds-counts-at c =
     let go = c.if-s-steps.true in
     let busy = c.if-s-gt0.true in
     let few = st.walking.machine.turned.few in
-    let hl = c.cells-1.given ∙ st.cells_long in
-    let hm = c.marks-1.given ∙ st.marks_long in
+    let hl = c.run-stop.auto.cells ∙ st.cells_long in
+    let hm = c.run-stop.auto.marks ∙ st.marks_long in
     let done = c.run-stop in
     let quiet = subst (λ (x : ℕ). x ≤ 0) c.number-refusal.ensures c.if-refusal-gt0.false in
-    let room = listed_room st go busy _ _ hl hm done.result.hint done.result.task done.ensures.0 done.ensures.1.0
-    done.ensures.1.1 quiet c.if-t-eq2.true in
+    let room = listed_room st go busy _ _ hl hm done.result.hint done.result.task done.ensures.ran done.ensures.same
+    done.ensures.known quiet c.if-t-eq2.true in
     omega (arith, st.counts_long)
 
 pub offset_bounds-hints-at : goal.offset_bounds-hints-at
@@ -524,12 +513,12 @@ offset_bounds-hints-at c =
     let go = c.if-s-steps.true in
     let busy = c.if-s-gt0.true in
     let few = st.walking.machine.turned.few in
-    let hl = c.cells-1.given ∙ st.cells_long in
-    let hm = c.marks-1.given ∙ st.marks_long in
+    let hl = c.run-stop.auto.cells ∙ st.cells_long in
+    let hm = c.run-stop.auto.marks ∙ st.marks_long in
     let done = c.run-stop in
     let quiet = subst (λ (x : ℕ). x ≤ 0) c.number-refusal.ensures c.if-refusal-gt0.false in
-    let room = listed_room st go busy _ _ hl hm done.result.hint done.result.task done.ensures.0 done.ensures.1.0
-    done.ensures.1.1 quiet c.if-t-eq2.true in
+    let room = listed_room st go busy _ _ hl hm done.result.hint done.result.task done.ensures.ran done.ensures.same
+    done.ensures.known quiet c.if-t-eq2.true in
     omega (arith, st.counts_long)
 
 pub bounds-hints-at : goal.bounds-hints-at
@@ -538,12 +527,12 @@ bounds-hints-at c =
     let go = c.if-s-steps.true in
     let busy = c.if-s-gt0.true in
     let few = st.walking.machine.turned.few in
-    let hl = c.cells-1.given ∙ st.cells_long in
-    let hm = c.marks-1.given ∙ st.marks_long in
+    let hl = c.run-stop.auto.cells ∙ st.cells_long in
+    let hm = c.run-stop.auto.marks ∙ st.marks_long in
     let done = c.run-stop in
     let quiet = subst (λ (x : ℕ). x ≤ 0) c.number-refusal.ensures c.if-refusal-gt0.false in
-    let room = listed_room st go busy _ _ hl hm done.result.hint done.result.task done.ensures.0 done.ensures.1.0
-    done.ensures.1.1 quiet c.if-t-eq2.true in
+    let room = listed_room st go busy _ _ hl hm done.result.hint done.result.task done.ensures.ran done.ensures.same
+    done.ensures.known quiet c.if-t-eq2.true in
     omega (arith, st.counts_long)
 
 pub overflow_add-at : goal.overflow_add-at
@@ -552,14 +541,14 @@ overflow_add-at c =
     let go = c.if-s-steps.true in
     let busy = c.if-s-gt0.true in
     let few = st.walking.machine.turned.few in
-    let hl = c.cells-1.given ∙ st.cells_long in
-    let hm = c.marks-1.given ∙
+    let hl = c.run-stop.auto.cells ∙ st.cells_long in
+    let hm = c.run-stop.auto.marks ∙
     st.marks_long in
     let done = c.run-stop in
     let quiet = subst (λ (x : ℕ). x ≤ 0) c.number-refusal.ensures
     c.if-refusal-gt0.false in
-    let room = listed_room st go busy _ _ hl hm done.result.hint done.result.task done.ensures.0 done.ensures.1.0
-    done.ensures.1.1 quiet c.if-t-eq2.true in
+    let room = listed_room st go busy _ _ hl hm done.result.hint done.result.task done.ensures.ran done.ensures.same
+    done.ensures.known quiet c.if-t-eq2.true in
     omega (arith, st.counts_long)
 
 pub copy-requires : goal.copy-requires
@@ -568,14 +557,14 @@ copy-requires c =
     let go = c.if-s-steps.true in
     let busy = c.if-s-gt0.true in
     let few = st.walking.machine.turned.few in
-    let hl = c.cells-1.given ∙ st.cells_long in
-    let hm = c.marks-1.given ∙
+    let hl = c.run-stop.auto.cells ∙ st.cells_long in
+    let hm = c.run-stop.auto.marks ∙
     st.marks_long in
     let done = c.run-stop in
     let quiet = subst (λ (x : ℕ). x ≤ 0) c.number-refusal.ensures
     c.if-refusal-gt0.false in
-    let room = listed_room st go busy _ _ hl hm done.result.hint done.result.task done.ensures.0 done.ensures.1.0
-    done.ensures.1.1 quiet c.if-t-eq2.true in
+    let room = listed_room st go busy _ _ hl hm done.result.hint done.result.task done.ensures.ran done.ensures.same
+    done.ensures.known quiet c.if-t-eq2.true in
     (hl, (hm, (omega arith, omega arith)))
 
 pub overflow_add-counts-then-t-eq2 : goal.overflow_add-counts-then-t-eq2
@@ -584,12 +573,12 @@ overflow_add-counts-then-t-eq2 c =
     let go = c.if-s-steps.true in
     let busy = c.if-s-gt0.true in
     let few = st.walking.machine.turned.few in
-    let hl = c.cells-1.given ∙ st.cells_long in
-    let hm = c.marks-1.given ∙ st.marks_long in
+    let hl = c.run-stop.auto.cells ∙ st.cells_long in
+    let hm = c.run-stop.auto.marks ∙ st.marks_long in
     let done = c.run-stop in
     let quiet = subst (λ (x : ℕ). x ≤ 0) c.number-refusal.ensures c.if-refusal-gt0.false in
-    let room = listed_room st go busy _ _ hl hm done.result.hint done.result.task done.ensures.0 done.ensures.1.0
-    done.ensures.1.1 quiet c.if-t-eq2.true in
+    let room = listed_room st go busy _ _ hl hm done.result.hint done.result.task done.ensures.ran done.ensures.same
+    done.ensures.known quiet c.if-t-eq2.true in
     omega (arith, st.counts_long)
 
 pub offset_bounds-counts-at-then-t-eq2 : goal.offset_bounds-counts-at-then-t-eq2
@@ -598,12 +587,12 @@ offset_bounds-counts-at-then-t-eq2 c =
     let go = c.if-s-steps.true in
     let busy = c.if-s-gt0.true in
     let few = st.walking.machine.turned.few in
-    let hl = c.cells-1.given ∙ st.cells_long in
-    let hm = c.marks-1.given ∙ st.marks_long in
+    let hl = c.run-stop.auto.cells ∙ st.cells_long in
+    let hm = c.run-stop.auto.marks ∙ st.marks_long in
     let done = c.run-stop in
     let quiet = subst (λ (x : ℕ). x ≤ 0) c.number-refusal.ensures c.if-refusal-gt0.false in
-    let room = listed_room st go busy _ _ hl hm done.result.hint done.result.task done.ensures.0 done.ensures.1.0
-    done.ensures.1.1 quiet c.if-t-eq2.true in
+    let room = listed_room st go busy _ _ hl hm done.result.hint done.result.task done.ensures.ran done.ensures.same
+    done.ensures.known quiet c.if-t-eq2.true in
     omega (arith, st.counts_long)
 
 pub bounds-counts-at-then-t-eq2 : goal.bounds-counts-at-then-t-eq2
@@ -612,12 +601,12 @@ bounds-counts-at-then-t-eq2 c =
     let go = c.if-s-steps.true in
     let busy = c.if-s-gt0.true in
     let few = st.walking.machine.turned.few in
-    let hl = c.cells-1.given ∙ st.cells_long in
-    let hm = c.marks-1.given ∙ st.marks_long in
+    let hl = c.run-stop.auto.cells ∙ st.cells_long in
+    let hm = c.run-stop.auto.marks ∙ st.marks_long in
     let done = c.run-stop in
     let quiet = subst (λ (x : ℕ). x ≤ 0) c.number-refusal.ensures c.if-refusal-gt0.false in
-    let room = listed_room st go busy _ _ hl hm done.result.hint done.result.task done.ensures.0 done.ensures.1.0
-    done.ensures.1.1 quiet c.if-t-eq2.true in
+    let room = listed_room st go busy _ _ hl hm done.result.hint done.result.task done.ensures.ran done.ensures.same
+    done.ensures.known quiet c.if-t-eq2.true in
     omega (arith, st.counts_long)
 
 pub overflow_add-hints : goal.overflow_add-hints
@@ -626,12 +615,12 @@ overflow_add-hints c =
     let go = c.if-s-steps.true in
     let busy = c.if-s-gt0.true in
     let few = st.walking.machine.turned.few in
-    let hl = c.cells-1.given ∙ st.cells_long in
-    let hm = c.marks-1.given ∙ st.marks_long in
+    let hl = c.run-stop.auto.cells ∙ st.cells_long in
+    let hm = c.run-stop.auto.marks ∙ st.marks_long in
     let done = c.run-stop in
     let quiet = subst (λ (x : ℕ). x ≤ 0) c.number-refusal.ensures c.if-refusal-gt0.false in
-    let room = listed_room st go busy _ _ hl hm done.result.hint done.result.task done.ensures.0 done.ensures.1.0
-    done.ensures.1.1 quiet c.if-t-eq2.true in
+    let room = listed_room st go busy _ _ hl hm done.result.hint done.result.task done.ensures.ran done.ensures.same
+    done.ensures.known quiet c.if-t-eq2.true in
     omega (arith, st.counts_long)
 
 pub offset_bounds-hints-at-then-t-eq2 : goal.offset_bounds-hints-at-then-t-eq2
@@ -640,12 +629,12 @@ offset_bounds-hints-at-then-t-eq2 c =
     let go = c.if-s-steps.true in
     let busy = c.if-s-gt0.true in
     let few = st.walking.machine.turned.few in
-    let hl = c.cells-1.given ∙ st.cells_long in
-    let hm = c.marks-1.given ∙ st.marks_long in
+    let hl = c.run-stop.auto.cells ∙ st.cells_long in
+    let hm = c.run-stop.auto.marks ∙ st.marks_long in
     let done = c.run-stop in
     let quiet = subst (λ (x : ℕ). x ≤ 0) c.number-refusal.ensures c.if-refusal-gt0.false in
-    let room = listed_room st go busy _ _ hl hm done.result.hint done.result.task done.ensures.0 done.ensures.1.0
-    done.ensures.1.1 quiet c.if-t-eq2.true in
+    let room = listed_room st go busy _ _ hl hm done.result.hint done.result.task done.ensures.ran done.ensures.same
+    done.ensures.known quiet c.if-t-eq2.true in
     omega (arith, st.counts_long)
 
 pub bounds-hints-at-then-t-eq2 : goal.bounds-hints-at-then-t-eq2
@@ -654,12 +643,12 @@ bounds-hints-at-then-t-eq2 c =
     let go = c.if-s-steps.true in
     let busy = c.if-s-gt0.true in
     let few = st.walking.machine.turned.few in
-    let hl = c.cells-1.given ∙ st.cells_long in
-    let hm = c.marks-1.given ∙ st.marks_long in
+    let hl = c.run-stop.auto.cells ∙ st.cells_long in
+    let hm = c.run-stop.auto.marks ∙ st.marks_long in
     let done = c.run-stop in
     let quiet = subst (λ (x : ℕ). x ≤ 0) c.number-refusal.ensures c.if-refusal-gt0.false in
-    let room = listed_room st go busy _ _ hl hm done.result.hint done.result.task done.ensures.0 done.ensures.1.0
-    done.ensures.1.1 quiet c.if-t-eq2.true in
+    let room = listed_room st go busy _ _ hl hm done.result.hint done.result.task done.ensures.ran done.ensures.same
+    done.ensures.known quiet c.if-t-eq2.true in
     omega (arith, st.counts_long)
 
 pub copy-requires-then-t-eq2 : goal.copy-requires-then-t-eq2
@@ -668,13 +657,13 @@ copy-requires-then-t-eq2 c =
     let go = c.if-s-steps.true in
     let busy = c.if-s-gt0.true in
     let few = st.walking.machine.turned.few in
-    let hl = c.cells-1.given ∙ st.cells_long in
-    let hm = c.marks-1.given ∙ st.marks_long in
+    let hl = c.run-stop.auto.cells ∙ st.cells_long in
+    let hm = c.run-stop.auto.marks ∙ st.marks_long in
     let done = c.run-stop in
     let quiet = subst (λ (x : ℕ). x ≤ 0) c.number-refusal.ensures c.if-refusal-gt0.false in
-    let room = listed_room st go busy _ _ hl hm done.result.hint done.result.task done.ensures.0 done.ensures.1.0
-    done.ensures.1.1 quiet c.if-t-eq2.true in
-    (c.cells-then-t-eq2-1.given ∙ hl, (c.marks-then-t-eq2-1.given ∙ hm, (omega arith, omega arith)))
+    let room = listed_room st go busy _ _ hl hm done.result.hint done.result.task done.ensures.ran done.ensures.same
+    done.ensures.known quiet c.if-t-eq2.true in
+    (c.copy.auto.cells ∙ hl, (c.copy.auto.marks ∙ hm, (omega arith, omega arith)))
 
 pub offset_bounds-counts-at-then-t-eq2-2 : goal.offset_bounds-counts-at-then-t-eq2-2
 offset_bounds-counts-at-then-t-eq2-2 c =
@@ -682,12 +671,12 @@ offset_bounds-counts-at-then-t-eq2-2 c =
     let go = c.if-s-steps.true in
     let busy = c.if-s-gt0.true in
     let few = st.walking.machine.turned.few in
-    let hl = c.cells-1.given ∙ st.cells_long in
-    let hm = c.marks-1.given ∙ st.marks_long in
+    let hl = c.run-stop.auto.cells ∙ st.cells_long in
+    let hm = c.run-stop.auto.marks ∙ st.marks_long in
     let done = c.run-stop in
     let quiet = subst (λ (x : ℕ). x ≤ 0) c.number-refusal.ensures c.if-refusal-gt0.false in
-    let room = listed_room st go busy _ _ hl hm done.result.hint done.result.task done.ensures.0 done.ensures.1.0
-    done.ensures.1.1 quiet c.if-t-eq2.true in
+    let room = listed_room st go busy _ _ hl hm done.result.hint done.result.task done.ensures.ran done.ensures.same
+    done.ensures.known quiet c.if-t-eq2.true in
     omega (arith, st.counts_long)
 
 pub bounds-counts-at-then-t-eq2-2 : goal.bounds-counts-at-then-t-eq2-2
@@ -696,12 +685,12 @@ bounds-counts-at-then-t-eq2-2 c =
     let go = c.if-s-steps.true in
     let busy = c.if-s-gt0.true in
     let few = st.walking.machine.turned.few in
-    let hl = c.cells-1.given ∙ st.cells_long in
-    let hm = c.marks-1.given ∙ st.marks_long in
+    let hl = c.run-stop.auto.cells ∙ st.cells_long in
+    let hm = c.run-stop.auto.marks ∙ st.marks_long in
     let done = c.run-stop in
     let quiet = subst (λ (x : ℕ). x ≤ 0) c.number-refusal.ensures c.if-refusal-gt0.false in
-    let room = listed_room st go busy _ _ hl hm done.result.hint done.result.task done.ensures.0 done.ensures.1.0
-    done.ensures.1.1 quiet c.if-t-eq2.true in
+    let room = listed_room st go busy _ _ hl hm done.result.hint done.result.task done.ensures.ran done.ensures.same
+    done.ensures.known quiet c.if-t-eq2.true in
     simp length-set (omega (arith, st.counts_long))
 
 pub offset_bounds-hints-at-then-t-eq2-2 : goal.offset_bounds-hints-at-then-t-eq2-2
@@ -710,12 +699,12 @@ offset_bounds-hints-at-then-t-eq2-2 c =
     let go = c.if-s-steps.true in
     let busy = c.if-s-gt0.true in
     let few = st.walking.machine.turned.few in
-    let hl = c.cells-1.given ∙ st.cells_long in
-    let hm = c.marks-1.given ∙ st.marks_long in
+    let hl = c.run-stop.auto.cells ∙ st.cells_long in
+    let hm = c.run-stop.auto.marks ∙ st.marks_long in
     let done = c.run-stop in
     let quiet = subst (λ (x : ℕ). x ≤ 0) c.number-refusal.ensures c.if-refusal-gt0.false in
-    let room = listed_room st go busy _ _ hl hm done.result.hint done.result.task done.ensures.0 done.ensures.1.0
-    done.ensures.1.1 quiet c.if-t-eq2.true in
+    let room = listed_room st go busy _ _ hl hm done.result.hint done.result.task done.ensures.ran done.ensures.same
+    done.ensures.known quiet c.if-t-eq2.true in
     omega (arith, st.counts_long)
 
 pub bounds-hints-at-then-t-eq2-2 : goal.bounds-hints-at-then-t-eq2-2
@@ -724,12 +713,12 @@ bounds-hints-at-then-t-eq2-2 c =
     let go = c.if-s-steps.true in
     let busy = c.if-s-gt0.true in
     let few = st.walking.machine.turned.few in
-    let hl = c.cells-1.given ∙ st.cells_long in
-    let hm = c.marks-1.given ∙ st.marks_long in
+    let hl = c.run-stop.auto.cells ∙ st.cells_long in
+    let hm = c.run-stop.auto.marks ∙ st.marks_long in
     let done = c.run-stop in
     let quiet = subst (λ (x : ℕ). x ≤ 0) c.number-refusal.ensures c.if-refusal-gt0.false in
-    let room = listed_room st go busy _ _ hl hm done.result.hint done.result.task done.ensures.0 done.ensures.1.0
-    done.ensures.1.1 quiet c.if-t-eq2.true in
+    let room = listed_room st go busy _ _ hl hm done.result.hint done.result.task done.ensures.ran done.ensures.same
+    done.ensures.known quiet c.if-t-eq2.true in
     omega (arith, st.counts_long)
 
 pub listed-s-requires : goal.listed-s-requires
@@ -738,12 +727,12 @@ listed-s-requires c =
     let go = c.if-s-steps.true in
     let busy = c.if-s-gt0.true in
     let few = st.walking.machine.turned.few in
-    let hl = c.cells-1.given ∙ st.cells_long in
-    let hm = c.marks-1.given ∙ st.marks_long in
+    let hl = c.run-stop.auto.cells ∙ st.cells_long in
+    let hm = c.run-stop.auto.marks ∙ st.marks_long in
     let done = c.run-stop in
     let quiet = subst (λ (x : ℕ). x ≤ 0) c.number-refusal.ensures c.if-refusal-gt0.false in
-    let room = listed_room st go busy _ _ hl hm done.result.hint done.result.task done.ensures.0 done.ensures.1.0
-    done.ensures.1.1 quiet c.if-t-eq2.true in
+    let room = listed_room st go busy _ _ hl hm done.result.hint done.result.task done.ensures.ran done.ensures.same
+    done.ensures.known quiet c.if-t-eq2.true in
     room
 
 pub loop-k-smaller-then-t-eq2 : goal.loop-k-smaller-then-t-eq2
@@ -753,14 +742,14 @@ loop-k-smaller-then-t-eq2 c =
     let go = c.if-s-steps.true in
     let busy = c.if-s-gt0.true in
     let few = st.walking.machine.turned.few in
-    let hl = c.cells-1.given ∙ st.cells_long in
-    let hm = c.marks-1.given ∙ st.marks_long in
+    let hl = c.run-stop.auto.cells ∙ st.cells_long in
+    let hm = c.run-stop.auto.marks ∙ st.marks_long in
     let done = c.run-stop in
     let quiet = subst (λ (x : ℕ). x ≤ 0) c.number-refusal.ensures c.if-refusal-gt0.false in
-    (stopped_listed st go busy _ _ hl hm done.result.hint done.result.task done.ensures.0 done.ensures.1.0
-    done.ensures.1.1 quiet c.if-t-eq2.true _ _
-    (c.cells-then-t-eq2-2-1.given ∙ c.cells-then-t-eq2-1.given ∙ hl)
-    (c.marks-then-t-eq2-2-1.given ∙ c.marks-then-t-eq2-1.given ∙ hm) _ c.copy.ensures
+    (stopped_listed st go busy _ _ hl hm done.result.hint done.result.task done.ensures.ran done.ensures.same
+    done.ensures.known quiet c.if-t-eq2.true _ _
+    (c.copy-then-t-eq2.auto.cells ∙ c.copy.auto.cells ∙ hl)
+    (c.copy-then-t-eq2.auto.marks ∙ c.copy.auto.marks ∙ hm) _ c.copy.ensures
     c.copy-then-t-eq2.ensures _ c.listed-s.ensures).1
 
 pub loop-k-preserved-then-t-eq2 : goal.loop-k-preserved-then-t-eq2
@@ -770,14 +759,14 @@ loop-k-preserved-then-t-eq2 c =
     let go = c.if-s-steps.true in
     let busy = c.if-s-gt0.true in
     let few = st.walking.machine.turned.few in
-    let hl = c.cells-1.given ∙ st.cells_long in
-    let hm = c.marks-1.given ∙ st.marks_long in
+    let hl = c.run-stop.auto.cells ∙ st.cells_long in
+    let hm = c.run-stop.auto.marks ∙ st.marks_long in
     let done = c.run-stop in
     let quiet = subst (λ (x : ℕ). x ≤ 0) c.number-refusal.ensures c.if-refusal-gt0.false in
-    (stopped_listed st go busy _ _ hl hm done.result.hint done.result.task done.ensures.0 done.ensures.1.0
-    done.ensures.1.1 quiet c.if-t-eq2.true _ _
-    (c.cells-then-t-eq2-2-1.given ∙ c.cells-then-t-eq2-1.given ∙ hl)
-    (c.marks-then-t-eq2-2-1.given ∙ c.marks-then-t-eq2-1.given ∙ hm) _ c.copy.ensures
+    (stopped_listed st go busy _ _ hl hm done.result.hint done.result.task done.ensures.ran done.ensures.same
+    done.ensures.known quiet c.if-t-eq2.true _ _
+    (c.copy-then-t-eq2.auto.cells ∙ c.copy.auto.cells ∙ hl)
+    (c.copy-then-t-eq2.auto.marks ∙ c.copy.auto.marks ∙ hm) _ c.copy.ensures
     c.copy-then-t-eq2.ensures _ c.listed-s.ensures).0
 
 pub loop-k-smaller-else-t-eq2 : goal.loop-k-smaller-else-t-eq2
@@ -787,12 +776,12 @@ loop-k-smaller-else-t-eq2 c =
     let go = c.if-s-steps.true in
     let busy = c.if-s-gt0.true in
     let few = st.walking.machine.turned.few in
-    let hl = c.cells-1.given ∙ st.cells_long in
-    let hm = c.marks-1.given ∙ st.marks_long in
+    let hl = c.run-stop.auto.cells ∙ st.cells_long in
+    let hm = c.run-stop.auto.marks ∙ st.marks_long in
     let done = c.run-stop in
     let quiet = subst (λ (x : ℕ). x ≤ 0) c.number-refusal.ensures c.if-refusal-gt0.false in
-    (stopped_dropped st go busy _ _ hl hm done.result.hint done.result.task done.ensures.0 done.ensures.1.0
-    done.ensures.1.1 quiet c.if-t-eq3.false c.if-t-eq2.false _
+    (stopped_dropped st go busy _ _ hl hm done.result.hint done.result.task done.ensures.ran done.ensures.same
+    done.ensures.known quiet c.if-t-eq3.false c.if-t-eq2.false _
     c.dropped-s.ensures).1
 
 pub loop-k-preserved-else-t-eq2 : goal.loop-k-preserved-else-t-eq2
@@ -802,12 +791,12 @@ loop-k-preserved-else-t-eq2 c =
     let go = c.if-s-steps.true in
     let busy = c.if-s-gt0.true in
     let few = st.walking.machine.turned.few in
-    let hl = c.cells-1.given ∙ st.cells_long in
-    let hm = c.marks-1.given ∙ st.marks_long in
+    let hl = c.run-stop.auto.cells ∙ st.cells_long in
+    let hm = c.run-stop.auto.marks ∙ st.marks_long in
     let done = c.run-stop in
     let quiet = subst (λ (x : ℕ). x ≤ 0) c.number-refusal.ensures c.if-refusal-gt0.false in
-    (stopped_dropped st go busy _ _ hl hm done.result.hint done.result.task done.ensures.0 done.ensures.1.0
-    done.ensures.1.1 quiet c.if-t-eq3.false c.if-t-eq2.false _
+    (stopped_dropped st go busy _ _ hl hm done.result.hint done.result.task done.ensures.ran done.ensures.same
+    done.ensures.known quiet c.if-t-eq3.false c.if-t-eq2.false _
     c.dropped-s.ensures).0
 
 pub offset_bounds-steps-j : goal.offset_bounds-steps-j
@@ -902,15 +891,15 @@ stay-stood-requires c =
     let more = c.if-x-s.true in
     let few = in_list st go idle step refl more in
     let there = c.place_of-from.ensures in
-    let small = from_few st go idle step refl more in (
-      (st.cells_long, (st.marks_long, (omega arith, st.few _))),
-      (hinted_at st go idle step refl more _ there).trusted,
-    )
+    let small = from_few st go idle step refl more in record {
+      cells_len = (st.cells_long, (st.marks_long, (omega arith, st.few _)));
+      known = (hinted_at st go idle step refl more _ there).trusted;
+    }
 
 pub offset_bounds-hints-x : goal.offset_bounds-hints-x
 offset_bounds-hints-x c =
     let loop = c.loop-k in
-    let st = loop.inv in
+    let st = loop.invariant in
     let go = c.if-s-steps.true in
     let idle : loop.s.depth ≤ 0 = omega (
       arith,
@@ -924,7 +913,7 @@ offset_bounds-hints-x c =
 pub bounds-hints-x : goal.bounds-hints-x
 bounds-hints-x c =
     let loop = c.loop-k in
-    let st = loop.inv in
+    let st = loop.invariant in
     let go = c.if-s-steps.true in
     let idle : loop.s.depth ≤ 0 = omega (
       arith,
@@ -938,7 +927,7 @@ bounds-hints-x c =
 pub passed_by-s-requires : goal.passed_by-s-requires
 passed_by-s-requires c =
     let loop = c.loop-k in
-    let st = loop.inv in
+    let st = loop.invariant in
     let go = c.if-s-steps.true in
     let idle : loop.s.depth ≤ 0 = omega (
       arith,
@@ -949,14 +938,14 @@ passed_by-s-requires c =
     let few = in_list st go idle step refl more in
     let there = c.place_of-from.ensures in
     let stood = c.stay-stood in
-    let so = stays_there loop.s.i loop.s.kept refl stood.ensures.1 c.if-stood.true in
+    let so = stays_there loop.s.i loop.s.kept refl stood.ensures.so c.if-stood.true in
     (few, omega (arith, so))
 
 pub loop-k-smaller-then-stood : goal.loop-k-smaller-then-stood
 unfolding sheet_in
 loop-k-smaller-then-stood c =
     let loop = c.loop-k in
-    let st = loop.inv in
+    let st = loop.invariant in
     let go = c.if-s-steps.true in
     let idle : loop.s.depth ≤ 0 = omega (
       arith,
@@ -967,15 +956,15 @@ loop-k-smaller-then-stood c =
     let few = in_list st go idle step refl more in
     let there = c.place_of-from.ensures in
     let stood = c.stay-stood in
-    (stays_at st go idle step refl more _ there _ _ (c.cells-then-x-s-1.given ∙ st.cells_long)
-    (c.marks-then-x-s-1.given ∙ st.marks_long) stood.result stood.ensures.0 _ refl
-    stood.ensures.1 c.if-stood.true _ c.passed_by-s.ensures).1
+    (stays_at st go idle step refl more _ there _ _ (c.stay-stood.auto.cells ∙ st.cells_long)
+    (c.stay-stood.auto.marks ∙ st.marks_long) stood.result stood.ensures.stays _ refl
+    stood.ensures.so c.if-stood.true _ c.passed_by-s.ensures).1
 
 pub loop-k-preserved-then-stood : goal.loop-k-preserved-then-stood
 unfolding sheet_in
 loop-k-preserved-then-stood c =
     let loop = c.loop-k in
-    let st = loop.inv in
+    let st = loop.invariant in
     let go = c.if-s-steps.true in
     let idle : loop.s.depth ≤ 0 = omega (
       arith,
@@ -986,14 +975,14 @@ loop-k-preserved-then-stood c =
     let few = in_list st go idle step refl more in
     let there = c.place_of-from.ensures in
     let stood = c.stay-stood in
-    (stays_at st go idle step refl more _ there _ _ (c.cells-then-x-s-1.given ∙ st.cells_long)
-    (c.marks-then-x-s-1.given ∙ st.marks_long) stood.result stood.ensures.0 _ refl
-    stood.ensures.1 c.if-stood.true _ c.passed_by-s.ensures).0
+    (stays_at st go idle step refl more _ there _ _ (c.stay-stood.auto.cells ∙ st.cells_long)
+    (c.stay-stood.auto.marks ∙ st.marks_long) stood.result stood.ensures.stays _ refl
+    stood.ensures.so c.if-stood.true _ c.passed_by-s.ensures).0
 
 pub taken-task-requires : goal.taken-task-requires
 taken-task-requires c =
     let loop = c.loop-k in
-    let st = loop.inv in
+    let st = loop.invariant in
     let go = c.if-s-steps.true in
     let idle : loop.s.depth ≤ 0 = omega (
       arith,
@@ -1005,9 +994,9 @@ taken-task-requires c =
     let there = c.place_of-from.ensures in
     let stood = c.stay-stood in
     let small = from_few st go idle step refl more in (
-      c.cells-then-x-s-1.given ∙ st.cells_long,
+      c.stay-stood.auto.cells ∙ st.cells_long,
       (
-        c.marks-then-x-s-1.given ∙ st.marks_long,
+        c.stay-stood.auto.marks ∙ st.marks_long,
         omega arith,
       ),
     )
@@ -1021,7 +1010,7 @@ bounds-counts-64 c = omega (
 pub loaded-s-requires : goal.loaded-s-requires
 loaded-s-requires c =
     let loop = c.loop-k in
-    let st = loop.inv in
+    let st = loop.invariant in
     let go = c.if-s-steps.true in
     let idle : loop.s.depth ≤ 0 = omega (
       arith,
@@ -1038,7 +1027,7 @@ pub loop-k-smaller-else-stood : goal.loop-k-smaller-else-stood
 unfolding sheet_in
 loop-k-smaller-else-stood c =
     let loop = c.loop-k in
-    let st = loop.inv in
+    let st = loop.invariant in
     let go = c.if-s-steps.true in
     let idle : loop.s.depth ≤ 0 = omega (
       arith,
@@ -1050,17 +1039,17 @@ loop-k-smaller-else-stood c =
     let there = c.place_of-from.ensures in
     let stood = c.stay-stood in
     let took = c.taken-task in
-    let hl = c.cells-then-x-s-1.given ∙ st.cells_long in
-    let hm = c.marks-then-x-s-1.given ∙ st.marks_long in
-    (loaded_at st go idle step refl more _ there _ _ hl hm stood.result stood.ensures.0
-    c.if-stood.false _ _ (c.cells-else-stood-1.given ∙ hl) (c.marks-else-stood-1.given ∙ hm) took.ensures.1 _ took.ensures.0 _
+    let hl = c.stay-stood.auto.cells ∙ st.cells_long in
+    let hm = c.stay-stood.auto.marks ∙ st.marks_long in
+    (loaded_at st go idle step refl more _ there _ _ hl hm stood.result stood.ensures.stays
+    c.if-stood.false _ _ (c.taken-task.auto.cells ∙ hl) (c.taken-task.auto.marks ∙ hm) took.ensures.placed _ took.ensures.value _
     c.of_guard-next.ensures _ c.loaded-s.ensures).1
 
 pub loop-k-preserved-else-stood : goal.loop-k-preserved-else-stood
 unfolding sheet_in
 loop-k-preserved-else-stood c =
     let loop = c.loop-k in
-    let st = loop.inv in
+    let st = loop.invariant in
     let go = c.if-s-steps.true in
     let idle : loop.s.depth ≤ 0 = omega (
       arith,
@@ -1072,10 +1061,10 @@ loop-k-preserved-else-stood c =
     let there = c.place_of-from.ensures in
     let stood = c.stay-stood in
     let took = c.taken-task in
-    let hl = c.cells-then-x-s-1.given ∙ st.cells_long in
-    let hm = c.marks-then-x-s-1.given ∙ st.marks_long in
-    (loaded_at st go idle step refl more _ there _ _ hl hm stood.result stood.ensures.0
-    c.if-stood.false _ _ (c.cells-else-stood-1.given ∙ hl) (c.marks-else-stood-1.given ∙ hm) took.ensures.1 _ took.ensures.0 _
+    let hl = c.stay-stood.auto.cells ∙ st.cells_long in
+    let hm = c.stay-stood.auto.marks ∙ st.marks_long in
+    (loaded_at st go idle step refl more _ there _ _ hl hm stood.result stood.ensures.stays
+    c.if-stood.false _ _ (c.taken-task.auto.cells ∙ hl) (c.taken-task.auto.marks ∙ hm) took.ensures.placed _ took.ensures.value _
     c.of_guard-next.ensures _ c.loaded-s.ensures).0
 
 pub stepped-s-requires : goal.stepped-s-requires
@@ -1117,7 +1106,7 @@ unfolding sheet_in
 loop-k-smaller c =
     let st = c.loop-k.invariant in
     let seg = c.segment_at-next in
-    let long : length seg.result.steps.list ≡ 20 = simp length-map at seg.type-inv.1.1.0.1.1.1.0.1.0.1 in
+    let long : length seg.result.steps.list ≡ 20 = search rules in
     (standing_next st c.if-s-steps.false c.loop-k-test.true seg.result seg.ensures long _ c.begun-s-else-s-steps.ensures).1
 
 pub loop-k-preserved : goal.loop-k-preserved
@@ -1125,17 +1114,8 @@ unfolding sheet_in
 loop-k-preserved c =
     let st = c.loop-k.invariant in
     let seg = c.segment_at-next in
-    let long : length seg.result.steps.list ≡ 20 = simp length-map at seg.type-inv.1.1.0.1.1.1.0.1.0.1 in
+    let long : length seg.result.steps.list ≡ 20 = search rules in
     (standing_next st c.if-s-steps.false c.loop-k-test.true seg.result seg.ensures long _ c.begun-s-else-s-steps.ensures).0
-
-pub shape_of-cells : goal.shape_of-cells
-shape_of-cells c = c.loop-k.invariant.cells_long ∙ sym (cells_length c.requires)
-
-pub shape_of-marks : goal.shape_of-marks
-shape_of-marks c = c.loop-k.invariant.marks_long ∙ sym (marks_length c.requires)
-
-pub shape_of-counts : goal.shape_of-counts
-shape_of-counts c = c.loop-k.invariant.counts_long ∙ sym (counts_length c.requires)
 
 pub returns : goal.returns
 unfolding sheet_in
