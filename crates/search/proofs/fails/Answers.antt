@@ -13,7 +13,6 @@ use Rattle.expr.specs.Affine.{Affine}
 use Rattle.inequalities.specs.Sizes.{SizedTo}
 use Rattle.narrowing.specs.Best.{best_of}
 use Rattle.systems.specs.BoxLaws.{best_nothing}
-use Rattle.search.proofs.fails.Goals.{After-best}
 use Rattle.search.proofs.fails.Goals as goal
 
 pub returns-then-n-eq0 : goal.returns-then-n-eq0

@@ -1,6 +1,5 @@
 -- A guess that lies inside the ranges and meets the inequalities; nothing that meets them; or neither is seen.
 use mathlib.Core.Path.{sym}
-use lib.ListN.{length-map}
 use Rattle.search.proofs.Answered.{guess_meets, some_none, seen_yes, seen_no, seen_not}
 use Rattle.search.proofs.glance.Goals as goal
 

@@ -1,5 +1,4 @@
 -- Nothing meets the last inequality and another, or it is searched.
-use lib.ListN.{length-map}
 use Rattle.integer.specs.Apart.{apart}
 use Rattle.search.proofs.Answered.{some_none, some_is}
 use Rattle.search.proofs.hunt.Goals as goal
@@ -14,6 +13,6 @@ returns-then-clashes c =
 
 pub returns : goal.returns
 returns c = record {
-      found_value = some_is _ _ _ c.some.ensures;
-      one = c.some.ensures.yes;
-    }
+  found_value = some_is _ _ _ c.some.ensures;
+  one = c.some.ensures.yes;
+}

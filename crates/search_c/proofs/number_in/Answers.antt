@@ -2,7 +2,7 @@
 use mathlib.Core.Path.{◌≡◌, sym}
 use native.Mathlib.Omega.{arith}
 use lib.IntN.{pos}
-use lib.ListN.{length, get_or, get_or-eq_default, length-map}
+use lib.ListN.{length, get_or, get_or-eq_default}
 use mir.Facts.{sfits_widen}
 use mir.Syntax.{w16, w64}
 use mir.Val.{SFits}

@@ -1,5 +1,4 @@
 -- The loop's invariant: the places before i hold the ranges of the input.
-use Prim.Native.Nat.{◌-◌}
 use native.Mathlib.Omega.{arith}
 use Rattle.expr.specs.Records.{blank_range}
 use Rattle.search_c.specs.Input.{range_at}

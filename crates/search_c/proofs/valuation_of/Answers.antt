@@ -1,6 +1,5 @@
 -- The loop's invariant: the places before i hold the numbers of the input.
 use mathlib.Core.Path.{◌∙◌}
-use Prim.Native.Nat.{◌-◌}
 use native.Mathlib.Omega.{arith}
 use lib.IntN.{pos}
 use mir.Syntax.{w16}

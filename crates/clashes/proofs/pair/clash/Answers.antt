@@ -1,5 +1,4 @@
 -- The plain sum, or the sum without some parameter, is below 0 throughout.
-use Prim.Native.Nat.{◌-◌}
 use Rattle.clashes.proofs.Sums.{one_time, seen, unseen}
 use Rattle.clashes.proofs.pair.clash.Goals as goal
 

@@ -1,10 +1,10 @@
 -- The loop's invariant: the sum so far, with the most that the products still to come add, is the most of all.
 use mathlib.Core.Path.{◌≡◌, ap, ◌∙◌}
 use mathlib.Core.List.{List}
-use Prim.Native.Nat.{ℕ, ◌+◌, ◌-◌, ◌<◌}
+use Prim.Native.Nat.{ℕ, ◌+◌, ◌<◌}
 use native.Mathlib.Omega.{arith}
 use lib.IntN.{ℤ, pos, ◌+ℤ◌}
-use lib.ListN.{length, get_or, length-map}
+use lib.ListN.{length, get_or}
 use mir.Syntax.{w32, w64}
 use mir.Val.{SFits, to_z, of_z}
 use mir.ValLaws.{to_z-of_z}
@@ -54,15 +54,15 @@ sum-next l e m f rs i sum w y t h k fx fy v s u z =
 pub overflow_add-sum : goal.overflow_add-sum
 overflow_add-sum c =
     let s = sum-next _ c.args.e _ c.args.f c.args.b.list c.loop-i.i _ c.weighed-a.result c.most-sum.result c.loop-i.invariant.1
-        (omega arith) c.well_formed.0.1.1.0.1.0.1 (search rules) (search rules) c.weighed-a.ensures.value c.weighed-a.ensures.small
-        c.most-sum.ensures.value c.most-sum.ensures.small in
+    (omega arith) c.well_formed.0.1.1.0.1.0.1 (search rules) (search rules) c.weighed-a.ensures.value c.weighed-a.ensures.small
+    c.most-sum.ensures.value c.most-sum.ensures.small in
     sum_fits (c.loop-i.i + 1) _ (omega arith) s.size
 
 pub loop-i-preserved : goal.loop-i-preserved
 loop-i-preserved c =
     let s = sum-next _ c.args.e _ c.args.f c.args.b.list c.loop-i.i _ c.weighed-a.result c.most-sum.result c.loop-i.invariant.1
-        (omega arith) c.well_formed.0.1.1.0.1.0.1 (search rules) (search rules) c.weighed-a.ensures.value c.weighed-a.ensures.small
-        c.most-sum.ensures.value c.most-sum.ensures.small in
+    (omega arith) c.well_formed.0.1.1.0.1.0.1 (search rules) (search rules) c.weighed-a.ensures.value c.weighed-a.ensures.small
+    c.most-sum.ensures.value c.most-sum.ensures.small in
     (omega arith, rw (to_z-of_z w64 _ (sum_fits (c.loop-i.i + 1) _ (omega arith) s.size)) s)
 
 pub returns : goal.returns

@@ -1,6 +1,4 @@
 use Prim.Native.Nat.{◌-◌, ◌≤◌}
-use mir.Syntax.{w64}
-use mir.Val.{to_z}
 use Rattle.expr.specs.Records.{PARAMETERS}
 use Rattle.clashes.proofs.Sums.{SumTo}
 use Rattle.clashes.proofs.sum.mixed.Given as goal

@@ -46,7 +46,7 @@ fewer es rs cs w t q x h l k g e m =
 pub loop-i-init : goal.loop-i-init
 loop-i-init t c =
     let long : length c.narrowed-c.result.list ≡ PARAMETERS =
-        narrows_long _ _ _ PARAMETERS c.narrowed-c.ensures c.well_formed.0.1.1.0.1.0.1 in (
+    narrows_long _ _ _ PARAMETERS c.narrowed-c.ensures c.well_formed.0.1.1.0.1.0.1 in (
       omega arith,
       c.width-m.ensures.small,
       c.width-m.ensures.value,
@@ -56,14 +56,18 @@ loop-i-init t c =
     )
 
 pub count_from-requires : goal.count_from-requires
-count_from-requires t c =
-    (fewer _ c.args.b.list c.narrowed-c.result.list c.narrowest-w.result t c.point.result _ c.narrowed-c.ensures
-    c.well_formed.0.1.1.0.1.0.1 (omega (arith, c.if-w-ge-PARAMETERS.false)) c.narrowest-w.ensures.some c.point.ensures c.decreases, tt)
+count_from-requires t c = (
+  fewer _ c.args.b.list c.narrowed-c.result.list c.narrowest-w.result t c.point.result _ c.narrowed-c.ensures
+      c.well_formed.0.1.1.0.1.0.1 (omega (arith, c.if-w-ge-PARAMETERS.false)) c.narrowest-w.ensures.some c.point.ensures c.decreases,
+  tt,
+)
 
 pub count_from-requires-else-k-gt25 : goal.count_from-requires-else-k-gt25
-count_from-requires-else-k-gt25 t c =
-    (fewer _ c.args.b.list c.narrowed-c.result.list c.narrowest-w.result t c.point.result _ c.narrowed-c.ensures
-    c.well_formed.0.1.1.0.1.0.1 (omega (arith, c.if-w-ge-PARAMETERS.false)) c.narrowest-w.ensures.some c.point.ensures c.decreases, tt)
+count_from-requires-else-k-gt25 t c = (
+  fewer _ c.args.b.list c.narrowed-c.result.list c.narrowest-w.result t c.point.result _ c.narrowed-c.ensures
+      c.well_formed.0.1.1.0.1.0.1 (omega (arith, c.if-w-ge-PARAMETERS.false)) c.narrowest-w.ensures.some c.point.ensures c.decreases,
+  tt,
+)
 
 pub loop-i-preserved : goal.loop-i-preserved
 loop-i-preserved t c =
@@ -73,7 +77,7 @@ loop-i-preserved t c =
     let i = c.loop-i in
     let few : i.i < width range = omega (arith, i.invariant.2, c.loop-i-test.true) in
     elim c.if-k-gt25.branch [
-      then-k-gt25 y ↦ (
+      | then-k-gt25 y ↦ (
         omega (arith, c.loop-i-test.true),
         i.invariant.1,
         i.invariant.2,
@@ -81,7 +85,7 @@ loop-i-preserved t c =
         count_more _ cs w range c.width-m.result i.i i.total c.if-k-gt25.total y.count_from.result c.point.result c.loop-i-test.true
             c.point.ensures y.count_from.ensures (y.total-is ∙ y.plus-total.ensures) i.invariant.4,
       )
-    | else-k-gt25 y ↦ (
+      | else-k-gt25 y ↦ (
         omega (arith, c.loop-i-test.true),
         i.invariant.1,
         i.invariant.2,

@@ -1,7 +1,6 @@
 -- A pair of inequalities that no valuation meets, or the search of the whole box.
 use mathlib.Core.Path.{ap, ◌∙◌}
 use Prim.Native.Nat.{ℕ, min}
-use lib.ListN.{length-map}
 use Rattle.counting.proofs.Nodes.{count_never}
 use Rattle.systems.specs.BoxLaws.{count_listed}
 use Rattle.widths.specs.Cap.{CAP}

@@ -1,7 +1,7 @@
 -- The corner is the only valuation.
 use mathlib.Core.Path.{◌≡◌, sym, ◌∙◌}
 use native.Mathlib.Omega.{arith}
-use lib.ListN.{length, length-map}
+use lib.ListN.{length}
 use Rattle.expr.specs.Records.{PARAMETERS}
 use Rattle.counting.proofs.Nodes.{single_met, single_not}
 use Rattle.counting.proofs.counted.single.Goals as goal

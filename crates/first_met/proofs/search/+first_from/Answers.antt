@@ -3,17 +3,14 @@ use mathlib.Core.Path.{◌≡◌, refl, sym, ◌∙◌}
 use mathlib.Core.List.{List}
 use Prim.Native.Nat.{ℕ, ◌+◌, ◌/◌, ◌<◌}
 use native.Mathlib.Omega.{arith}
-use lib.ListN.{length, get_or, set}
+use lib.ListN.{length, get_or}
 use Rattle.corners.specs.Boxes.{Points, wide_from}
 use Rattle.corners.specs.BoxLaws.{wide_points, wide_there}
-use Rattle.expr.specs.Affine.{Affine}
 use Rattle.expr.specs.Records.{PARAMETERS, blank_range}
 use Rattle.expr.specs.declared.range.Range.{Range}
-use Rattle.systems.specs.Boxes.{Narrows}
 use Rattle.systems.specs.BoxLaws.{narrows_long}
 use Rattle.valuations.specs.Valuations.{width}
-use Rattle.widths.specs.Halves.{lower_of, upper_of}
-use Rattle.first_met.specs.Halves.{numbers_of, fewer_lower, fewer_upper}
+use Rattle.first_met.specs.Halves.{fewer_lower, fewer_upper}
 use Rattle.first_met.proofs.Nodes.{first_emptied, first_cornered, first_pointed, first_lower, first_upper}
 use Rattle.first_met.proofs.Nodes.{several, corner_long}
 use Rattle.first_met.proofs.search.+first_from.Goals as goal
@@ -66,7 +63,7 @@ first_from-s-requires t c =
     let l : length cs ≡ PARAMETERS = narrows_long _ _ _ PARAMETERS c.narrowed-c.ensures c.well_formed.0.1.1.0.1.0.1 in
     let m = several-at cs c.wide-w.result c.wide-w.ensures (omega (arith, c.if-w-ge-PARAMETERS.false)) in
     let h = fewer_lower _ _ _ c.narrowed-c.ensures c.wide-w.result _ _ refl (some_at _ _ m c.width.ensures.value)
-        (few_at _ _ m c.width.ensures.value) (omega (arith, l, c.if-w-ge-PARAMETERS.false)) in
+    (few_at _ _ m c.width.ensures.value) (omega (arith, l, c.if-w-ge-PARAMETERS.false)) in
     (rw c.lower.ensures (less-at h c.decreases), tt)
 
 pub returns-then-s : goal.returns-then-s
@@ -89,7 +86,7 @@ first_from-requires t c =
     let l : length cs ≡ PARAMETERS = narrows_long _ _ _ PARAMETERS c.narrowed-c.ensures c.well_formed.0.1.1.0.1.0.1 in
     let m = several-at cs c.wide-w.result c.wide-w.ensures (omega (arith, c.if-w-ge-PARAMETERS.false)) in
     let h = fewer_upper _ _ _ c.narrowed-c.ensures c.wide-w.result _ _ refl (some_at _ _ m c.width.ensures.value)
-        (few_at _ _ m c.width.ensures.value) (omega (arith, l, c.if-w-ge-PARAMETERS.false)) in
+    (few_at _ _ m c.width.ensures.value) (omega (arith, l, c.if-w-ge-PARAMETERS.false)) in
     (rw c.upper.ensures (less-at h c.decreases), tt)
 
 pub returns : goal.returns

@@ -19,7 +19,8 @@ pub low_from-s-requires : goal.low_from-s-requires
 low_from-s-requires c = (omega arith, tt)
 
 -- the first of the trimmed box, over the list that contracts have
-listed : (rs cs : List Range) (flat : List ℤ) (n m : ℕ) → Narrows (exprs_in flat m) rs cs → m ≡ min n (length flat) → length rs ≡ PARAMETERS
+listed : (rs cs : List Range) (flat : List ℤ) (n m : ℕ) → Narrows (exprs_in flat m) rs cs → m ≡ min n (length flat)
+    → length rs ≡ PARAMETERS
     → solution_of (first cs (exprs_in flat m)) ≡ solution_of (first (places_from blank_range rs 0 PARAMETERS) (exprs_in flat n))
 listed rs cs flat n m h e l = ap solution_of (sym (first_narrows _ _ _ h) ∙ first_listed rs flat n m e l)
 
@@ -27,18 +28,18 @@ pub returns-then-not-inside : goal.returns-then-not-inside
 returns-then-not-inside c =
     let cs = c.trimmed-c.result.list in
     first_emptied _ cs cs (narrows_refl _ cs) _ c.corner.ensures (c.inside.ensures.no c.if-not-inside.true)
-    ∙ listed c.args.b.list c.trimmed-c.result.list c.args.flat.now c.args.n c.at_most-m.result c.trimmed-c.ensures
-    c.at_most-m.ensures c.well_formed.0.1.1.0.1.0.1
+    ∙ listed _ cs c.args.flat.now c.args.n _ c.trimmed-c.ensures c.at_most-m.ensures c.well_formed.0.1.1.0.1.0.1
 
 pub returns-then-s : goal.returns-then-s
-returns-then-s c = c.low_from-s.ensures c.if-s.true ∙ listed c.args.b.list c.trimmed-c.result.list c.args.flat.now c.args.n c.at_most-m.result c.trimmed-c.ensures
-    c.at_most-m.ensures c.well_formed.0.1.1.0.1.0.1
+returns-then-s c =
+    c.low_from-s.ensures c.if-s.true
+    ∙ listed _ _ c.args.flat.now c.args.n _ c.trimmed-c.ensures c.at_most-m.ensures c.well_formed.0.1.1.0.1.0.1
 
 pub returns-then-opposed : goal.returns-then-opposed
 returns-then-opposed c =
-    first_never_met _ c.trimmed-c.result.list (c.opposed.ensures c.if-opposed.true) ∙ listed c.args.b.list c.trimmed-c.result.list c.args.flat.now c.args.n c.at_most-m.result c.trimmed-c.ensures
-    c.at_most-m.ensures c.well_formed.0.1.1.0.1.0.1
+    first_never_met _ c.trimmed-c.result.list (c.opposed.ensures c.if-opposed.true)
+    ∙ listed _ _ c.args.flat.now c.args.n _ c.trimmed-c.ensures c.at_most-m.ensures c.well_formed.0.1.1.0.1.0.1
 
 pub returns : goal.returns
-returns c = c.first_from.ensures ∙ listed c.args.b.list c.trimmed-c.result.list c.args.flat.now c.args.n c.at_most-m.result c.trimmed-c.ensures
-    c.at_most-m.ensures c.well_formed.0.1.1.0.1.0.1
+returns c =
+    c.first_from.ensures ∙ listed _ _ c.args.flat.now c.args.n _ c.trimmed-c.ensures c.at_most-m.ensures c.well_formed.0.1.1.0.1.0.1

@@ -2,12 +2,11 @@
 use mathlib.Core.Path.{◌≡◌, refl, sym, ◌∙◌}
 use Prim.Native.Nat.{ℕ, ◌/◌, ◌<◌}
 use native.Mathlib.Omega.{arith}
-use lib.ListN.{length, get_or, set}
-use Rattle.expr.specs.Records.{PARAMETERS, blank_range}
+use lib.ListN.{length}
+use Rattle.expr.specs.Records.{PARAMETERS}
 use Rattle.systems.specs.BoxLaws.{narrows_long}
-use Rattle.first_met.specs.Halves.{numbers_of, fewer_lower, fewer_upper}
+use Rattle.first_met.specs.Halves.{fewer_lower, fewer_upper}
 use Rattle.halving.specs.Halved.{widest_points, some_emptied, some_cornered, some_pointed, some_lower, some_upper}
-use Rattle.valuations.specs.Valuations.{width}
 use Rattle.halving.proofs.search.+some_from.Goals as goal
 
 pub returns-then-not-inside : goal.returns-then-not-inside
@@ -22,7 +21,7 @@ returns-then-meets t c =
 pub returns-then-m-eq0 : goal.returns-then-m-eq0
 returns-then-m-eq0 t c =
     let l : length c.narrowed-c.result.list ≡ PARAMETERS =
-        narrows_long _ _ _ PARAMETERS c.narrowed-c.ensures c.well_formed.0.1.1.0.1.0.1 in
+    narrows_long _ _ _ PARAMETERS c.narrowed-c.ensures c.well_formed.0.1.1.0.1.0.1 in
     some_pointed _ _ _ c.narrowed-c.ensures _ c.corner-v.ensures l
     (widest_points _ _ c.widest-w.ensures (omega (arith, c.width-m.ensures.value, c.if-m-eq0.true)))
     (sym c.meets.ensures ∙ c.if-meets.false)
@@ -42,9 +41,9 @@ lower-requires t c = (some_at _ c.if-m-eq0.false, few_at _ _ c.if-m-eq0.false c.
 pub some_from-s-requires : goal.some_from-s-requires
 some_from-s-requires t c =
     let l : length c.narrowed-c.result.list ≡ PARAMETERS =
-        narrows_long _ _ _ PARAMETERS c.narrowed-c.ensures c.well_formed.0.1.1.0.1.0.1 in
+    narrows_long _ _ _ PARAMETERS c.narrowed-c.ensures c.well_formed.0.1.1.0.1.0.1 in
     let h = fewer_lower _ _ _ c.narrowed-c.ensures c.widest-w.result _ _ refl (some_at _ c.if-m-eq0.false)
-        (few_at _ _ c.if-m-eq0.false c.width-m.ensures.value) (omega (arith, l, c.widest-w.ensures.place)) in
+    (few_at _ _ c.if-m-eq0.false c.width-m.ensures.value) (omega (arith, l, c.widest-w.ensures.place)) in
     (rw c.lower.ensures (less-at h c.decreases), tt)
 
 pub returns-then-s : goal.returns-then-s
@@ -59,9 +58,9 @@ upper-requires t c = few_at _ _ c.if-m-eq0.false c.width-m.ensures.value
 pub some_from-requires : goal.some_from-requires
 some_from-requires t c =
     let l : length c.narrowed-c.result.list ≡ PARAMETERS =
-        narrows_long _ _ _ PARAMETERS c.narrowed-c.ensures c.well_formed.0.1.1.0.1.0.1 in
+    narrows_long _ _ _ PARAMETERS c.narrowed-c.ensures c.well_formed.0.1.1.0.1.0.1 in
     let h = fewer_upper _ _ _ c.narrowed-c.ensures c.widest-w.result _ _ refl (some_at _ c.if-m-eq0.false)
-        (few_at _ _ c.if-m-eq0.false c.width-m.ensures.value) (omega (arith, l, c.widest-w.ensures.place)) in
+    (few_at _ _ c.if-m-eq0.false c.width-m.ensures.value) (omega (arith, l, c.widest-w.ensures.place)) in
     (rw c.upper.ensures (less-at h c.decreases), tt)
 
 pub returns : goal.returns

@@ -1,5 +1,4 @@
 -- Over the ranges of the record, and with inequalities past the end of the list.
-use lib.ListN.{length-map}
 use Rattle.halving.specs.Halved.{some_listed}
 use Rattle.halving.proofs.search.some.Goals as goal
 

@@ -1,6 +1,4 @@
 use Prim.Native.Nat.{◌-◌, ◌≤◌}
-use mir.Syntax.{w64}
-use mir.Val.{to_z}
 use Rattle.expr.specs.Records.{PARAMETERS}
 use Rattle.inequalities.proofs.Values.{ValueTo}
 use Rattle.inequalities.proofs.value.value_at.Given as goal

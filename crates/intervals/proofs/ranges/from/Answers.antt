@@ -34,9 +34,9 @@ returns-then-l-wide16-2 c =
     let a = c.args in
     let el = to_z-of_z w64 a.l c.ranges.l in
     let above : le_z a.l a.r.low ≡ false =
-        tested _ _ a.l a.r.low false el (widened _ a.r.low c.wide16.ensures (search rules)) c.if-l-wide16.false in
+    tested _ _ a.l a.r.low false el (widened _ a.r.low c.wide16.ensures (search rules)) c.if-l-wide16.false in
     let inside : le_z a.l a.r.high ≡ true =
-        tested _ _ a.l a.r.high true el (widened _ a.r.high c.wide16-2.ensures (search rules)) c.if-l-wide16-2.true in
+    tested _ _ a.l a.r.high true el (widened _ a.r.high c.wide16-2.ensures (search rules)) c.if-l-wide16-2.true in
     range_path
     (held w16 _ a.l el (between_fits a.r.low a.l a.r.high above inside (search rules) (search rules)))
     (to_z-of_z w16 a.r.high (search rules))

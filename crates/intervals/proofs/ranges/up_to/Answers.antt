@@ -34,9 +34,9 @@ returns-then-wide16-h-2 c =
     let a = c.args in
     let eh = to_z-of_z w64 a.h c.ranges.h in
     let below : le_z a.r.high a.h ≡ false =
-        tested _ _ a.r.high a.h false (widened _ a.r.high c.wide16.ensures (search rules)) eh c.if-wide16-h.false in
+    tested _ _ a.r.high a.h false (widened _ a.r.high c.wide16.ensures (search rules)) eh c.if-wide16-h.false in
     let inside : le_z a.r.low a.h ≡ true =
-        tested _ _ a.r.low a.h true (widened _ a.r.low c.wide16-2.ensures (search rules)) eh c.if-wide16-h-2.true in
+    tested _ _ a.r.low a.h true (widened _ a.r.low c.wide16-2.ensures (search rules)) eh c.if-wide16-h-2.true in
     range_path (to_z-of_z w16 a.r.low (search rules))
     (held w16 _ a.h eh (between_fits' a.r.low a.h a.r.high inside below (search rules) (search rules)))
     ∙ up_to_part a.r a.h below inside

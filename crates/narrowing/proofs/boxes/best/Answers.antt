@@ -1,10 +1,10 @@
 -- The loop's invariant: the sum so far, with the most that the products still to come add, is the most of all.
 use mathlib.Core.Path.{◌≡◌}
 use mathlib.Core.List.{List}
-use Prim.Native.Nat.{ℕ, ◌+◌, ◌-◌, ◌<◌}
+use Prim.Native.Nat.{ℕ, ◌+◌, ◌<◌}
 use native.Mathlib.Omega.{arith}
 use lib.IntN.{ℤ, pos, ◌+ℤ◌}
-use lib.ListN.{length, get_or, length-map}
+use lib.ListN.{length, get_or}
 use mir.Facts.{sfits_widen}
 use mir.Syntax.{w32, w64}
 use mir.Val.{SFits, to_z, of_z}
@@ -42,13 +42,13 @@ sum-next e rs i sum x t h l g v s =
 pub overflow_add-sum : goal.overflow_add-sum
 overflow_add-sum c =
     let s = sum-next c.args.e c.args.b.list c.loop-i.i _ c.most-sum.result c.loop-i.invariant.1 (omega arith)
-        c.well_formed.0.1.1.0.1.0.1 (search rules) c.most-sum.ensures.value c.most-sum.ensures.small in
+    c.well_formed.0.1.1.0.1.0.1 (search rules) c.most-sum.ensures.value c.most-sum.ensures.small in
     sum_fits (c.loop-i.i + 1) _ (omega arith) s.size
 
 pub loop-i-preserved : goal.loop-i-preserved
 loop-i-preserved c =
     let s = sum-next c.args.e c.args.b.list c.loop-i.i _ c.most-sum.result c.loop-i.invariant.1 (omega arith)
-        c.well_formed.0.1.1.0.1.0.1 (search rules) c.most-sum.ensures.value c.most-sum.ensures.small in
+    c.well_formed.0.1.1.0.1.0.1 (search rules) c.most-sum.ensures.value c.most-sum.ensures.small in
     (omega arith, rw (to_z-of_z w64 _ (sum_fits (c.loop-i.i + 1) _ (omega arith) s.size)) s)
 
 pub returns : goal.returns

@@ -1,6 +1,4 @@
 use Prim.Native.Nat.{◌-◌, ◌≤◌}
-use mir.Syntax.{w64}
-use mir.Val.{to_z}
 use Rattle.expr.specs.Records.{PARAMETERS}
 use Rattle.narrowing.proofs.Terms.{SumTo}
 use Rattle.narrowing.proofs.boxes.best.Given as goal

@@ -1,9 +1,8 @@
 -- The loop's invariant: what is cut so far loses no valuation at which the inequality holds.
 use mathlib.Core.Path.{◌≡◌}
-use Prim.Native.Nat.{◌-◌}
 use native.Mathlib.Omega.{arith}
 use lib.IntN.{ℤ, pos}
-use lib.ListN.{length, get_or, length-map}
+use lib.ListN.{length, get_or}
 use mir.Syntax.{w32, w64}
 use mir.Val.{SFits, to_z, of_z}
 use mir.ValLaws.{to_z-of_z}
@@ -39,7 +38,8 @@ loop-i-preserved c =
     let f : SFits w32 a = search rules in (
       omega arith,
       cut_turn c.args.e c.args.b.list loop.i c.best-s.result loop.c.list c.part.result (omega arith) l
-          c.best-s.ensures.value (rw (best-is c.best-s.result c.best-s.ensures.small, to_z-of_z w32 a f) at c.part.ensures) loop.invariant.1,
+          c.best-s.ensures.value
+          (rw (best-is c.best-s.result c.best-s.ensures.small, to_z-of_z w32 a f) at c.part.ensures) loop.invariant.1,
     )
 
 pub returns : goal.returns

@@ -46,8 +46,10 @@ slope-is a x e f = held w64 _ _ (passed w32 _ _ e f) (sfits_widen {w = w32} tt f
 
 pub interval-requires : goal.interval-requires
 interval-requires c =
-    rw (rest-is c.args.s c.most.result c.ranges.s c.requires c.most.ensures.small,
-    slope-is c.args.a c.wide.result c.wide.ensures c.ranges.a)
+    rw (
+      rest-is c.args.s c.most.result c.ranges.s c.requires c.most.ensures.small,
+      slope-is c.args.a c.wide.result c.wide.ensures c.ranges.a,
+    )
     (less_tame _ _ c.requires c.most.ensures.small, slope_tame _ c.ranges.a)
 
 pub returns : goal.returns

@@ -1,9 +1,8 @@
 -- As for `cut`: what is cut so far loses no valuation at which the inequality holds.
 use mathlib.Core.Path.{◌≡◌}
-use Prim.Native.Nat.{◌-◌}
 use native.Mathlib.Omega.{arith}
 use lib.IntN.{ℤ, pos}
-use lib.ListN.{length, get_or, length-map}
+use lib.ListN.{length, get_or}
 use mir.Syntax.{w32, w64}
 use mir.Val.{SFits, to_z, of_z}
 use mir.ValLaws.{to_z-of_z}
@@ -40,7 +39,8 @@ loop-i-preserved c =
     let f : SFits w32 a = search rules in (
       omega arith,
       cut_turn c.args.e c.args.b.list loop.i c.best-m.result loop.c.list c.raised.result (omega arith) l
-          c.best-m.ensures.value (rw (best-is c.best-m.result c.best-m.ensures.small, to_z-of_z w32 a f) at c.raised.ensures) loop.invariant.1,
+          c.best-m.ensures.value
+          (rw (best-is c.best-m.result c.best-m.ensures.small, to_z-of_z w32 a f) at c.raised.ensures) loop.invariant.1,
     )
 
 pub returns : goal.returns

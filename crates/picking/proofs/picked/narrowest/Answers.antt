@@ -1,6 +1,5 @@
 -- The loop's invariant: the place picked so far has several numbers, if any has.
 use mathlib.Core.Path.{refl}
-use Prim.Native.Nat.{◌-◌}
 use native.Mathlib.Omega.{arith}
 use Rattle.expr.specs.Records.{PARAMETERS}
 use Rattle.corners.specs.BoxLaws.{wide_high}

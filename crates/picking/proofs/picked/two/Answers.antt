@@ -1,8 +1,7 @@
 -- The loop's invariant: the ranges before i, but those at w and t, have one number at most.
 use mathlib.Core.Path.{◌≡◌}
-use Prim.Native.Nat.{◌-◌}
 use native.Mathlib.Omega.{arith}
-use lib.ListN.{length, length-map}
+use lib.ListN.{length}
 use Rattle.integer.specs.Apart.{apart}
 use Rattle.expr.specs.Records.{PARAMETERS}
 use Rattle.picking.proofs.Steps.{two_more}

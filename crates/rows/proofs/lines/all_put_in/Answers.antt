@@ -1,6 +1,5 @@
 -- The loop's invariant: the numbers before k are the values of their inequalities.
 use mathlib.Core.Path.{refl, subst, sym, ap, ◌∙◌}
-use Prim.Native.Nat.{◌-◌}
 use native.Mathlib.Omega.{arith}
 use lib.IntN.{ℤ}
 use mir.Syntax.{w64}

@@ -8,7 +8,9 @@ use Rattle.rows.proofs.lines.all_put_in.Given as goal
 
 -- The loop's invariant: the numbers before k are the values of their inequalities.
 abbrev pub invariant-loop-k : goal.invariant-loop-k
-invariant-loop-k l = (l.k ≤ l.n) × (length l.l.numbers ≡ 25) × ((j : ℕ) → j < l.k → ValueOf (expr_at l.flat j) l.v.numbers (get_or l.l.numbers j (pos 0)))
+invariant-loop-k l =
+    (l.k ≤ l.n) × (length l.l.numbers ≡ 25)
+    × ((j : ℕ) → j < l.k → ValueOf (expr_at l.flat j) l.v.numbers (get_or l.l.numbers j (pos 0)))
 
 abbrev pub decreases-loop-k : goal.decreases-loop-k
 decreases-loop-k l = l.n - l.k

@@ -13,7 +13,6 @@ use Rattle.intervals.specs.Interval.{interval}
 use Rattle.intervals.specs.IntervalLaws.{interval_whole, slope_tame}
 use Rattle.rows.proofs.Ends.{end_asks, end_holds, sized_tame}
 use borrow.Author.Rules.{rules}
-use Rattle.rows.proofs.lines.held.Goals.{After-at-c, After-wide}
 use Rattle.rows.proofs.lines.held.Goals as goal
 
 pub overflow_add-c : goal.overflow_add-c

@@ -1,10 +1,10 @@
 -- The loop's invariant: what is counted so far, with the rows that are left, is the sum of all rows.
 use mathlib.Core.Path.{◌≡◌, ap, subst, ◌∙◌}
 use mathlib.Core.List.{List}
-use Prim.Native.Nat.{ℕ, ◌-◌}
+use Prim.Native.Nat.{ℕ}
 use native.Mathlib.Omega.{arith}
 use lib.IntN.{ℤ, pos}
-use lib.ListN.{length, get_or, set, length-map}
+use lib.ListN.{length, get_or, set}
 use mir.Syntax.{w16}
 use mir.Val.{SFits}
 use mir.ValLaws.{to_z-of_z}
@@ -15,7 +15,6 @@ use Rattle.rows.specs.Lines.{ValueOf, line_at}
 use Rattle.rows.specs.RowLaws.{rows_counted}
 use Rattle.rows.proofs.Steps.{row_width, sum_of, sum_turn, sum_done, line_of}
 use borrow.Author.Rules.{rules}
-use Rattle.rows.proofs.sums.along.Goals.{After-all_put_in-l}
 use Rattle.rows.proofs.sums.along.Goals as goal
 
 pub loop-i-init : goal.loop-i-init
@@ -45,8 +44,8 @@ loop-i-preserved c =
       loop.invariant.1,
       loop.invariant.2,
       omega (arith, loop.invariant.3, c.width-total.ensures.small),
-      sum_turn _ _ _ (get_or a.b.list a.w blank_range) _ loop.i loop.total _ _ _ (omega arith) (to_z-of_z w16 _ f) c.point-p.ensures c.row.ensures
-          c.width-total.ensures.value loop.invariant.4,
+      sum_turn _ _ _ (get_or a.b.list a.w blank_range) _ loop.i loop.total _ _ _ (omega arith) (to_z-of_z w16 _ f) c.point-p.ensures
+          c.row.ensures c.width-total.ensures.value loop.invariant.4,
     )
 
 pub returns : goal.returns

@@ -1,6 +1,6 @@
 use mathlib.Core.Path.{◌≡◌}
 use Prim.Native.Nat.{◌+◌, ◌-◌, ◌*◌, ◌≤◌}
-use lib.IntN.{ℤ, pos, ◌+ℤ◌}
+use lib.IntN.{pos, ◌+ℤ◌}
 use Rattle.valuations.specs.Valuations.{width}
 use Rattle.rows.specs.Lines.{line_at}
 use Rattle.rows.proofs.Steps.{row_width, sum_of}

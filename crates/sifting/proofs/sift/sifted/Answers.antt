@@ -1,6 +1,5 @@
 -- Inequality by inequality: those so far are met exactly where the kept ones are.
 use mathlib.Core.Path.{◌≡◌, sym, ◌∙◌}
-use Prim.Native.Nat.{◌-◌}
 use native.Mathlib.Omega.{arith}
 use lib.IntN.{ℤ}
 use Rattle.inequalities.specs.Sizes.{SizedTo}
@@ -10,7 +9,6 @@ use mir.ValLaws.{to_z-of_z}
 use Rattle.integer.specs.Order.{lt_z_false}
 use Rattle.integer.specs.Product.{size_fits}
 use Rattle.sifting.specs.Sifting.{sifted_start, sifted_skip, sifted_keep, sifted_all}
-use Rattle.sifting.proofs.sift.sifted.Goals.{After-best}
 use Rattle.sifting.proofs.sift.sifted.Goals as goal
 use Rattle.sifting.proofs.sift.sifted.Goals.{then-best-lt0, else-best-lt0}
 
@@ -32,9 +30,9 @@ loop-k-preserved c =
     let e = c.inequality-e.result in
     let turned = c.turned-worst.result.list in
     elim c.if-best-lt0.branch [
-      then-best-lt0 w ↦ rw (w.kept-is, w.m-is)
+      | then-best-lt0 w ↦ rw (w.kept-is, w.m-is)
           (sifted_keep a.flat.now a.n turned i.kept i.m i.k i.invariant c.loop-k-test.true e c.inequality-e.ensures _ w.store.ensures)
-    | else-best-lt0 w ↦ rw (w.kept-is, w.m-is)
+      | else-best-lt0 w ↦ rw (w.kept-is, w.m-is)
           (sifted_skip a.flat.now a.n turned i.kept i.m i.k i.invariant c.loop-k-test.true e c.inequality-e.ensures c.best.result
           c.best.ensures.value (lt_z_false (rw (best-is c.best.result c.best.ensures.small) at w.if-best-lt0.false)))
     ]

@@ -1,6 +1,5 @@
 -- The loop's invariant: the inequalities from k on are met exactly if all are.
 use mathlib.Core.Path.{◌≡◌, ap, ◌∙◌}
-use Prim.Native.Nat.{◌-◌}
 use native.Mathlib.Omega.{arith}
 use lib.IntN.{ℤ, pos}
 use Rattle.inequalities.specs.Sizes.{SizedTo}

@@ -1,4 +1,4 @@
-use Prim.Native.Nat.{◌-◌, ◌≤◌}
+use Prim.Native.Nat.{◌≤◌}
 use Rattle.systems.specs.Boxes.{Narrows}
 use Rattle.inequalities.specs.Flat.{exprs_in}
 use Rattle.systems.proofs.boxes.narrowed.Given as goal

@@ -1,6 +1,5 @@
 -- The loop's invariant: no step loses a valuation that meets the inequalities.
 use mathlib.Core.Path.{subst}
-use Prim.Native.Nat.{◌-◌}
 use native.Mathlib.Omega.{arith}
 use Rattle.expr.specs.Affine.{Affine}
 use Rattle.narrowing.specs.Cut.{Cut}

@@ -1,8 +1,7 @@
 -- The loop's invariant: the product so far, times the widths still to come, is the product of all, up to the largest usize.
 use mathlib.Core.Path.{◌≡◌}
-use Prim.Native.Nat.{◌-◌}
 use native.Mathlib.Omega.{arith}
-use lib.ListN.{length, length-map}
+use lib.ListN.{length}
 use Rattle.expr.specs.Records.{PARAMETERS}
 use Rattle.widths.proofs.Products.{volume_turn, volume_all}
 use Rattle.widths.proofs.product.volume.Goals as goal
