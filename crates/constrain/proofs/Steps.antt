@@ -11,7 +11,6 @@ use lib.Seq.{get_or-set_same, get_or-set_other, get_or_at, ext_get_or}
 use Rattle.expr.specs.declared.bound.Bound.{Bound}
 use Rattle.expr.specs.Records.{no_bound, none_bound, zero_bound}
 use Rattle.constrain.specs.Rules.{sum_c, place_c, places_at, framed_c, inside_c, via_at, outside_c}
-use Rattle.constrain.specs.declared.rule.Reads.{Reads}
 
 pub inside_in : (x : ℕ) (b : Bound) → x < 25 → b ≡ inside_c x b
 unfolding inside_c

@@ -3,7 +3,7 @@ use Rattle.std.specs.Prelude.{◌≡◌, Bool, List, [], ◌∷◌, ◌++◌, le
 use Rattle.std.proofs.Math.Path.{refl}
 use Rattle.std.proofs.Common.{sym, ap, ◌∙◌}
 use Rattle.std.proofs.Math.Bool.{true, false, cond}
-use Prim.Native.Nat.{ℕ, zero, suc, ◌+◌, ◌*◌, ◌/◌, ◌%◌, ◌≤◌, ◌<◌, min}
+use Prim.Native.Nat.{ℕ, zero, suc, ◌+◌, ◌*◌, ◌/◌, ◌%◌, ◌≤◌, min}
 use native.Mathlib.Omega.{arith}
 use borrow.Author.Tests.{lt-ltb, le-ltb, ltb-true, ltb-false}
 use Rattle.std.proofs.Math.Dec.{ltb}
@@ -13,9 +13,8 @@ use Rattle.expr.specs.Bounds.{tighter_b, saturated_b}
 use Rattle.expr.specs.RecordLaws.{inside_any}
 use Rattle.expr.specs.Records.{no_bound, zero_bound, none_bound, no_test}
 use Rattle.expr.specs.declared.bound.Bound.{Bound}
-use Rattle.expr.specs.declared.bound.Test.{Test}
-use Rattle.constrain.specs.Rules.{entry_c, sum_c, tighter_c, void_test, tight_test, via_c}
-use Rattle.constrain.specs.Rules.{push_test, ask_c, place_c, places_at, framed_c, inside_c, via_at}
+use Rattle.constrain.specs.Rules.{sum_c, tighter_c, void_test, tight_test, via_c}
+use Rattle.constrain.specs.Rules.{push_test, ask_c, places_at, framed_c, inside_c, via_at}
 use Rattle.constrain.specs.declared.rule.Reads.{Reads}
 use Rattle.constrain.specs.declared.rule.Rule.{Rule}
 

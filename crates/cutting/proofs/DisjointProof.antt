@@ -10,11 +10,10 @@ use Rattle.weight.specs.Upper.{Upper, none}
 use Rattle.expr.specs.Records.{range_list}
 use Rattle.valuations.specs.Valuations.{satisfies}
 use Rattle.expr.specs.declared.range.Range.{Range}
-use Rattle.sheet.specs.declared.Sheet.{Sheet}
 use Rattle.timed.specs.Automaton.{route_of}
 use Rattle.timed.specs.Steps.{Step, delay, guard, resets, steps_of}
 use Rattle.cutting.specs.Cutting.{Zone, start_zone, listed, step_zones, cut_steps, zones_along, zones_of}
-use Rattle.cutting.specs.Held.{InRanges, holds, at, found, list_of}
+use Rattle.cutting.specs.Held.{holds, at, found, list_of}
 use Rattle.cutting.specs.Listings.{listed_same, listed_first}
 use Rattle.cutting.proofs.Works.{each, guard_at, delay_found, guard_found, resets_found}
 use Rattle.cutting.specs.Disjoint.{AlongDisjoint, PiecesDisjoint, ZonesApart}

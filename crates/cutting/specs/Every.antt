@@ -1,7 +1,7 @@
 -- What every zone has along the way, whatever the steps: P n of every zone after n delays, if the start has it and the steps keep it. At
 -- most 32 zones are listed, and a refusal is 7 or 8. Shape, Numbered and FirstHeld are instances in which P is a part for the inequalities
 -- and a part for the matrix, and the delays do not count; crate sizes has one in which they do.
-use Rattle.std.specs.Prelude.{◌≡◌, ◌⊎◌, Bool, ℕ, suc, ◌+◌, ◌≤◌, ◌<◌, length}
+use Rattle.std.specs.Prelude.{◌≡◌, ◌⊎◌, Bool, ℕ, suc, ◌≤◌, ◌<◌, length}
 use Rattle.std.proofs.Math.Path.{subst}
 use Rattle.std.proofs.Common.{sym, inr}
 use Rattle.std.proofs.Math.Logic.{inl}
@@ -15,7 +15,7 @@ use Rattle.expr.specs.Records.{bound_as}
 use Rattle.expr.specs.declared.range.Range.{Range}
 use Rattle.guards.specs.declared.Guard.{Guard}
 use Rattle.timed.specs.Lists.{AllOf}
-use Rattle.timed.specs.Steps.{Step, delay, guard, resets, delays}
+use Rattle.timed.specs.Steps.{Step, delay, guard, resets}
 use Rattle.cutting.specs.Cutting.{Bounds, Zone, Tree, cut, keep, asks, guard_tree, Listing, listed, refused, INEQS, ZONES}
 use Rattle.cutting.specs.Cutting.{never, SevenOrEight}
 

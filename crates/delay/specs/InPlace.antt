@@ -1,8 +1,8 @@
 -- Changes of a matrix where it stands, one after another.
 use Rattle.std.specs.Prelude.{◌≡◌, refl, Bool, true, false, cond, List, ℕ, ◌+◌, ◌*◌, ◌≤◌, ◌<◌, min, ltb, eqb, length, get_or, set}
-use Rattle.std.proofs.Common.{sym, ap, ◌∙◌, arith, lt-ltb, le-ltb, eq-eqb, ne_eqb, length-set, get_or-set_same, set-set}
+use Rattle.std.proofs.Common.{sym, ap, ◌∙◌, arith, lt-ltb, le-ltb, eq-eqb, ne_eqb, get_or-set_same, set-set}
 use Rattle.std.proofs.lemmas.List.{set-get_or}
-use Rattle.cells.specs.Cells.{Cell, no_cell, with_matrix, on_matrix, put_bound}
+use Rattle.cells.specs.Cells.{Cell, no_cell, with_matrix, on_matrix}
 use Rattle.constrain.specs.RuleLaws.{read_c}
 use Rattle.constrain.specs.Rules.{inside_c}
 use Rattle.expr.specs.RecordLaws.{inside_any}

@@ -1,12 +1,12 @@
 -- A test that fails at its best, and a guard whose first two tests fail.
-use mathlib.Core.Path.{◌≡◌, refl, sym, ap, subst, ◌∙◌}
-use mathlib.Core.Bool.{Bool, true, false, cond, ◌&&◌, true≢false}
+use mathlib.Core.Path.{◌≡◌, refl, sym, ap, ◌∙◌}
+use mathlib.Core.Bool.{Bool, true, false, cond}
 use mathlib.Core.List.{List, [], ◌∷◌, ◌++◌, map}
 use mathlib.Core.Option.{none}
-use Prim.Native.Nat.{ℕ, zero, suc, ◌+◌, ◌*◌, ◌≤◌, ◌<◌, min}
+use Prim.Native.Nat.{ℕ, suc, ◌+◌, ◌*◌, ◌<◌, min}
 use native.Mathlib.Omega.{arith}
 use borrow.Author.Tests.{eq-eqb, lt-ltb}
-use lib.Dec.{ltb, eqb}
+use lib.Dec.{ltb}
 use lib.IntN.{ℤ, pos, ◌+ℤ◌}
 use lib.ListN.{length, get_or, take}
 use lib.Signed.{le_z, ◌≤ℤ◌, ◌<ℤ◌}
@@ -14,10 +14,9 @@ use Rattle.integer.specs.Bools.{and_left, and_right}
 use Rattle.integer.specs.Order.{le_z_true}
 use Rattle.integer.specs.Split.{split, split-all}
 use Rattle.constrain.specs.RuleLaws.{read_c}
-use Rattle.constrain.specs.Rules.{inside_c, entry_c, sum_c, tighter_c, void_test, tight_test}
+use Rattle.constrain.specs.Rules.{inside_c, sum_c, tighter_c, void_test, tight_test}
 use Rattle.constrain.specs.declared.rule.Rule.{Rule}
 use Rattle.expr.specs.Affine.{Affine, value, dot}
-use Rattle.expr.specs.Ranges.{Inside}
 use Rattle.expr.specs.RecordLaws.{inside_any}
 use Rattle.expr.specs.Records.{affine, no_bound, zero_bound, range_list}
 use Rattle.expr.specs.declared.bound.Asked.{Asked}
@@ -33,7 +32,7 @@ use Rattle.systems.specs.BoxLaws.{first_nothing, first_in_narrower}
 use Rattle.valuations.specs.Valuations.{satisfies, first}
 use Rattle.split.specs.Guarded.{rule_c}
 use Rattle.split.specs.Listed.{list_c}
-use Rattle.split.specs.Trees.{TreeC, cut_t, keep_t, ask_t, tested_by, tested_c, push_c, tight_c, tree_at, worked_c, start_c, meant}
+use Rattle.split.specs.Trees.{TreeC, cut_t, keep_t, tested_by, tested_c, push_c, tight_c, tree_at, worked_c, meant}
 use Rattle.split.specs.declared.list.Counted.{Counted}
 use Rattle.steps.specs.Steps.{asks_c, part_c}
 use Rattle.steps.specs.declared.step.Step.{Step}

@@ -7,7 +7,7 @@ use Rattle.std.proofs.lemmas.List.{get_or-replicate}
 use Rattle.std.specs.Int.Signed.{le_z}
 use Rattle.integer.specs.Order.{le_z_false, false_le_z}
 use Rattle.integer.specs.Split.{split, split-all}
-use Rattle.expr.specs.Affine.{Affine, dot, value}
+use Rattle.expr.specs.Affine.{dot, value}
 use Rattle.expr.specs.Records.{PARAMETERS, places_from, four, affine, expr_of, no_expr}
 use Rattle.expr.specs.declared.number.Expr.{Expr}
 use Rattle.nogoods.specs.declared.Nogoods.{Nogoods}

@@ -1,12 +1,12 @@
 -- The cells of the two parts are those of `yes_c` and `no_c`.
 use Rattle.std.specs.Prelude.{◌≡◌, Bool, cond, List, ℕ, zero, suc, ◌+◌, ◌-◌, ◌≤◌, ◌<◌, ltb, length, get_or, set}
 use Rattle.std.proofs.Math.Path.{refl, sym, ap}
-use Rattle.std.proofs.Common.{subst, ◌∙◌, arith, lt-ltb, le-ltb, ltb-true, ltb-false, length-set, get_or-set_same, get_or-set_other}
+use Rattle.std.proofs.Common.{◌∙◌, arith, lt-ltb, le-ltb, ltb-true, ltb-false, get_or-set_same, get_or-set_other}
 use Rattle.std.proofs.Common.{set-set}
 use Rattle.std.proofs.Math.Bool.{true, false}
 use Rattle.std.proofs.Math.Numerals.{add-one}
 use Rattle.std.proofs.lemmas.List.{set_comm}
-use Rattle.cells.specs.Cells.{Cell, no_cell, with_ineq, with_matrix, put_ineq, put_bound, zone_of, cells_in}
+use Rattle.cells.specs.Cells.{Cell, no_cell, with_ineq, with_matrix, put_ineq, put_bound, zone_of}
 use Rattle.constrain.specs.RuleLaws.{read_c, sum_is}
 use Rattle.constrain.specs.Rules.{sum_c, places_at, via_c}
 use Rattle.constrain.specs.declared.rule.Reads.{Reads}

@@ -1,22 +1,21 @@
 -- A step over zones in order is what each zone's part comes to, one after another.
-use Rattle.std.specs.Prelude.{◌≡◌, Bool, not, cond, ℕ, zero, suc, ◌+◌, ◌-◌, ◌≤◌, ◌<◌, ltb, eqb, length, take, set, replicate}
+use Rattle.std.specs.Prelude.{◌≡◌, Bool, not, cond, ℕ, suc, ◌+◌, ◌-◌, ◌≤◌, ◌<◌, ltb, length, set, replicate}
 use Rattle.std.proofs.Math.Path.{refl, sym, ap}
 use Rattle.std.proofs.Common.{subst, ◌∙◌, add-one, arith, length-append}
 use Rattle.std.proofs.Math.Bool.{true, false}
 use mathlib.Core.List.{List, [], ◌∷◌, ◌++◌, map}
-use borrow.Author.Tests.{lt-ltb, le-ltb, eq-eqb, ne_eqb, ltb-true, ltb-false, eqb-true, eqb-false}
+use borrow.Author.Tests.{lt-ltb, le-ltb, eq-eqb, ne_eqb, ltb-true, ltb-false}
 use Rattle.std.proofs.lemmas.List.{length-map}
 use Rattle.std.proofs.Math.Seq.{take-append_seam}
 use Rattle.delay.specs.Delayed.{on_first, delayed_zone, resets_zone, delayed_all, resets_all}
 use Rattle.expr.specs.declared.range.Ranges.{Ranges}
 use Rattle.guards.specs.declared.Guard.{Guard}
-use Rattle.parts.specs.declared.part.Part.{Part}
 use Rattle.split.specs.Guarded.{rule_c, cut_c, cut_all, guarded_c}
-use Rattle.split.specs.Listed.{nothing_at, none_at, refused_c, list_c}
+use Rattle.split.specs.Listed.{none_at, list_c}
 use Rattle.split.specs.Stack.{start_drained, meant_sticks}
 use Rattle.split.specs.Trees.{start_c, ended_c, meant}
 use Rattle.split.specs.declared.list.Counted.{Counted}
-use Rattle.steps.specs.Steps.{at_visit, step_c, steps_all, changed_c, kept_c, asks_c, part_c}
+use Rattle.steps.specs.Steps.{at_visit, step_c, steps_all, changed_c, asks_c, part_c}
 use Rattle.steps.specs.declared.step.Step.{Step}
 use Rattle.zones.specs.Zone.{blank_zone}
 use Rattle.zones.specs.declared.zone.Zone.{Zone}

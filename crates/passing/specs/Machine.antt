@@ -1,7 +1,7 @@
 -- A pass over zones, turn by turn: what is still to come of it stays the same.
 use Rattle.std.specs.Prelude.{◌≡◌, Bool, true, false, cond, ℕ, zero, suc, ◌+◌, ◌-◌, ◌*◌, ◌≤◌, ◌<◌, min, ltb, eqb, length, get_or, drop, set, replicate}
 use Rattle.std.proofs.Math.Path.{refl, ap, subst}
-use Rattle.std.proofs.Common.{sym, ◌∙◌, add-one, length-take, length-drop, length-append, drop_of_length-le, drop-cons, get_or-take, get_or-drop, get_or-append-add, get_or-set_same, get_or-set_other, ext_get_or, take-suc}
+use Rattle.std.proofs.Common.{sym, ◌∙◌, add-one, length-take, length-drop, length-append, drop_of_length-le, drop-cons, get_or-take, get_or-drop, get_or-append-add, get_or-set_same, ext_get_or}
 use mathlib.Core.List.{List, [], ◌∷◌, ◌++◌}
 use native.Mathlib.Omega.{arith}
 use borrow.Author.Tests.{lt-ltb, le-ltb, ltb-true, ltb-false, eqb-true, eqb-false}
@@ -12,10 +12,10 @@ use Rattle.expr.specs.declared.range.Ranges.{Ranges}
 use Rattle.parts.specs.Parts.{yes_c, no_c}
 use Rattle.parts.specs.declared.part.Part.{Part}
 use Rattle.split.specs.Guarded.{rule_c}
-use Rattle.split.specs.Listed.{nothing_at, none_at, refused_c, list_c}
+use Rattle.split.specs.Listed.{none_at, refused_c, list_c}
 use Rattle.split.specs.Runs.{split_leaves}
 use Rattle.split.specs.Stack.{Turned, Turn, drained, load, size, size_more, no_part, all_turned, ends_turned, refused_turned, room_turned}
-use Rattle.split.specs.Stack.{splits_turned, splits_less, ends_less, top_live, start_live}
+use Rattle.split.specs.Stack.{splits_turned, splits_less, ends_less, start_live}
 use Rattle.split.specs.Trees.{start_c, ended_c, meant, Live, Ran}
 use Rattle.split.specs.declared.list.Counted.{Counted}
 use Rattle.passing.specs.Laws.{plain, pass_one, pass_all, done, append_assoc, list_plain, none_plain, step_is}

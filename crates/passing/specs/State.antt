@@ -1,5 +1,5 @@
 -- Where a pass over zones stands.
-use Rattle.std.specs.Prelude.{cond, ℕ, suc, ◌+◌, ◌-◌, ltb, replicate}
+use Rattle.std.specs.Prelude.{cond, ℕ, ◌+◌, ◌-◌, ltb, replicate}
 use Rattle.passing.specs.declared.pass.Pass.{Pass}
 use Rattle.steps.specs.declared.step.Step.{Step}
 use Rattle.zones.specs.Zone.{blank_zone}

@@ -1,6 +1,6 @@
 -- The route as the code reads it, byte by byte up to the count.
 use Prim.Native.Nat.{ℕ, ◌+◌, ◌<◌, ◌≤◌, min}
-use mathlib.Core.Path.{◌≡◌, refl, sym, ap, subst, ◌∙◌}
+use mathlib.Core.Path.{◌≡◌, refl, sym, subst, ◌∙◌}
 use mathlib.Core.Bool.{Bool, true, false}
 use mathlib.Core.List.{List}
 use native.Mathlib.Omega.{arith}
@@ -11,7 +11,6 @@ use borrow.Author.Tests.{ltb-true, ltb-false, lt-ltb, le-ltb}
 use Rattle.cursor.specs.declared.Cursor.{Cursor}
 use Rattle.cursor.specs.Cursor.{byte_field, below_field, iterate}
 use Rattle.cursor_laws.specs.Counted.{rests}
-use Rattle.route.specs.declared.RouteAt.{RouteAt}
 use Rattle.route.specs.Route.{route_step, route_read}
 
 module _ (s : List ℕ) (end transitions : ℕ) (count : Cursor) where

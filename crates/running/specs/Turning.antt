@@ -1,19 +1,17 @@
 -- One turn of a part that stands in cells.
-use Rattle.std.specs.Prelude.{◌≡◌, Bool, true, false, cond, ◌&&◌, ℕ, ◌+◌, ◌≤◌, ◌<◌, min, ltb, eqb, ℤ, length, get_or, set, take}
+use Rattle.std.specs.Prelude.{◌≡◌, Bool, true, false, cond, ℕ, ◌+◌, ◌≤◌, ◌<◌, min, ℤ, get_or, set}
 use Rattle.std.proofs.Math.Path.{refl, sym, ap}
 use Rattle.std.proofs.Common.{subst, ◌∙◌, arith, le-ltb}
 use mathlib.Core.List.{List}
 use Rattle.std.proofs.lemmas.List.{set-get_or}
 use Rattle.cells.specs.Cells.{Cell, cells_in}
-use Rattle.constrain.specs.RuleLaws.{read_c, via_of, asked_is, places_few}
-use Rattle.constrain.specs.Rules.{tighter_c, ask_c, places_at, outside_c}
+use Rattle.constrain.specs.RuleLaws.{via_of, asked_is, places_few}
+use Rattle.constrain.specs.Rules.{ask_c, places_at}
 use Rattle.constrain.specs.declared.rule.Rule.{Rule}
 use Rattle.expr.specs.Records.{no_bound}
 use Rattle.expr.specs.declared.bound.Bound.{Bound}
-use Rattle.expr.specs.declared.bound.Test.{Test}
-use Rattle.expr.specs.declared.number.Expr.{Expr}
 use Rattle.expr.specs.declared.range.Ranges.{Ranges}
-use Rattle.parts.specs.Parts.{with_bounds, enters_c, turn_c, after_c, tests_in}
+use Rattle.parts.specs.Parts.{enters_c, turn_c, after_c, tests_in}
 use Rattle.parts.specs.declared.part.Next.{Next}
 use Rattle.parts.specs.declared.part.Part.{Part}
 use Rattle.parts.specs.declared.part.Turn.{Turn}
@@ -22,7 +20,7 @@ use Rattle.split.specs.Runs.{left}
 use Rattle.zones.specs.Settled.{settled_f}
 use Rattle.zones.specs.System.{SameRows}
 use Rattle.zones.specs.declared.zone.Zone.{Zone}
-use Rattle.running.specs.Asks.{via_r, asking_c}
+use Rattle.running.specs.Asks.{asking_c}
 use Rattle.running.specs.Tasks.{rule_at}
 use Rattle.running.specs.Working.{Working, working_other}
 use Rattle.running.specs.declared.task.Guarding.{Guarding}

@@ -1,6 +1,6 @@
 -- What a part's tests change in the cells: the matrix at its place alone.
-use Rattle.std.specs.Prelude.{◌≡◌, refl, Bool, true, false, cond, List, ℕ, ◌≤◌, ◌<◌, ℤ, length, get_or, set}
-use Rattle.std.proofs.Common.{sym, ap, subst, ◌∙◌, arith, length-set, get_or-set_same, get_or-set_other, set-set}
+use Rattle.std.specs.Prelude.{◌≡◌, Bool, true, false, cond, List, ℕ, ◌<◌, ℤ, length, get_or, set}
+use Rattle.std.proofs.Common.{sym, ap, subst, ◌∙◌, arith, get_or-set_same, get_or-set_other, set-set}
 use Rattle.std.proofs.lemmas.List.{set-get_or}
 use Rattle.cells.specs.Cells.{Cell, no_cell, cells_in, with_matrix, put_bound, PLACES}
 use Rattle.cells.specs.CellLaws.{cells_long}

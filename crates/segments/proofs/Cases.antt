@@ -1,5 +1,5 @@
 -- The cases of a segment, by its number.
-use mathlib.Core.Path.{◌≡◌, refl, subst}
+use mathlib.Core.Path.{◌≡◌, subst}
 use mathlib.Core.List.{List, []}
 use Prim.Native.Nat.{ℕ, suc, ◌+◌, ◌-◌, ◌≤◌, ◌<◌, min}
 use native.Mathlib.Omega.{arith}
@@ -9,7 +9,6 @@ use Rattle.segments.specs.Lists.{Lists, invariant_steps, stay_steps, lists_more}
 use Rattle.segments.specs.Segments.{size, Moved, Segmented}
 use Rattle.segments.specs.declared.segment.Segment.{Segment}
 use Rattle.sheet.specs.declared.Sheet.{Sheet}
-use Rattle.steps.specs.declared.step.Steps.{Steps}
 
 pub size_is : {A : Type 0} (n k most : ℕ) (xs : List A) → n ≡ min k most → length xs ≡ most → n ≡ length (take k xs)
 size_is n k most xs e l = rw (length-take k xs, l) e

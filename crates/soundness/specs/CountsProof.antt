@@ -18,7 +18,7 @@ use Rattle.soundness.specs.Along.{found_held, along_found, along_held}
 use Rattle.soundness.specs.Counts.{KeptCountsRuns, CutCountsTheRest, KeptAndCut}
 use Rattle.cutting.specs.Cutting.{Zone, listed, zones_along, zones_of}
 use Rattle.cutting.specs.Held.{InRanges, holds, at, found, list_of}
-use Rattle.cutting.specs.Kept.{Counted, nil, has, lacks, kept_of, cut_of}
+use Rattle.cutting.specs.Kept.{Counted, nil, has, lacks, kept_of}
 
 unfoldable tally : List (List ℤ) → List Zone → ℕ
 tally vs [] = 0

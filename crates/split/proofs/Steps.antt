@@ -1,20 +1,14 @@
 -- The cases of the code's steps, with the branches' tests.
-use mathlib.Core.Path.{◌≡◌, refl, sym, ap, ◌∙◌}
-use mathlib.Core.List.{List, [], ◌∷◌}
-use Prim.Native.Nat.{ℕ, suc, ◌+◌, ◌≤◌, ◌<◌, min}
+use mathlib.Core.Path.{◌≡◌, refl}
+use Prim.Native.Nat.{ℕ, ◌+◌, ◌≤◌, ◌<◌}
 use native.Mathlib.Numerals.{add-one}
 use native.Mathlib.Omega.{arith}
 use borrow.Author.Tests.{lt-ltb, le-ltb, eq-eqb, ne_eqb}
-use lib.ListN.{length, get_or, set, take, drop, length-take, drop_of_length-le}
-use lib.Seq.{drop-cons, get_or-take}
-use Rattle.expr.specs.declared.range.Ranges.{Ranges}
-use Rattle.guards.specs.declared.Guard.{Guard}
-use Rattle.split.specs.Guarded.{rule_c, cut_c, cut_all, guarded_c}
-use Rattle.split.specs.Listed.{nothing_at, none_at, refused_c, list_c}
+use lib.ListN.{set}
+use Rattle.split.specs.Listed.{nothing_at, refused_c, list_c}
 use Rattle.split.specs.Trees.{ended_c}
 use Rattle.split.specs.declared.list.Counted.{Counted}
 use Rattle.parts.specs.declared.part.Part.{Part}
-use Rattle.constrain.specs.declared.rule.Rule.{Rule}
 use Rattle.zones.specs.declared.zone.Zone.{Zone}
 use Rattle.zones.specs.declared.zone.Zones.{Zones}
 

@@ -1,5 +1,5 @@
 -- One turn of `run`: the test of a phase, from the entries that the code reads, moves the part on as `forward_c` does.
-use Rattle.std.specs.Prelude.{◌≡◌, List, map, Bool, ◌&&◌, ltb, eqb, ℤ, length, get_or, set, take}
+use Rattle.std.specs.Prelude.{◌≡◌, List, Bool, ◌&&◌, ltb, ℤ, length, get_or, set}
 use Rattle.std.proofs.Math.Path.{refl, ap}
 use Rattle.std.proofs.Common.{sym, subst, ◌∙◌, true≢false}
 use Rattle.std.proofs.Math.Bool.{true, false, cond}
@@ -11,8 +11,7 @@ use Rattle.constrain.specs.RuleLaws.{Few, places_few, read_c, read_framed, via_o
 use Rattle.constrain.specs.Rules.{tighter_c, via_c, push_test, ask_c, places_at, framed_c, via_at, outside_c}
 use Rattle.constrain.specs.declared.rule.Reads.{Reads}
 use Rattle.constrain.specs.declared.rule.Rule.{Rule}
-use Rattle.expr.specs.Affine.{Affine}
-use Rattle.expr.specs.Records.{affine, no_bound, no_test, range_list}
+use Rattle.expr.specs.Records.{no_bound, no_test, range_list}
 use Rattle.expr.specs.declared.bound.Asked.{Asked}
 use Rattle.expr.specs.declared.bound.Asked.TheVariants.{Yes, No, Ask}
 use Rattle.expr.specs.declared.bound.Bound.{Bound}

@@ -1,6 +1,6 @@
 -- A zone that is taken up, in cells: what a step makes of it before its tests.
-use Rattle.std.specs.Prelude.{◌≡◌, refl, Bool, true, false, cond, List, ℕ, ◌≤◌, ◌<◌, ltb, eqb, length, get_or, set}
-use Rattle.std.proofs.Common.{sym, ◌∙◌, arith, lt-ltb, le-ltb, eqb-true}
+use Rattle.std.specs.Prelude.{◌≡◌, refl, Bool, true, false, cond, List, ℕ, ◌<◌, ltb, eqb, length, get_or, set}
+use Rattle.std.proofs.Common.{◌∙◌, arith, eqb-true}
 use Rattle.std.proofs.Math.Path.{ap}
 use Rattle.std.proofs.Math.ListN.{length-set}
 use Rattle.std.proofs.Math.Seq.{get_or-set_same, get_or-set_other}
@@ -9,8 +9,6 @@ use Rattle.delay.specs.Delayed.{delayed_b, resets_b, delayed_zone, resets_zone}
 use Rattle.expr.specs.Records.{zero_expr}
 use Rattle.expr.specs.declared.bound.Bound.{Bound}
 use Rattle.integer.specs.Apart.{apart}
-use Rattle.parts.specs.Parts.{with_bounds}
-use Rattle.parts.specs.declared.part.Part.{Part}
 use Rattle.running.specs.Tasks.{part_with}
 use Rattle.running.specs.declared.task.Task.{Task}
 use Rattle.split.specs.Trees.{start_c}

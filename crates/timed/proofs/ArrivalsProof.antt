@@ -4,8 +4,8 @@ use Rattle.std.proofs.Math.Path.{ap}
 use Rattle.std.proofs.Common.{subst}
 use mathlib.Core.List.{List, [], ◌∷◌}
 use Rattle.sheet.specs.declared.Sheet.{Sheet}
-use Rattle.timed.specs.Automaton.{invariants, guards_of, transition_at}
-use Rattle.timed.specs.Runs.{Clocks, begin, waited, after_resets, AllHold, Leads, RunAlong}
+use Rattle.timed.specs.Automaton.{transition_at}
+use Rattle.timed.specs.Runs.{Clocks, begin, waited, after_resets, Leads, RunAlong}
 use Rattle.timed.specs.Arrivals.{LeadsAtEnds, RunAtEnds, ArrivalsMeet, StartMeets, leads_at_ends}
 
 -- ---- the claim

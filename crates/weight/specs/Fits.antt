@@ -1,6 +1,6 @@
 -- Numbers that were saturated at ±M, at a width that has room for twice as much: their sums and differences fit, and so does one less, and
 -- one more again. Crate weight saturates 64 bits so, crate expr 32.
-use Rattle.std.specs.Prelude.{◌≡◌, ℕ, ◌+◌, ◌*◌, ◌^◌, ◌≤◌, ◌<◌, ℤ, pos, ◌+ℤ◌, ◌-ℤ◌}
+use Rattle.std.specs.Prelude.{ℕ, ◌+◌, ◌*◌, ◌^◌, ◌≤◌, ◌<◌, ℤ, pos, ◌+ℤ◌, ◌-ℤ◌}
 use Rattle.std.proofs.Common.{subst, arith}
 use Rattle.std.specs.Int.{Width}
 use mir.Val.{SFits, hbits}

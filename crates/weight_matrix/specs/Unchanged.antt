@@ -1,7 +1,6 @@
 -- A matrix that a guard does not change, by three of its entries. An index past 4 stands for 4, where a guard changes nothing anyway.
 use Rattle.std.specs.Prelude.{◌≡◌, Bool, cond, ltb}
 use Rattle.std.proofs.Math.Path.{refl}
-use Rattle.std.proofs.Common.{sym, ap, ◌∙◌}
 use Rattle.std.proofs.Math.Bool.{true, false}
 use Prim.Native.Nat.{ℕ, min}
 use native.Mathlib.Omega.{arith}

@@ -14,7 +14,6 @@ use Rattle.expr.specs.declared.bound.Asked.TheVariants.{Yes, No, Ask}
 use Rattle.expr.specs.declared.bound.Test.{Test}
 use Rattle.expr.specs.declared.number.Expr.{Expr}
 use Rattle.expr.specs.declared.number.Valuation.{Valuation}
-use Rattle.expr.specs.declared.range.Range.{Range}
 use Rattle.expr.specs.declared.range.Ranges.{Ranges}
 use Rattle.nogoods.specs.Nogoods.{Below, none_n, below_none, below_with}
 use Rattle.nogoods.specs.declared.Nogoods.{Nogoods}
@@ -23,7 +22,7 @@ use Rattle.systems.specs.BoxLaws.{first_nothing, within_inside}
 use Rattle.valuations.specs.SearchLaws.{first_none}
 use Rattle.valuations.specs.Valuations.{satisfies, first}
 use Rattle.zones.specs.FlatLaws.{Listing, listing_put, listing_same, never_same}
-use Rattle.zones.specs.Hinted.{exprs_of, Guessed, Trusted, Hinted, found_c, learned_c, noted_by, noted_c}
+use Rattle.zones.specs.Hinted.{exprs_of, Guessed, Trusted, Hinted, found_c, learned_c, noted_c}
 use Rattle.zones.specs.Put.{map_last}
 use Rattle.zones.specs.Settled.{Verdict, opposite_c, is_none, never_c, never_f, on_c, settled_c}
 use Rattle.zones.specs.System.{put_in, SameRows}

@@ -1,5 +1,5 @@
 -- `coefs_plain` meets its contract. The invariant: the coefficients before i were read. Assumes nothing.
-use Prim.Native.Nat.{ℕ, ◌-◌}
+use Prim.Native.Nat.{ℕ}
 use mathlib.Core.Path.{◌≡◌}
 use native.Mathlib.Omega.{arith}
 use lib.IntN.{ℤ}

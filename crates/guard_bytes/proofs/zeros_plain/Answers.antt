@@ -1,5 +1,4 @@
 -- `zeros_plain` meets its contract. The invariant: the coefficients before i were read, and are zeros. Assumes nothing.
-use Prim.Native.Nat.{◌-◌}
 use native.Mathlib.Omega.{arith}
 use Rattle.cursor_laws.specs.Laws.{no}
 use Rattle.guard_bytes.specs.Plain.{zeros_begun, zeros_more, zeros_done}

@@ -1,5 +1,4 @@
 -- `coefs_at` meets its contract. The invariant: after i steps the coefficients are what `iterate` gives. Assumes nothing.
-use Prim.Native.Nat.{◌-◌}
 use mathlib.Core.Path.{◌≡◌, refl}
 use native.Mathlib.Omega.{arith}
 use native.Mathlib.Numerals.{add-one}

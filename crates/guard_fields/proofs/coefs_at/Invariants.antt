@@ -1,7 +1,7 @@
 use Prim.Native.Nat.{◌≤◌, ◌-◌}
 use mathlib.Core.Path.{◌≡◌}
 use Rattle.cursor.specs.Cursor.{iterate}
-use Rattle.guards.specs.Guards.{coef_step, coefs_at}
+use Rattle.guards.specs.Guards.{coef_step}
 use Rattle.guard_fields.proofs.coefs_at.Given as goal
 
 -- `coefs_at` meets its contract. The invariant: after i steps the coefficients are what `iterate` gives. Assumes nothing.

@@ -1,5 +1,4 @@
 -- `zeros_at` meets its contract. The invariant: after i steps reading stands where `iterate` says. Assumes nothing.
-use Prim.Native.Nat.{◌-◌}
 use mathlib.Core.Path.{◌≡◌, refl}
 use native.Mathlib.Omega.{arith}
 use native.Mathlib.Numerals.{add-one}

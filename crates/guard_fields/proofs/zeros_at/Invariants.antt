@@ -1,7 +1,7 @@
 use Prim.Native.Nat.{◌≤◌, ◌-◌}
 use mathlib.Core.Path.{◌≡◌}
 use Rattle.cursor.specs.Cursor.{iterate}
-use Rattle.guards.specs.Guards.{zero_step, zeros_at}
+use Rattle.guards.specs.Guards.{zero_step}
 use Rattle.guard_fields.proofs.zeros_at.Given as goal
 
 -- `zeros_at` meets its contract. The invariant: after i steps reading stands where `iterate` says. Assumes nothing.

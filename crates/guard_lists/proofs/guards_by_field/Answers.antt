@@ -1,5 +1,4 @@
 -- `guards_by_field` meets its contract. The invariant: after i steps the list is what `iterate` gives. Assumes nothing.
-use Prim.Native.Nat.{◌-◌}
 use mathlib.Core.Path.{◌≡◌, refl}
 use native.Mathlib.Omega.{arith}
 use native.Mathlib.Numerals.{add-one}

@@ -1,5 +1,4 @@
 -- `guards_from` meets its contract. The invariant: after i guards, all right, reading stands where `iterate` says. Assumes nothing.
-use Prim.Native.Nat.{◌-◌}
 use native.Mathlib.Omega.{arith}
 use borrow.Author.Rules.{rules}
 use borrow.Author.Tests.{not-false}

@@ -3,12 +3,11 @@ use mathlib.Core.Path.{◌≡◌, sym, ap, ◌∙◌}
 use native.Mathlib.Omega.{arith}
 use borrow.Author.Rules.{rules}
 use lib.IntN.{ℤ, pos}
-use lib.ListN.{length, length-map}
+use lib.ListN.{length}
 use lib.Signed.{◌<ℤ◌}
 use mir.Syntax.{w64}
 use mir.Val.{to_z, of_z}
 use mir.ValLaws.{to_z-of_z}
-use Rattle.integer.specs.Apart.{apart}
 use Rattle.integer.specs.Order.{lt_z_true}
 use Rattle.integer.specs.Product.{size_fits}
 use Rattle.expr.specs.Records.{affine, blank_range}

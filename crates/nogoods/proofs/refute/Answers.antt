@@ -1,5 +1,4 @@
 -- One of them is nowhere less than e.
-use Prim.Native.Nat.{◌-◌}
 use native.Mathlib.Omega.{arith}
 use Rattle.integer.specs.Apart.{apart}
 use Rattle.nogoods.specs.Nogoods.{less_below}

@@ -1,5 +1,4 @@
 -- The loop's invariant: the coefficients before i are the same.
-use Prim.Native.Nat.{◌-◌}
 use native.Mathlib.Omega.{arith}
 use lib.IntN.{pos, ◌-ℤ◌}
 use lib.ListN.{get_or}

@@ -1,5 +1,4 @@
 -- `parameters::parameters_read` meets its contract. The invariant: after i steps the ranges are what `iterate` gives. Assumes nothing.
-use Prim.Native.Nat.{◌-◌}
 use mathlib.Core.Path.{◌≡◌, refl}
 use native.Mathlib.Omega.{arith}
 use native.Mathlib.Numerals.{add-one}

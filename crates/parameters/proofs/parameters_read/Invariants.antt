@@ -1,7 +1,7 @@
 use Prim.Native.Nat.{◌≤◌, ◌-◌}
 use mathlib.Core.Path.{◌≡◌}
 use Rattle.cursor.specs.Cursor.{iterate}
-use Rattle.parameters.specs.Parameters.{range_step, parameters_read}
+use Rattle.parameters.specs.Parameters.{range_step}
 use Rattle.parameters.proofs.parameters_read.Given as goal
 
 -- `parameters::parameters_read` meets its contract. The invariant: after i steps the ranges are what `iterate` gives. Assumes nothing.

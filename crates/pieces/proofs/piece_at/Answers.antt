@@ -28,18 +28,17 @@ pub loop-i-preserved : goal.loop-i-preserved
 loop-i-preserved c =
     let loop = c.loop-i in
     let a = c.args in
-    let four : length c.inequality.result.coefs ≡ 4 = simp length-map at c.inequality.type-inv.1.1.1.0.1.0.1 in
+    let four : length c.inequality.result.coefs ≡ 4 = search rules in
     reading_turn a.cells.now a.marks.now a.p a.n loop.i _ loop.z c.inequality.result c.bound_at.result
     loop.invariant c.loop-i-test.true four c.inequality.ensures c.bound_at.ensures
 
 pub returns : goal.returns
 returns c =
     let loop = c.loop-i in
-    let start = c in
-    let a = start.args in
+    let a = c.args in
     let cell = get_or (cells_in a.cells.now a.marks.now) a.p no_cell in
     let found = c.first-found in
-    let few = start.requires.1.1 in
+    let few = c.requires.1.1 in
     reading_ends a.cells.now a.marks.now a.p a.n loop.i _ loop.z c.bound_at-2.result few loop.invariant
     (search rules) c.bound_at-2.ensures
     ∙ ap (λ (v : Valuation). record { used = true; first = v; count = a.n; ineqs = cell.ineqs; bounds = cell.bounds })

@@ -1,6 +1,5 @@
 use Prim.Native.Nat.{◌≤◌, ◌-◌}
 use mathlib.Core.Path.{◌≡◌}
-use Rattle.cursor.specs.Cursor.{iterate}
 use Rattle.guards.specs.Guards.{guards_at}
 use Rattle.places.specs.Places.{places_at}
 use Rattle.places.proofs.location_places.Given as goal

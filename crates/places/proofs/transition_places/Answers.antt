@@ -1,5 +1,4 @@
 -- `transition_places` meets its contract. The invariant: after i entries the places are what `iterate` gives. Assumes nothing.
-use Prim.Native.Nat.{◌-◌}
 use mathlib.Core.Path.{refl, ap}
 use native.Mathlib.Omega.{arith}
 use borrow.Author.Rules.{rules}

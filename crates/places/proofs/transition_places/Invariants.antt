@@ -1,6 +1,5 @@
 use Prim.Native.Nat.{◌≤◌, ◌-◌}
 use mathlib.Core.Path.{◌≡◌}
-use Rattle.cursor.specs.Cursor.{iterate}
 use Rattle.automaton.specs.Automaton.{transition_at}
 use Rattle.places.specs.Places.{places_at}
 use Rattle.places.proofs.transition_places.Given as goal

@@ -1,5 +1,4 @@
 -- `route::links_of` meets its contract. The invariant: after i steps the link is what `iterate` gives. Assumes nothing.
-use Prim.Native.Nat.{◌-◌}
 use mathlib.Core.Path.{◌≡◌, refl}
 use native.Mathlib.Omega.{arith}
 use native.Mathlib.Numerals.{add-one}

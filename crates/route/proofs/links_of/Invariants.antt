@@ -1,7 +1,7 @@
 use Prim.Native.Nat.{◌≤◌, ◌-◌}
 use mathlib.Core.Path.{◌≡◌}
 use Rattle.cursor.specs.Cursor.{iterate}
-use Rattle.route.specs.Route.{link_step, links_of}
+use Rattle.route.specs.Route.{link_step}
 use Rattle.route.proofs.links_of.Given as goal
 
 -- `route::links_of` meets its contract. The invariant: after i steps the link is what `iterate` gives. Assumes nothing.

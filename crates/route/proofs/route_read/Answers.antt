@@ -1,5 +1,4 @@
 -- `route::route_read` meets its contract. The invariant: after i bytes the route is what `iterate` gives. Assumes nothing.
-use Prim.Native.Nat.{◌-◌}
 use native.Mathlib.Omega.{arith}
 use borrow.Author.Rules.{rules}
 use Rattle.route.proofs.RouteSteps.{read_begun, read_more, read_done}

@@ -1,5 +1,5 @@
 -- The constant and a product for each parameter are small enough that 64 bits hold every sum; the last one is the value.
-use Prim.Native.Nat.{◌+◌, ◌-◌}
+use Prim.Native.Nat.{◌+◌}
 use native.Mathlib.Omega.{arith}
 use lib.IntN.{pos, ◌+ℤ◌, ◌*ℤ◌}
 use lib.ListN.{get_or}

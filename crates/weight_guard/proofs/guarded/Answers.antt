@@ -1,5 +1,4 @@
 -- The branches are the rules of `guarded_table`, in order.
-use borrow.Author.Rules.{rules}
 use mathlib.Core.Path.{◌∙◌}
 use Rattle.weight_guard.proofs.Steps.{guard_past_i, guard_past_j, guard_void, guard_cut, guard_limited, guard_stays}
 use Rattle.weight_guard.proofs.guarded.Goals as goal

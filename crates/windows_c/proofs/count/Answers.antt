@@ -12,17 +12,14 @@ use Rattle.windows_c.proofs.count.Goals as goal
 
 pub returns-then-numbered-eq0 : goal.returns-then-numbered-eq0
 returns-then-numbered-eq0 c =
-    let s = c in
     to_z-of_z w64 c.signed.result (search rules) ∙ c.signed.ensures ∙ ap pos c.pieces.ensures
-    ∙ listed_count s.args.answer (sym (ap number_of s.numbered-numbered.ensures) ∙ c.if-numbered-eq0.true)
+    ∙ listed_count c.args.answer (sym (ap number_of c.numbered-numbered.ensures) ∙ c.if-numbered-eq0.true)
 
 pub minus-requires : goal.minus-requires
 minus-requires c =
-    let s = c in
-    omega (arith, number_small s.args.answer, ap number_of s.numbered-numbered.ensures)
+    omega (arith, number_small c.args.answer, ap number_of c.numbered-numbered.ensures)
 
 pub returns : goal.returns
 returns c =
-    let s = c in
-    to_z-of_z w64 c.minus.result (search rules) ∙ c.minus.ensures ∙ ap (λ (n : ℕ). neg_ℤ (pos n)) (ap number_of s.numbered-numbered.ensures)
-    ∙ refused_count s.args.answer (λ e. c.if-numbered-eq0.false (ap number_of s.numbered-numbered.ensures ∙ e))
+    to_z-of_z w64 c.minus.result (search rules) ∙ c.minus.ensures ∙ ap (λ (n : ℕ). neg_ℤ (pos n)) (ap number_of c.numbered-numbered.ensures)
+    ∙ refused_count c.args.answer (λ e. c.if-numbered-eq0.false (ap number_of c.numbered-numbered.ensures ∙ e))

@@ -7,20 +7,13 @@ use Rattle.windows_reply.proofs.cut_file.Goals as goal
 
 pub listed-requires : goal.listed-requires
 unfolding sheet_in
-listed-requires c =
-    let start = c in
-    let zeros = start.requires.1 in (
-      start.requires.0.few_valuations,
-      (
-        c.cells-1.given ∙ cells_length zeros,
-        c.counts-1.given ∙ counts_length zeros,
-      ),
-    )
+listed-requires c = (
+  c.requires.0.few_valuations,
+  (c.walk-end.auto.cells ∙ cells_length c.requires.1, c.walk-end.auto.counts ∙ counts_length c.requires.1),
+)
 
 pub returns : goal.returns
 unfolding sheet_in
 returns c =
-    let start = c in
-    c.listed.ensures
-    ∙ work_coded (sheet_in start.args.file.now start.args.ix) start.requires.0 _
-    c.walk-end.ensures
+    let a = c.args in
+    c.listed.ensures ∙ work_coded (sheet_in a.file.now a.ix) c.requires.0 _ c.walk-end.ensures

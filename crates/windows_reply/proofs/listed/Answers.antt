@@ -12,9 +12,8 @@ returns-then-end-gt0 c =
 
 pub returns : goal.returns
 returns c =
-    let start = c in
-    let a = start.args in
+    let a = c.args in
     listed_zones a.b a.end a.cells.now a.marks.now a.counts.now c.kept-kept.result
     c.count-all.result c.less.result c.if-end-gt0.false
     (c.kept-kept.ensures ∙ kept_is a.b a.cells.now a.marks.now a.counts.now a.end.count)
-    (all_is a.b a.cells.now c.count-all.result c.count-all.ensures start.requires.0) c.less.ensures
+    (all_is a.b a.cells.now c.count-all.result c.count-all.ensures c.requires.0) c.less.ensures

@@ -1,5 +1,4 @@
 -- `locations::locations_read` meets its contract. The invariant: after i steps the locations are what `iterate` gives. Assumes nothing.
-use Prim.Native.Nat.{◌-◌}
 use mathlib.Core.Path.{◌≡◌, refl}
 use native.Mathlib.Omega.{arith}
 use native.Mathlib.Numerals.{add-one}

@@ -1,7 +1,7 @@
 use Prim.Native.Nat.{◌≤◌, ◌-◌}
 use mathlib.Core.Path.{◌≡◌}
 use Rattle.cursor.specs.Cursor.{iterate}
-use Rattle.automaton.specs.Automaton.{location_step, locations_read}
+use Rattle.automaton.specs.Automaton.{location_step}
 use Rattle.automaton.proofs.locations.locations_read.Given as goal
 
 -- `locations::locations_read` meets its contract. The invariant: after i steps the locations are what `iterate` gives. Assumes nothing.

@@ -1,6 +1,5 @@
 -- `transitions::transitions_read` meets its contract. The invariant: after i steps the transitions are what `iterate` gives. Assumes
 -- nothing.
-use Prim.Native.Nat.{◌-◌}
 use mathlib.Core.Path.{◌≡◌, refl}
 use native.Mathlib.Omega.{arith}
 use native.Mathlib.Numerals.{add-one}

@@ -1,7 +1,7 @@
 use Prim.Native.Nat.{◌≤◌, ◌-◌}
 use mathlib.Core.Path.{◌≡◌}
 use Rattle.cursor.specs.Cursor.{iterate}
-use Rattle.automaton.specs.Automaton.{transition_step, transitions_read}
+use Rattle.automaton.specs.Automaton.{transition_step}
 use Rattle.automaton.proofs.transitions.transitions_read.Given as goal
 
 -- `transitions::transitions_read` meets its contract. The invariant: after i steps the transitions are what `iterate` gives. Assumes

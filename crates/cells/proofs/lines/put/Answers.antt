@@ -1,6 +1,6 @@
 -- The constant, and behind it the coefficients one after another.
 use mathlib.Core.Path.{◌∙◌}
-use Prim.Native.Nat.{◌-◌, ◌*◌}
+use Prim.Native.Nat.{◌*◌}
 use lib.IntN.{pos}
 use mir.Syntax.{w32}
 use mir.ValLaws.{to_z-of_z}

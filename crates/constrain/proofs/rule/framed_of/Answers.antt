@@ -1,5 +1,4 @@
 -- The entries are copied one after another.
-use Prim.Native.Nat.{◌-◌}
 use Rattle.constrain.proofs.Steps.{framing_starts, framing_turn, framing_all}
 use borrow.Author.Rules.{rules}
 use Rattle.constrain.proofs.rule.framed_of.Goals as goal

@@ -1,8 +1,7 @@
 -- The loop's invariant: the places before i hold the ranges with their ends exchanged.
 use mathlib.Core.Path.{◌≡◌, refl}
-use Prim.Native.Nat.{◌-◌}
 use native.Mathlib.Omega.{arith}
-use lib.ListN.{length, length-map}
+use lib.ListN.{length}
 use mir.Syntax.{w16}
 use mir.ValLaws.{to_z-of_z}
 use Rattle.expr.specs.Records.{PARAMETERS, blank_range}

@@ -1,6 +1,5 @@
 -- The loop's invariant: the first from i on is the first from the start on.
 use mathlib.Core.Path.{refl}
-use Prim.Native.Nat.{◌-◌}
 use mir.Syntax.{w16}
 use mir.ValLaws.{to_z-of_z}
 use Rattle.corners.proofs.Lists.{wide_here, wide_next, wide_none}

@@ -1,5 +1,4 @@
 -- One clock after another.
-use mathlib.Core.Path.{◌∙◌}
 use mathlib.Core.List.{List}
 use Rattle.cells.specs.Cells.{cells_in}
 use Rattle.cells.specs.CellLaws.{cells_long}

@@ -1,4 +1,3 @@
-use Prim.Native.Nat.{◌-◌}
 use Rattle.split.specs.Stack.{Turned, drained, load}
 use Rattle.split.proofs.cut.cut_zone.Given as goal
 

@@ -1,6 +1,5 @@
 -- The loop's invariant: what is left of the guards, after the steps so far, comes to all of them.
 use mathlib.Core.Path.{refl, ◌∙◌}
-use Prim.Native.Nat.{◌-◌}
 use native.Mathlib.Omega.{arith}
 use borrow.Author.Rules.{rules}
 use Rattle.steps.proofs.Cases.{size_is, guards_turn, guards_full, guards_done, put_step}

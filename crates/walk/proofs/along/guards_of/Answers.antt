@@ -1,5 +1,4 @@
 -- The loop's invariant: what is left of the guards takes the matrix to where all of them take it.
-use Prim.Native.Nat.{◌-◌}
 use Rattle.expr.specs.Records.{point}
 use Rattle.guards.specs.Guards.{no_guard}
 use Rattle.walk.specs.Walked.{guard_table}

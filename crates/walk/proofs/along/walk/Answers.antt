@@ -1,5 +1,5 @@
 -- The loop's invariant: what is left of the route takes the matrix to where the whole route takes it.
-use Prim.Native.Nat.{ℕ, ◌-◌}
+use Prim.Native.Nat.{ℕ}
 use Rattle.expr.specs.Records.{point}
 use Rattle.sheet.specs.Lookup.{transition_c}
 use Rattle.index.specs.SheetIn.{sheet_in}

@@ -1,6 +1,5 @@
 -- The zone's inequalities are written one after another.
 use mathlib.Core.Path.{◌≡◌, refl, subst, sym}
-use Prim.Native.Nat.{◌-◌}
 use native.Mathlib.Omega.{arith}
 use lib.ListN.{length}
 use Rattle.inequalities.specs.Flat.{exprs_from}

@@ -1,5 +1,4 @@
 -- Each coefficient is the difference of the two, as the constant is.
-use Prim.Native.Nat.{◌-◌}
 use native.Mathlib.Omega.{arith}
 use lib.IntN.{pos}
 use lib.ListN.{get_or}

@@ -1,13 +1,9 @@
 -- The constant turned round less one, and each coefficient turned round.
-use Prim.Native.Nat.{ℕ, ◌-◌}
 use native.Mathlib.Omega.{arith}
-use lib.IntN.{ℤ, pos, negsuc, neg_ℤ, ◌-ℤ◌}
+use lib.IntN.{pos}
 use lib.ListN.{get_or}
-use Rattle.weight.specs.Upper.{saturate}
-use Rattle.saturating.specs.Largest.{LARGEST}
 use Rattle.saturating.specs.Sums.{turned_stored, negated_stored}
 use Rattle.expr.specs.Affine.{opposite, saturated_e}
-use Rattle.expr.specs.declared.number.Expr.{Expr}
 use Rattle.expr.proofs.Records.{expr_start, expr_turn, expr_all}
 use borrow.Author.Rules.{rules}
 use Rattle.expr.proofs.number.Expr.opposite.Goals as goal
