@@ -1,6 +1,6 @@
 /* Sweep: does a run follow the route of a sheet with its parameters at given numbers?
  *
- * Link with libsweep_c.a (`tools/prove lib sweep_c` writes target/staticlib/libsweep_c.a); it needs only memcpy and memmove.
+ * Link with libsweep_c.a (`tools/prove lib sweep_c` writes target/staticlib/libsweep_c.a); it needs only memcpy, memmove and memset.
  */
 #ifndef SWEEP_H
 #define SWEEP_H

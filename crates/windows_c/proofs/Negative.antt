@@ -1,7 +1,7 @@
 -- Minus a small number, at 64 bits.
 -- Assumes nothing.
 use mathlib.Core.Path.{◌≡◌, refl, ap, ◌∙◌}
-use mathlib.Core.Bool.{Bool, true, cond}
+use mathlib.Core.Bool.{Bool, true, false, cond}
 use Prim.Native.Nat.{ℕ, zero, suc, ◌-◌, ◌≤◌}
 use native.Mathlib.Omega.{arith}
 use lib.Dec.{T, ltb, lt→ltb}
@@ -12,6 +12,7 @@ use mir.ValLaws.{to_z_pos, to_z-of_z}
 
 chosen : (c : Bool) (x y : ℤ) → T c → cond c x y ≡ x
 chosen true x y t = refl
+chosen false x y t = elim t [ ]
 
 from_zero : (x : ℕ) → pos 0 -ℤ pos x ≡ neg_ℤ (pos x)
 from_zero zero = refl
