@@ -1,21 +1,27 @@
 // What the programs share: reading a stored length and what it counts, a number's magnitude, and digests of results, which start at 0.
 #![tactic(auto)]
 
-ghost use Rattle.std.specs.Prelude.{◌+◌, ◌*◌, ◌<◌, ◌≤◌, ◌≡◌, IfOk, length, nat_abs};
+ghost use Rattle.std.specs.Prelude.{ℕ, ◌+◌, ◌*◌, ◌<◌, ◌≤◌, ◌≡◌, IfOk, OnErr, length, take, nat_abs};
+ghost use Rattle.std.specs.Io.KnownBytes.{Consumes, IsAtEnd};
 ghost use Rattle.stored.specs.Digest.{with_number, with_signed};
 
 use std::io;
 use std::io::Read;
 
-// Reads until buf is full or the input ends, and answers how many bytes it put at the start of buf.
+// Reads until buf is full or the input ends, and answers how many bytes it put at the start of buf: the input's next bytes, in order, and
+// all that it had where buf is not full. Where a read fails, what was read until then is at the start of buf, and no byte is lost.
 pub fn read_full<R: Read>(input: &mut R, buf: &mut [u8]) -> io::Result<usize>
-    ensures { IfOk result (λ n. n ≤ length buf.new) }
+    ensures fits { IfOk result (λ n. n ≤ length buf.new) }
+    ensures bytes { IfOk result (λ n. Consumes (R.remaining input.old) (R.remaining input.new) (take n buf.new)) }
+    ensures end { IfOk result (λ n. n < length buf.new → IsAtEnd (R.remaining input.new)) }
+    ensures none_lost { OnErr result ((n : ℕ) × (n ≤ length buf.new)
+        × Consumes (R.remaining input.old) (R.remaining input.new) (take n buf.new)) }
 {
     let mut done = 0;
     while done < buf.len() {
         let n = input.read(&mut buf[done..])?;
         if n == 0 {
-            break;
+            return Ok(done);
         }
         done += n;
     }
