@@ -1,14 +1,16 @@
 -- The number and the place of each answer (paper 01, "When no piece is given"). The calls' promises and all statements speak through these.
-use Rattle.std.specs.Prelude.{ℕ}
+use Rattle.std.specs.Prelude.{ℕ, ⊤}
+use Rattle.std.specs.declared.result.Result.{Result}
+use Rattle.std.specs.declared.result.Result.TheVariants.{Ok, Err}
 use Rattle.answers.specs.declared.Numbered.{Numbered}
-use Rattle.answers.specs.declared.file.Checked.{Checked}
-use Rattle.answers.specs.declared.file.Checked.TheVariants as checked
 use Rattle.answers.specs.declared.file.Refusal.{Refusal}
 use Rattle.answers.specs.declared.file.Refusal.TheVariants.{Size, Contents, Body, Valuations, Route}
-use Rattle.answers.specs.declared.sweep.Answer.{Answer as SweepAnswer}
-use Rattle.answers.specs.declared.sweep.Answer.TheVariants as sweep
-use Rattle.answers.specs.declared.windows.Answer.{Answer as WindowsAnswer}
-use Rattle.answers.specs.declared.windows.Answer.TheVariants as windows
+use Rattle.answers.specs.declared.sweep.Found.{Found}
+use Rattle.answers.specs.declared.sweep.Found.TheVariants.{Run, Void}
+use Rattle.answers.specs.declared.sweep.Refused.{Refused as SweepRefused}
+use Rattle.answers.specs.declared.sweep.Refused.TheVariants as sweep
+use Rattle.answers.specs.declared.windows.Refused.{Refused as WindowsRefused}
+use Rattle.answers.specs.declared.windows.Refused.TheVariants as windows
 use Rattle.answers.specs.declared.windows.Counts.{Counts}
 
 -- a number of the paper and a place
@@ -25,33 +27,38 @@ refusal_as Valuations = numbered 16 0
 refusal_as (Route at) = numbered 5 at
 
 -- a file that is fine has 0, place 0
-abbrev pub checked_as : Checked → Numbered
-checked_as checked.Fine = numbered 0 0
-checked_as (checked.Refused r) = refusal_as r
+abbrev pub checked_as : Result ⊤ Refusal → Numbered
+checked_as (Ok u) = numbered 0 0
+checked_as (Err r) = refusal_as r
 
--- Sweep: 0 a run, 1 void, else the refusal; 6 has the index of the parameter, the first being 0
-abbrev pub sweep_as : SweepAnswer → Numbered
-sweep_as sweep.Run = numbered 0 0
-sweep_as sweep.Void = numbered 1 0
-sweep_as (sweep.Refused r) = refusal_as r
-sweep_as (sweep.Outside k) = numbered 6 k
+-- why Sweep tells nothing: 6 has the index of the parameter, the first being 0
+abbrev pub refused_as : SweepRefused → Numbered
+refused_as (sweep.File r) = refusal_as r
+refused_as (sweep.Outside k) = numbered 6 k
 
--- Windows: 0 where the zones are listed, else the refusal; 7 and 8 have the visit (moves made). 9 (paper 01: a number leaves its range) is
--- met by no sheet (paper 02, request (n): crate sizes), and its number is not used again
-abbrev pub windows_as : WindowsAnswer → Numbered
-windows_as (windows.Listed c) = numbered 0 0
-windows_as windows.Small = numbered 1 0
-windows_as (windows.Refused r) = refusal_as r
-windows_as (windows.Zones visit) = numbered 7 visit
-windows_as (windows.Inequalities visit) = numbered 8 visit
+-- Sweep: 0 a run, 1 void, else the refusal
+abbrev pub sweep_as : Result Found SweepRefused → Numbered
+sweep_as (Ok Run) = numbered 0 0
+sweep_as (Ok Void) = numbered 1 0
+sweep_as (Err r) = refused_as r
+
+-- why Windows lists no zones: 7 and 8 have the visit (moves made). 9 (paper 01: a number leaves its range) is met by no sheet (paper 02,
+-- request (n): crate sizes), and its number is not used again
+abbrev pub cut_refused_as : WindowsRefused → Numbered
+cut_refused_as windows.Small = numbered 1 0
+cut_refused_as (windows.File r) = refusal_as r
+cut_refused_as (windows.Zones visit) = numbered 7 visit
+cut_refused_as (windows.Inequalities visit) = numbered 8 visit
+
+-- Windows: 0 where the zones are listed, else the refusal
+abbrev pub windows_as : Result Counts WindowsRefused → Numbered
+windows_as (Ok c) = numbered 0 0
+windows_as (Err r) = cut_refused_as r
 
 abbrev pub no_counts : Counts
 no_counts = record { pieces = 0; kept = 0; cut = 0 }
 
 -- how many pieces, and the valuations kept and cut; zeros with a refusal
-abbrev pub counts_of : WindowsAnswer → Counts
-counts_of (windows.Listed c) = c
-counts_of windows.Small = no_counts
-counts_of (windows.Refused r) = no_counts
-counts_of (windows.Zones visit) = no_counts
-counts_of (windows.Inequalities visit) = no_counts
+abbrev pub counts_of : Result Counts WindowsRefused → Counts
+counts_of (Ok c) = c
+counts_of (Err r) = no_counts

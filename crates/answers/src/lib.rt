@@ -6,7 +6,7 @@ pub mod sweep;
 pub mod windows;
 
 // A number of the paper and a place.
-#[derive(Clone, Copy)]
+#[derive(Clone, Copy, PartialEq, Eq)]
 pub struct Numbered {
     pub number: usize,
     pub place: usize,

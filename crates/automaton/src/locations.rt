@@ -30,8 +30,7 @@ fn location_step(
     if i < (all.count as usize) {
         let read = guards_at(file, end, most, parameters, all.clocks, all.cursor);
         let mut next = all;
-        let cursor = read.cursor;
-        next.cursor = cursor;
+        next.cursor = read.cursor;
         let guards = read.guards;
         next.list[i] = Location {
             count: read.count,
@@ -55,10 +54,8 @@ fn locations_read(file: &[u8], end: usize, most: u8, parameters: u8, cursor: Cur
         count: count.byte,
         list: [Location::BLANK; 16],
     };
-    let mut i: usize = 0;
-    while i < 16 {
+    for i in 0..16 {
         all = location_step(file, end, most, parameters, i, all);
-        i += 1;
     }
     all
 }

@@ -63,10 +63,9 @@ pub fn transition_at(
     let to = below_field(file, end, locations, from);
     let resets = resets_field(file, end, clocks, to);
     let read = guards_at(file, end, most, parameters, clocks, resets);
-    let after = read.cursor;
     let guards = read.guards;
     TransitionAt {
-        cursor: after,
+        cursor: read.cursor,
         transition: Transition {
             from: from.byte as usize,
             to: to.byte as usize,
@@ -94,10 +93,8 @@ fn transition_step(
     if i < (all.count as usize) {
         let read = transition_at(file, end, most, parameters, clocks, locations, all.cursor);
         let mut next = all;
-        let cursor = read.cursor;
-        next.cursor = cursor;
-        let transition = read.transition;
-        next.list[i] = transition;
+        next.cursor = read.cursor;
+        next.list[i] = read.transition;
         next
     } else {
         all
@@ -122,10 +119,8 @@ fn transitions_read(
         count: count.byte,
         list: [Transition::BLANK; 32],
     };
-    let mut i: usize = 0;
-    while i < 32 {
+    for i in 0..32 {
         all = transition_step(file, end, most, parameters, clocks, locations, i, all);
-        i += 1;
     }
     all
 }

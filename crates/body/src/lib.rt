@@ -1,6 +1,7 @@
 // The part of a sheet file that is a body (paper 01, "The sheet file": "the body handed out for a kind").
 //
-// Every function is total, and its contract is an equation with a definition of specs/Body.
+// Every function is total, and its contract is an equation with a definition of specs/Body. A kind is no enum: a caller may give any byte,
+// and another than 1 to 4 is refused (`body_refusal`).
 #![tactic(auto)]
 
 mod parts;
@@ -9,7 +10,7 @@ ghost use Rattle.std.specs.Prelude.{◌≡◌};
 ghost use Rattle.answers.specs.Numbers.{checked_as};
 ghost use Rattle.body.specs.Body.{body_of, body_refusal};
 
-use answers::file::{Checked, Refusal};
+use answers::file::Refusal;
 use contents::entries;
 
 // The part of the file that is the body of this kind; an empty part where `body_refusal` refuses.
@@ -24,24 +25,22 @@ pub fn body(file: &[u8], kind: u8) -> &[u8]
 }
 
 // Why `body` hands out an empty part: the file's refusal 2 or 3, else 3, place 0, for a kind other
-// than 1, 2, 3 and 4; Fine for a body.
-pub fn body_refusal(file: &[u8], kind: u8) -> Checked
+// than 1, 2, 3 and 4.
+#[tactic(auto, unfolding(crate::specs::Body::body_refusal))]
+pub fn body_refusal(file: &[u8], kind: u8) -> Result<(), Refusal>
     ensures { checked_as result ≡ body_refusal file.now kind }
 {
+    if !entries::sized(file) {
+        return Err(Refusal::Size);
+    }
     let contents = entries::contents_of(file);
     let cursor = contents.cursor;
-    let sized = entries::sized(file);
-    if sized {
-        if cursor.ok {
-            if parts::is_kind(kind) {
-                Checked::Fine
-            } else {
-                Checked::Refused(Refusal::Contents(0))
-            }
-        } else {
-            Checked::Refused(Refusal::Contents(cursor.at))
-        }
+    if !cursor.ok {
+        return Err(Refusal::Contents(cursor.at));
+    }
+    if parts::is_kind(kind) {
+        Ok(())
     } else {
-        Checked::Refused(Refusal::Size)
+        Err(Refusal::Contents(0))
     }
 }

@@ -1,4 +1,4 @@
-// The part of a file that is the body of a kind.
+// The part of a file that is the body of a kind, which may be any byte here too.
 ghost use Rattle.std.specs.Prelude.{◌≡◌, [], ◌-◌, take, drop, cond, ◌&&◌};
 ghost use Rattle.body.specs.Body.{is_kind, start_of, end_of};
 ghost use Rattle.contents.specs.Contents.{sized};
@@ -7,39 +7,36 @@ use contents::Contents;
 use contents::entries::sized;
 
 // Whether a kind is 1, 2, 3 or 4.
+#[tactic(auto, unfolding(crate::specs::Body::is_kind))]
 pub fn is_kind(kind: u8) -> bool
     ensures { result ≡ is_kind kind }
 {
-    1 <= kind && kind <= 4
+    (1..=4).contains(&kind)
 }
 
 // Where the body of a kind starts.
+#[tactic(auto, unfolding(crate::specs::Body::start_of))]
 pub fn start_of(contents: Contents, kind: u8) -> usize
     ensures { result ≡ start_of contents kind }
 {
-    if kind == 1 {
-        22
-    } else if kind == 2 {
-        contents.first as usize
-    } else if kind == 3 {
-        contents.second as usize
-    } else {
-        contents.third as usize
+    match kind {
+        1 => 22,
+        2 => contents.first as usize,
+        3 => contents.second as usize,
+        _ => contents.third as usize,
     }
 }
 
 // Where the body of a kind ends.
+#[tactic(auto, unfolding(crate::specs::Body::end_of))]
 pub fn end_of(file: &[u8], contents: Contents, kind: u8) -> usize
     ensures { result ≡ end_of file.now contents kind }
 {
-    if kind == 1 {
-        contents.first as usize
-    } else if kind == 2 {
-        contents.second as usize
-    } else if kind == 3 {
-        contents.third as usize
-    } else {
-        file.len()
+    match kind {
+        1 => contents.first as usize,
+        2 => contents.second as usize,
+        3 => contents.third as usize,
+        _ => file.len(),
     }
 }
 
@@ -55,17 +52,9 @@ pub fn has_body(file: &[u8], contents: Contents, kind: u8) -> bool
 pub fn part(file: &[u8], ok: bool, start: usize, end: usize) -> &[u8]
     ensures { result.now ≡ cond ok (take (end - start) (drop start file.now)) [] }
 {
-    if ok {
-        if start <= file.len() {
-            if end <= file.len() {
-                if start <= end {
-                    return &file[start..end];
-                }
-                return &file[0..0];
-            }
-            return &file[start..];
-        }
-        return &file[0..0];
+    if !ok {
+        return &file[..0];
     }
-    &file[0..0]
+    let first = start.min(file.len());
+    &file[first..end.clamp(first, file.len())]
 }

@@ -3,11 +3,12 @@ use Rattle.std.specs.Prelude.{◌≡◌, refl, Bool, true, false, ◌≢◌, ltb
 use Rattle.std.proofs.Common.{sym, subst, ◌∙◌, add-one, eqb-true, ltb-true, ltb-false, lt-ltb, le-ltb, length-set, length-drop}
 use Rattle.std.proofs.Common.{get_or-set_same, get_or-set_other, get_or-drop, ext_get_or, take_all}
 use Rattle.std.proofs.Math.Path.{ap}
-use mathlib.Core.List.{List, [], ◌∷◌, map}
+use mathlib.Core.List.{List, [], ◌∷◌, ◌++◌, map}
 use Prim.Native.Nat.{ℕ, zero, suc, ◌+◌, ◌-◌, ◌*◌, ◌%◌, ◌≤◌, ◌<◌, min}
 use native.Mathlib.Omega.{arith}
 use Rattle.std.proofs.lemmas.Bool.{eqb-false}
-use Rattle.std.proofs.Math.ListN.{get_or, drop}
+use Rattle.std.proofs.lemmas.List.{get_or-take, length-take}
+use Rattle.std.proofs.Math.ListN.{get_or, drop, get_or-append}
 use Rattle.expr.specs.Records.{PARAMETERS, places_from, four, affine, expr_of, no_expr, no_bound, zero_bound}
 use Rattle.expr.specs.RecordLaws.{places_same}
 use Rattle.constrain.specs.RuleLaws.{read_c}
@@ -16,8 +17,8 @@ use Rattle.expr.specs.Affine.{Affine}
 use Rattle.expr.specs.declared.bound.Bound.{Bound}
 use Rattle.expr.specs.declared.number.Expr.{Expr}
 use Rattle.inequalities.specs.Flat.{expr_at, exprs_from}
-use Rattle.zones.specs.Put.{put_before, put_after, put_in_lem}
-use Rattle.zones.specs.System.{put_from}
+use Rattle.inequalities.specs.Put.{put_before, put_after, put_there}
+use Rattle.inequalities.specs.Flat.{put_from}
 use Rattle.cells.specs.Cells.{Cell, no_cell, row_at, rows_from, bound_on, bounds_from, cell_at, cells_from, cells_in, PLACES}
 use Rattle.cells.specs.Cells.{with_matrix, with_ineq, put_bound, put_ineq, mark_by, mark_of}
 use Rattle.cells.specs.Copies.{Copying}
@@ -294,7 +295,7 @@ module _ (l : List ℤ) (r : ℕ) (e : Expr) where
   written_here : 5 * r + 5 ≤ length l → length e.coefs ≡ PARAMETERS → row_at written r ≡ e
   unfolding row_at expr_at
   written_here h long =
-      let back = put_in_lem (e.constant ∷ four e.coefs) l (5 * r) h in
+      let back = put_there (e.constant ∷ four e.coefs) l (5 * r) h in
       let one : suc (5 * r) ≡ 5 * r + 1 = omega arith in
       ap (λ (s : ℕ). expr_of (record { constant = get_or written (5 * r) (pos 0); coefs = places_from (pos 0) written s 4 })) (sym one)
       ∙ ap (λ (xs : List ℤ). expr_of (record { constant = get_or xs 0 (pos 0); coefs = drop 1 xs })) back
@@ -441,12 +442,6 @@ written_bound l m p k b x hp hk long marks four hx =
 
 -- ---- one after another
 -- a row is written whole
-pub put_whole : (l : List ℤ) (r : ℕ) (e : Expr) (x : ℤ) (k : List ℤ) → x ≡ e.constant
-    → k ≡ put_from (set l (5 * r) x) (5 * r + 1) (four e.coefs) → k ≡ written l r e
-unfolding put_from
-put_whole l r e x k h g = g ∙ rw (h, add-one (5 * r)) refl
-
--- numbers of a list read into another
 pub bound_is : (l : List ℤ) (m : List ℕ) (p k : ℕ) (e : Expr) (x : ℕ) → length e.coefs ≡ PARAMETERS
     → affine e ≡ expr_at l (50 * p + 25 + k) → x ≡ get_or m (25 * p + k) 0
     → record { none = ltb 1 x; strict = eqb (x % 2) 1; expr = e } ≡ bound_on l m (50 * p + 25 + k) (25 * p + k)
@@ -454,23 +449,12 @@ unfolding bound_on
 bound_is l m p k e x four he hx =
     λ i. record { none = ltb 1 (hx i); strict = eqb (hx i % 2) 1; expr = row_is l (50 * p + 25 + k) e four he i }
 
-pub record Filling (l : List ℤ) (at n i : ℕ) (now : List ℤ) : Type 0 where
-  pub long : length now ≡ 125
-  pub few : i ≤ n
-  pub same : (j : ℕ) → j < i → get_or now j (pos 0) ≡ get_or l (at + j) (pos 0)
-
-pub filling_turn : (l : List ℤ) (at n i : ℕ) (now : List ℤ) (x : ℤ) → Filling l at n i now → i < n → n ≤ 125
-    → x ≡ get_or l (at + i) (pos 0) → Filling l at n (i + 1) (set now i x)
-filling_turn l at n i now x f h most e =
-    record { long = length-set now i x ∙ f.long; few = omega arith; same = λ j g. by j g (eqb j i) refl }
-  where
-    less : (j : ℕ) → j < i + 1 → (j ≡ i → ⊥) → j < i
-    less j g o = omega (arith, o)
-
-    by : (j : ℕ) → j < i + 1 → (t : Bool) → eqb j i ≡ t → get_or (set now i x) j (pos 0) ≡ get_or l (at + j) (pos 0)
-    by j g true s =
-        let same = eqb-true j i s in
-        rw same (get_or-set_same now i x (pos 0) (omega (arith, f.long)) ∙ e)
-    by j g false s =
-        let o = eqb-false j i s in
-        get_or-set_other now i j x (pos 0) o ∙ f.same j (less j g o)
+-- n numbers of a list copied to the start of another
+pub copied_part : (l xs rest : List ℤ) (at n m : ℕ) → xs ≡ take m (drop at l) → m ≡ n → at + n ≤ length l
+    → (i : ℕ) → i < n → get_or (xs ++ rest) i (pos 0) ≡ get_or l (at + i) (pos 0)
+copied_part l xs rest at n m e f room i h =
+    let few : length xs ≡ n = ap length e ∙ length-take m (drop at l) ∙ omega (arith, length-drop at l) in
+    get_or-append xs rest (pos 0) i (omega arith)
+    ∙ ap (λ (k : List ℤ). get_or k i (pos 0)) e
+    ∙ get_or-take m (drop at l) i (pos 0) (omega arith)
+    ∙ get_or-drop at l i (pos 0)

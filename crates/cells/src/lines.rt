@@ -1,11 +1,10 @@
 // Rows: inequalities of a place.
 ghost use Rattle.std.specs.Prelude.{◌≡◌, ◌∷◌, map, ◌+◌, ◌*◌, ◌<◌, ◌≤◌, length, get_or, take};
 ghost use Rattle.expr.specs.Records.{four, affine};
-ghost use Rattle.inequalities.specs.Flat.{exprs_in};
-ghost use Rattle.zones.specs.System.{put_from};
+ghost use Rattle.inequalities.specs.Flat.{exprs_in, put_from};
 ghost use Rattle.cells.specs.Cells.{cells_in, no_cell, put_ineq};
 
-use expr::{Expr, PARAMETERS};
+use expr::Expr;
 
 // The first inequalities of a place in a list of their own, with room for one more.
 #[derive(Clone, Copy)]
@@ -18,15 +17,7 @@ pub(crate) fn put(cells: &mut [i32], r: usize, e: Expr)
     requires { 5 * r + 5 ≤ length cells.old }
     ensures { cells.new ≡ put_from cells.old (5 * r) (e.constant ∷ four e.coefs) }
 {
-    let at = 5 * r;
-    let constant = e.constant;
-    cells[at] = constant;
-    let mut i = 0;
-    while i < PARAMETERS {
-        let x = e.coefs[i];
-        cells[at + 1 + i] = x;
-        i += 1;
-    }
+    inequalities::put(cells, 5 * r, e);
 }
 
 // Writes e as inequality k of place p.
@@ -47,11 +38,6 @@ pub fn rows_at(cells: &[i32], marks: &[u8], p: usize, n: usize) -> Rows
     let mut numbers = [0i32; 125];
     let m = 5 * n;
     let at = 250 * p;
-    let mut i = 0;
-    while i < m {
-        let x = cells[at + i];
-        numbers[i] = x;
-        i += 1;
-    }
+    numbers[..m].copy_from_slice(&cells[at..at + m]);
     Rows { numbers }
 }

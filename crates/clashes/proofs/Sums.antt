@@ -5,14 +5,13 @@ use mathlib.Core.List.{List}
 use Prim.Native.Nat.{ℕ, suc, ◌+◌, ◌-◌, ◌≤◌, ◌<◌}
 use native.Mathlib.Numerals.{add-one}
 use native.Mathlib.Omega.{arith}
-use lib.IntN.{ℤ, pos, ◌+ℤ◌, ◌-ℤ◌, ◌*ℤ◌}
+use lib.IntN.{ℤ, pos, ◌+ℤ◌, ◌*ℤ◌}
 use lib.ListN.{length, get_or, drop}
 use lib.Seq.{drop-cons}
 use lib.Signed.{le_z, lt_z, ◌≤ℤ◌, ≤ℤ_refl}
 use mir.Syntax.{w16, w32, w64}
 use mir.Val.{SFits, to_z, of_z}
 use mir.ValLaws.{to_z-of_z}
-use Rattle.integer.specs.Apart.{apart}
 use Rattle.integer.specs.Order.{zts, lt_z_true, lt_z_false}
 use Rattle.integer.specs.Parts.{nonneg_part, pos_parts}
 use Rattle.integer.specs.Product.{fits_size, size_fits, sum_size, product_size}
@@ -40,9 +39,6 @@ multiplier_fits l h = size_fits w64 l (omega (arith, h.1))
 -- a local that holds one
 pub multiplier_held : (l : ℤ) → Multiplier l → Multiplier (to_z w64 (of_z w64 l))
 multiplier_held l h = rw (to_z-of_z w64 l (multiplier_fits l h)) h
-
-pub negated_fits : (y : ℤ) → SFits w32 y → SFits w64 (pos 0 -ℤ y)
-negated_fits y = rw (split y) (simp split-all (omega arith))
 
 -- ---- a multiplier times a number
 pub times_size : (l x : ℤ) → Multiplier l → SFits w32 x → SizedTerm (l *ℤ x)
@@ -153,7 +149,3 @@ pub seen : (l m x : ℤ) (e f : Expr) (rs : List Range) → Multiplier l → Mul
 seen l m x e f rs h k q z t =
     let s = sum_fits 4 x (omega arith) z in
     weigh_clash l m e f rs h.0 k.0 (lt_z_true (rw (to_z-of_z w64 x s, q) at t))
-
--- where the answer is no, nothing is promised
-pub unseen : {A : Type 0} → false ≡ true → A
-unseen e = apart cc

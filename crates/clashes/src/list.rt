@@ -11,13 +11,12 @@ use expr::Ranges;
 pub fn clashes(b: Ranges, flat: &[i32], n: usize) -> bool
     ensures { result ≡ true → first b.list (exprs_in flat.now n) ≡ none }
 {
-    let last = inequalities::inequality(flat, numbers::less(n, 1));
-    let mut k = 1;
-    while k < n {
-        if clash(b, inequalities::inequality(flat, k - 1), last) {
+    let earlier = n.saturating_sub(1);
+    let last = inequalities::inequality(flat, earlier);
+    for k in 0..earlier {
+        if clash(b, inequalities::inequality(flat, k), last) {
             return true;
         }
-        k += 1;
     }
     false
 }

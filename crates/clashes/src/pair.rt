@@ -26,10 +26,10 @@ fn multiplier(x: i32, y: i32) -> i64
     ensures { Multiplier result }
 {
     if x < 0 {
-        return bounded(numbers::wide(y));
+        return bounded(i64::from(y));
     }
     if 0 < x {
-        return bounded(0 - numbers::wide(y));
+        return bounded(-i64::from(y));
     }
     0
 }
@@ -57,12 +57,5 @@ pub fn clash(b: Ranges, e: Expr, f: Expr) -> bool
     if mixed(b, 1, e, 1, f) < 0 {
         return true;
     }
-    let mut j = 0;
-    while j < PARAMETERS {
-        if without(b, e, f, e.coefs[j], f.coefs[j]) {
-            return true;
-        }
-        j += 1;
-    }
-    false
+    (0..PARAMETERS).any(|j| without(b, e, f, e.coefs[j], f.coefs[j]))
 }

@@ -13,7 +13,7 @@ fn times(l: i64, x: i32) -> i64
     ensures value { result ≡ l *ℤ x }
     ensures small { SizedTerm result }
 {
-    l * numbers::wide(x)
+    l * i64::from(x)
 }
 
 // l·x + m·y.
@@ -25,16 +25,17 @@ fn weighed(l: i64, x: i32, m: i64, y: i32) -> i64
     times(l, x) + times(m, y)
 }
 
-// The most that coefficient a times a number of r can be.
+// The most that coefficient a times a number of r can be. (That of narrowing is of coefficients of 32 bits, and has other bounds, which
+// one function of both would have to take and give: no plainer.)
 fn most(a: i64, r: Range) -> i64
     requires { SizedCoef a }
     ensures value { result ≡ best a r }
     ensures small { SizedMost result }
 {
     if 0 <= a {
-        return a * numbers::wide16(r.high);
+        return a * i64::from(r.high);
     }
-    a * numbers::wide16(r.low)
+    a * i64::from(r.low)
 }
 
 // The most that l·e + m·f can be in the box.
@@ -44,12 +45,9 @@ pub(crate) fn mixed(b: Ranges, l: i64, e: Expr, m: i64, f: Expr) -> i64
     ensures small { SizedSum 4 result }
 {
     let mut sum = weighed(l, e.constant, m, f.constant);
-    let mut i = 0;
-    while i < PARAMETERS {
+    for i in 0..PARAMETERS {
         let a = weighed(l, e.coefs[i], m, f.coefs[i]);
-        let r = b.list[i];
-        sum += most(a, r);
-        i += 1;
+        sum += most(a, b.list[i]);
     }
     sum
 }

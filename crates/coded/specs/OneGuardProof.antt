@@ -9,9 +9,8 @@ use Rattle.cutting.specs.Ways.{Way, Outcome, leads, refuses, guard_ways}
 use Rattle.cutting.specs.Ceiling.{CEILING}
 use Rattle.cutting.proofs.CeilingProof.{ceiling_holds}
 use Rattle.expr.specs.declared.bound.Bound.{Bound}
-use Rattle.expr.specs.declared.bound.Asked.{Asked}
-use Rattle.expr.specs.declared.bound.Asked.TheVariants.{Yes, No, Ask}
 use Rattle.expr.specs.declared.bound.Test.{Test}
+use Rattle.expr.specs.declared.bound.Test.TheVariants.{Yes, No, Ask}
 use Rattle.expr.specs.declared.number.Expr.{Expr}
 use Rattle.expr.specs.declared.range.Ranges.{Ranges}
 use Rattle.guards.specs.Right.{GuardRight}
@@ -25,7 +24,7 @@ use Rattle.timed.specs.Steps.{steps_of}
 use Rattle.constrain.specs.Rules.{void_test, tight_test, push_test}
 use Rattle.constrain.specs.declared.rule.Rule.{Rule}
 use Rattle.split.specs.Guarded.{rule_c, cut_c, one_c}
-use Rattle.split.specs.Trees.{TreeC, cut_t, keep_t, ask_t, tested_by, tested_c, push_c, tight_c, tree_at, worked_c}
+use Rattle.split.specs.Trees.{TreeC, cut_t, keep_t, ask_t, tested_c, push_c, tight_c, tree_at, worked_c}
 use Rattle.split.specs.Listed.{nothing_at, none_at, refused_c, list_c}
 use Rattle.split.specs.declared.list.Counted.{Counted}
 use Rattle.zones.specs.Settled.{opposite_c, never_c}
@@ -75,14 +74,11 @@ within_more cut_t n h = tt
 within_more (keep_t m) n h = tt
 within_more (ask_t e f) n h = (n, refl, λ b. subst (Within (f b)) (sym h.1) (within_more (f b) h.0 (h.2 b)))
 
-tested_by_lem : (a : Asked) (e : Expr) (f : Bool → TreeC) (n : ℕ) → ((b : Bool) → Within (f b) n) → Within (tested_by a e f) (suc n)
-tested_by_lem Yes e f n h = within_more (f true) n (h true)
-tested_by_lem No e f n h = within_more (f false) n (h false)
-tested_by_lem Ask e f n h = (n, refl, h)
-
 tested_within : (t : Test) (f : Bool → TreeC) (n : ℕ) → ((b : Bool) → Within (f b) n) → Within (tested_c t f) (suc n)
 unfolding tested_c
-tested_within t f n h = tested_by_lem t.asked t.expr f n h
+tested_within Yes f n h = within_more (f true) n (h true)
+tested_within No f n h = within_more (f false) n (h false)
+tested_within (Ask e) f n h = (n, refl, h)
 
 push_within : (r : Rule) (k x : ℕ) (new : List Bound) → Within (push_c r k x new) k
 unfolding push_c

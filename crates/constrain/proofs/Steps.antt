@@ -1,16 +1,13 @@
 -- The cases of the code's steps, with the branches' tests.
-use mathlib.Core.Path.{◌≡◌, refl, sym, ap, ◌∙◌}
-use mathlib.Core.Bool.{Bool, true, false}
-use mathlib.Core.List.{List, [], ◌∷◌, ◌++◌}
-use Prim.Native.Nat.{ℕ, zero, suc, ◌+◌, ◌-◌, ◌/◌, ◌%◌, ◌≤◌, ◌<◌, min}
+use mathlib.Core.Path.{◌≡◌, refl, ap, ◌∙◌}
+use mathlib.Core.Bool.{true, false}
+use Prim.Native.Nat.{ℕ, zero, suc, ◌-◌, ◌/◌, ◌%◌, ◌≤◌, ◌<◌, min}
 use native.Mathlib.Omega.{arith}
-use borrow.Author.Tests.{lt-ltb, le-ltb, ltb-true, ltb-false, eqb-true, eqb-false}
-use lib.Dec.{ltb, eqb}
-use lib.ListN.{length, get_or, set, replicate, length-set, length-append, get_or-append}
-use lib.Seq.{get_or-set_same, get_or-set_other, get_or_at, ext_get_or}
+use borrow.Author.Tests.{lt-ltb, le-ltb}
+use lib.Dec.{ltb}
 use Rattle.expr.specs.declared.bound.Bound.{Bound}
-use Rattle.expr.specs.Records.{no_bound, none_bound, zero_bound}
-use Rattle.constrain.specs.Rules.{sum_c, place_c, places_at, framed_c, inside_c, via_at, outside_c}
+use Rattle.expr.specs.Records.{none_bound, zero_bound}
+use Rattle.constrain.specs.Rules.{sum_c, place_c, places_at, inside_c, via_at, outside_c}
 
 pub inside_in : (x : ℕ) (b : Bound) → x < 25 → b ≡ inside_c x b
 unfolding inside_c
@@ -78,57 +75,6 @@ module _ (w : ℕ) (e f l : Bound) where
 
     pub via_third : (k - 2) / 5 ≤ w → (k - 2) % 5 ≤ w → (s t : Bound) → s ≡ sum_c f e → t ≡ sum_c s l → t ≡ via_at w k e f l
     via_third g m s t q p = p ∙ ap (λ (x : Bound). sum_c x l) q ∙ via_in (k - 2) g m ∙ back
-
--- ---- a matrix with a place behind it: the first i entries are there
-pub record Framing (old : List Bound) (i : ℕ) (all : List Bound) : Type 0 where
-  pub few : i ≤ 25
-  pub old_long : length old ≡ 25
-  pub long : length all ≡ 26
-  pub there : (x : ℕ) → x < i → get_or all x no_bound ≡ get_or old x no_bound
-  pub behind : get_or all 25 no_bound ≡ zero_bound
-
-pub framing_starts : (old : List Bound) → length old ≡ 25 → Framing old 0 (replicate 26 zero_bound)
-framing_starts old h =
-    record { few = omega arith; old_long = h; long = refl; there = λ x g. absurd (omega arith); behind = refl }
-
-pub framing_turn : (old all : List Bound) (i : ℕ) → Framing old i all → i < 25 → Framing old (i + 1) (set all i (get_or old i no_bound))
-framing_turn old all i f h =
-    record {
-      few = omega arith;
-      old_long = f.old_long;
-      long = length-set all i (get_or old i no_bound) ∙ f.long;
-      there = λ x g. by x g (eqb x i) refl;
-      behind = get_or-set_other all i 25 (get_or old i no_bound) no_bound (λ e. omega arith) ∙ f.behind;
-    }
-  where
-    by : (x : ℕ) → x < i + 1 → (t : Bool) → eqb x i ≡ t → get_or (set all i (get_or old i no_bound)) x no_bound ≡ get_or old x no_bound
-    by x g true s =
-        let same = eqb-true x i s in
-        rw same (get_or-set_same all i (get_or old i no_bound) no_bound (omega (arith, f.long)))
-    by x g false s =
-        let other = eqb-false x i s in
-        get_or-set_other all i x (get_or old i no_bound) no_bound other ∙ f.there x (less x i g other)
-      where
-        less : (x i : ℕ) → x < i + 1 → (x ≡ i → ⊥) → x < i
-        less x i g o = omega (arith, o)
-
-pub framing_all : (old all : List Bound) (i : ℕ) → Framing old i all → 25 ≤ i → all ≡ framed_c old
-unfolding framed_c
-framing_all old all i f h =
-    ext_get_or no_bound all (old ++ (zero_bound ∷ [])) (f.long ∙ sym both) (λ x g. by x (omega (arith, f.long)) (ltb x 25) refl)
-  where
-    both : length (old ++ (zero_bound ∷ [])) ≡ 26
-    both = length-append old (zero_bound ∷ []) ∙ ap (λ (n : ℕ). n + 1) f.old_long
-
-    by : (x : ℕ) → x < 26 → (t : Bool) → ltb x 25 ≡ t → get_or all x no_bound ≡ get_or (old ++ (zero_bound ∷ [])) x no_bound
-    by x g true s =
-        let k = ltb-true x 25 s in
-        f.there x (omega arith) ∙ sym (get_or-append old (zero_bound ∷ []) no_bound x (omega (arith, f.old_long)))
-    by x g false s =
-        let k = ltb-false x 25 s in
-        let end : x ≡ 25 = omega arith in
-        let here : length old ≡ x = omega (arith, f.old_long) in
-        ap (λ (i : ℕ). get_or all i no_bound) end ∙ f.behind ∙ sym (get_or_at old zero_bound [] no_bound x here)
 
 module _ (w : ℕ) where
   pub outside_not : (k : ℕ) → k < 2 → false ≡ outside_c w k

@@ -30,7 +30,7 @@ pub struct Reads {
 fn place(k: usize, l: usize) -> usize
     ensures { result ≡ min (5 * k + l) 25 }
 {
-    numbers::at_most(5 * numbers::at_most(k, 5) + numbers::at_most(l, 25), 25)
+    (5 * k.min(5) + l.min(25)).min(25)
 }
 
 // The places of a phase for a guard left - right.
@@ -57,8 +57,8 @@ pub fn places(left: usize, right: usize, phase: usize) -> Reads
     Reads {
         first: place(x / 5, left),
         last: place(right, x % 5),
-        was: numbers::at_most(x, 25),
-        into: numbers::at_most(x, 24),
+        was: x.min(25),
+        into: x.min(24),
     }
 }
 
@@ -73,12 +73,7 @@ pub fn framed_of(old: [Bound; 25]) -> Framed
     ensures { result.entries ≡ framed_c old }
 {
     let mut all = [Bound::ZERO; 26];
-    let mut i = 0;
-    while i < 25 {
-        let b = old[i];
-        all[i] = b;
-        i += 1;
-    }
+    all[..25].copy_from_slice(&old);
     Framed { entries: all }
 }
 

@@ -1,5 +1,5 @@
 -- Boxes of ranges: corners, and ranges of one number.
-use Rattle.std.specs.Prelude.{cond, List, [], ◌∷◌, ℕ, zero, suc, ◌<◌, ◌≡◌, ℤ, pos, ◌+ℤ◌, length, get_or, ◌≤ℤ◌, ◌<ℤ◌}
+use Rattle.std.specs.Prelude.{cond, List, [], ◌∷◌, ℕ, zero, suc, ◌<◌, ◌≡◌, ℤ, pos, ◌+ℤ◌, length, get_or, ◌≤ℤ◌, ◌<ℤ◌, Option, None, Some}
 use Prim.{Unit}
 use Rattle.std.specs.Int.Signed.{lt_z}
 use Rattle.expr.specs.Records.{blank_range}
@@ -39,7 +39,7 @@ Alone w rs = (j : ℕ) → j < length rs → (j ≡ w → ⊥) → (get_or rs j 
 abbrev pub Two : ℕ → ℕ → List Range → Type 0
 Two w t rs = (j : ℕ) → j < length rs → (j ≡ w → ⊥) → (j ≡ t → ⊥) → (get_or rs j blank_range).high ≤ℤ (get_or rs j blank_range).low
 
--- the first of n places from i on whose range has several numbers, or the place behind them
-unfoldable pub wide_from : List Range → ℕ → ℕ → ℕ
-wide_from rs i zero = i
-wide_from rs i (suc n) = cond (lt_z (get_or rs i blank_range).low (get_or rs i blank_range).high) i (wide_from rs (suc i) n)
+-- the first of n places from i on whose range has several numbers, if there is one
+unfoldable pub wide_from : List Range → ℕ → ℕ → Option ℕ
+wide_from rs i zero = None
+wide_from rs i (suc n) = cond (lt_z (get_or rs i blank_range).low (get_or rs i blank_range).high) (Some i) (wide_from rs (suc i) n)

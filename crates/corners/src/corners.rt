@@ -9,32 +9,21 @@ use expr::{PARAMETERS, Range, Ranges, Valuation};
 pub fn corner(b: Ranges) -> Valuation
     ensures { result.numbers ≡ map low_of b.list }
 {
-    let mut v = Valuation::ZERO;
-    let mut k = 0;
-    while k < PARAMETERS {
-        let r = b.list[k];
-        let x = r.low;
-        v.numbers[k] = x;
-        k += 1;
+    Valuation {
+        numbers: b.list.map(|r| r.low),
     }
-    v
 }
 
 // The box with the ends of each range exchanged: the best of an inequality there is its worst in the box.
 pub fn turned(b: Ranges) -> Ranges
     ensures { result.list ≡ map turn b.list }
 {
-    let mut c = b;
-    let mut i = 0;
-    while i < PARAMETERS {
-        let r = b.list[i];
-        c.list[i] = Range {
+    Ranges {
+        list: b.list.map(|r| Range {
             low: r.high,
             high: r.low,
-        };
-        i += 1;
+        }),
     }
-    c
 }
 
 // Whether a valuation lies inside the box.
@@ -42,8 +31,7 @@ pub fn inside(b: Ranges, v: Valuation) -> bool
     ensures yes { result ≡ true → Inside v.numbers b.list }
     ensures no { result ≡ false → Inside v.numbers b.list → ⊥ }
 {
-    let mut i = 0;
-    while i < PARAMETERS {
+    for i in 0..PARAMETERS {
         let r = b.list[i];
         let x = v.numbers[i];
         if x < r.low {
@@ -52,22 +40,19 @@ pub fn inside(b: Ranges, v: Valuation) -> bool
         if r.high < x {
             return false;
         }
-        i += 1;
     }
     true
 }
 
-// The first place from `start` on whose range has several numbers, or PARAMETERS, or `start` where that is more.
-pub fn wide(b: Ranges, start: usize) -> usize
+// The first place from `start` on whose range has several numbers.
+pub fn wide(b: Ranges, start: usize) -> Option<usize>
     ensures { result ≡ wide_from b.list start (4 - start) }
 {
-    let mut i = start;
-    while i < PARAMETERS {
+    for i in start..PARAMETERS {
         let r = b.list[i];
         if r.low < r.high {
-            return i;
+            return Some(i);
         }
-        i += 1;
     }
-    i
+    None
 }

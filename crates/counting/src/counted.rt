@@ -6,7 +6,7 @@ ghost use Rattle.corners.specs.Boxes.{Points, Two};
 ghost use Rattle.inequalities.specs.Flat.{exprs_in};
 ghost use Rattle.valuations.specs.Valuations.{count};
 
-use expr::{PARAMETERS, Ranges};
+use expr::Ranges;
 
 // How many valuations of a box meet the first n inequalities, if none of its ranges has several numbers.
 fn single(b: Ranges, flat: &[i32], n: usize) -> usize
@@ -45,27 +45,25 @@ fn count_from(b: Ranges, flat: &[i32], n: usize) -> usize
     if k == 0 {
         return v;
     }
-    let w = picking::narrowest(c);
-    if PARAMETERS <= w {
+    let Some(w) = picking::narrowest(c) else {
         return single(c, flat, n);
-    }
+    };
     let t = picking::other(c, w);
     if by_rows(c, k, w, t) {
         return rows::count_rows(c, &kept, k, w, t);
     }
     let range = c.list[w];
     let m = widths::width(range);
-    let mut total = 0;
-    let mut i = 0;
-    while i < m {
+    let mut total: usize = 0;
+    for i in 0..m {
         let mut d = c;
         d.list[w] = widths::point(range, i);
-        if 25 < k {
-            total = widths::plus(total, count_from(d, flat, n));
+        let more = if 25 < k {
+            count_from(d, flat, n)
         } else {
-            total = widths::plus(total, count_from(d, &kept, k));
-        }
-        i += 1;
+            count_from(d, &kept, k)
+        };
+        total = total.saturating_add(more);
     }
     total
 }
@@ -74,7 +72,7 @@ fn count_from(b: Ranges, flat: &[i32], n: usize) -> usize
 pub fn count(b: Ranges, flat: &[i32], n: usize) -> usize
     ensures { result ≡ min (count (range_list b) (exprs_in flat.now n)) 18446744073709551615 }
 {
-    let m = numbers::at_most(n, flat.len());
+    let m = n.min(flat.len());
     if systems::opposed(flat, m, 0) {
         return 0;
     }

@@ -11,9 +11,9 @@ use Rattle.saturating.specs.Sums.{room, clamped_in}
 use Rattle.expr.specs.Affine.{saturated_e, plus, minus, less_one}
 use Rattle.expr.specs.Bounds.{sum_b, tighter_b, saturated_b}
 use Rattle.expr.specs.TestBySum.{plus_one_where, test_by_sum}
-use Rattle.expr.specs.Records.{affine, expr_of, zero_expr, bound_as, bound_of, test}
+use Rattle.expr.specs.Records.{affine, expr_of, bound_as, bound_of, test}
 use Rattle.expr.specs.declared.bound.Bound.{Bound as CodeBound}
-use Rattle.expr.specs.declared.bound.Asked.TheVariants.{Yes, No, Ask}
+use Rattle.expr.specs.declared.bound.Test.TheVariants.{Yes, No, Ask}
 use Rattle.expr.specs.declared.number.Expr.{Expr}
 
 module _ (a b : CodeBound) where
@@ -35,12 +35,12 @@ module _ (a b : CodeBound) where
 
   -- ---- a test
   pub test_left : a.none ≡ true
-      → record { asked = No; expr = zero_expr } ≡ test (tighter_b (saturated_b (bound_as a)) (saturated_b (bound_as b)))
+      → No ≡ test (tighter_b (saturated_b (bound_as a)) (saturated_b (bound_as b)))
   unfolding tighter_b saturated_b
   test_left h = rw h refl
 
   pub test_right : a.none ≡ false → b.none ≡ true
-      → record { asked = Yes; expr = zero_expr } ≡ test (tighter_b (saturated_b (bound_as a)) (saturated_b (bound_as b)))
+      → Yes ≡ test (tighter_b (saturated_b (bound_as a)) (saturated_b (bound_as b)))
   unfolding tighter_b saturated_b
   test_right h k = rw (h, k) refl
 
@@ -48,7 +48,7 @@ module _ (a b : CodeBound) where
       → d ≡ expr_of (minus (saturated_e (affine b.expr)) (saturated_e (affine a.expr)))
       → l ≡ record { constant = d.constant -ℤ pos 1; coefs = d.coefs }
       → x ≡ record { constant = l.constant +ℤ cond (a.strict && not b.strict) (pos 1) (pos 0); coefs = l.coefs }
-      → record { asked = Ask; expr = x } ≡ test (tighter_b (saturated_b (bound_as a)) (saturated_b (bound_as b)))
+      → Ask x ≡ test (tighter_b (saturated_b (bound_as a)) (saturated_b (bound_as b)))
   unfolding saturated_b plus_one_where less_one
   test_both d l x h k ed el ex =
       let f = saturated_e (affine a.expr) in

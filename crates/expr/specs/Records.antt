@@ -3,9 +3,9 @@ use Rattle.std.specs.Prelude.{List, [], ◌∷◌, true, false, cond, ℕ, zero,
 use Rattle.expr.specs.Affine.{Affine}
 use Rattle.weight.specs.Upper.{Upper, none, upper}
 use Rattle.expr.specs.Bounds.{zero_b, Question, yes', no', ask}
-use Rattle.expr.specs.declared.bound.Asked.TheVariants.{Yes, No, Ask}
 use Rattle.expr.specs.declared.bound.Bound.{Bound}
 use Rattle.expr.specs.declared.bound.Test.{Test}
+use Rattle.expr.specs.declared.bound.Test.TheVariants.{Yes, No, Ask}
 use Rattle.expr.specs.declared.range.Range.{Range}
 use Rattle.expr.specs.declared.range.Ranges.{Ranges}
 use Rattle.expr.specs.declared.number.Expr.{Expr}
@@ -64,13 +64,13 @@ zero_bound = bound_of zero_b
 
 -- the answer no, without a test
 abbrev pub no_test : Test
-no_test = record { asked = No; expr = zero_expr }
+no_test = No
 
--- the code's record of what a comparison asks; a zero expression where it asks nothing
+-- what a comparison asks, in the code
 abbrev pub test : Question → Test
-test yes' = record { asked = Yes; expr = zero_expr }
+test yes' = Yes
 test no' = no_test
-test (ask e) = record { asked = Ask; expr = expr_of e }
+test (ask e) = Ask (expr_of e)
 
 -- 0 to 0
 abbrev pub blank_range : Range

@@ -13,27 +13,12 @@ pub struct Bound {
     pub expr: Expr,
 }
 
-// What a comparison of two bounds asks: nothing, the answer being yes or no; or whether an expression is at least 0.
+// Whether a bound is tighter than another: yes or no without a test; or exactly if the expression is at least 0.
 #[derive(Clone, Copy)]
-pub enum Asked {
+pub enum Test {
     Yes,
     No,
-    Ask,
-}
-
-// Whether a bound is tighter than another: yes or no without a test, the expression being zero; or exactly if it is at least 0.
-#[derive(Clone, Copy)]
-pub struct Test {
-    pub asked: Asked,
-    pub expr: Expr,
-}
-
-impl Test {
-    // No, without a test.
-    pub const NO: Test = Test {
-        asked: Asked::No,
-        expr: Expr::ZERO,
-    };
+    Ask(Expr),
 }
 
 impl Bound {
@@ -74,20 +59,14 @@ impl Bound {
         ensures { result ≡ test (tighter_b (saturated_b (bound_as self)) (saturated_b (bound_as other))) }
     {
         if self.none {
-            return Test::NO;
+            return Test::No;
         }
         if other.none {
-            return Test {
-                asked: Asked::Yes,
-                expr: Expr::ZERO,
-            };
+            return Test::Yes;
         }
         let first = self.expr;
         let second = other.expr;
         let only_first = self.strict & !other.strict;
-        Test {
-            asked: Asked::Ask,
-            expr: second.less(first).less_one().plus_one_where(only_first),
-        }
+        Test::Ask(second.less(first).less_one().plus_one_where(only_first))
     }
 }

@@ -5,6 +5,6 @@ mod bound;
 mod number;
 mod range;
 
-pub use bound::{Asked, Bound, Test};
+pub use bound::{Bound, Test};
 pub use number::{Expr, PARAMETERS, Valuation};
 pub use range::{Range, Ranges};

@@ -41,10 +41,8 @@ impl Expr {
     {
         let mut r = Expr::ZERO;
         r.constant = sum(self.constant, other.constant);
-        let mut i = 0;
-        while i < PARAMETERS {
+        for i in 0..PARAMETERS {
             r.coefs[i] = sum(self.coefs[i], other.coefs[i]);
-            i += 1;
         }
         r
     }
@@ -55,10 +53,8 @@ impl Expr {
     {
         let mut r = Expr::ZERO;
         r.constant = difference(self.constant, other.constant);
-        let mut i = 0;
-        while i < PARAMETERS {
+        for i in 0..PARAMETERS {
             r.coefs[i] = difference(self.coefs[i], other.coefs[i]);
-            i += 1;
         }
         r
     }
@@ -89,10 +85,8 @@ impl Expr {
     {
         let mut r = Expr::ZERO;
         r.constant = difference(-1, self.constant);
-        let mut i = 0;
-        while i < PARAMETERS {
+        for i in 0..PARAMETERS {
             r.coefs[i] = difference(0, self.coefs[i]);
-            i += 1;
         }
         r
     }

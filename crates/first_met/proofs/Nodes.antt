@@ -4,6 +4,7 @@ use mathlib.Core.Path.{◌≡◌, refl, sym, ap, ◌∙◌}
 use mathlib.Core.Bool.{Bool, true, false, not}
 use mathlib.Core.List.{List, map}
 use mathlib.Core.Option.{Option, none, some}
+use Rattle.std.specs.Prelude.{Some, is_some}
 use Prim.Native.Nat.{ℕ, ◌+◌, ◌-◌, ◌≤◌, ◌<◌}
 use native.Mathlib.Numerals.{add-one}
 use native.Mathlib.Omega.{arith}
@@ -23,8 +24,7 @@ use Rattle.systems.specs.BoxLaws.{first_narrows, first_nothing, first_place, cor
 use Rattle.systems.specs.BoxLaws.{corner_first, one_corner, points_set, places_all}
 use Rattle.valuations.specs.SearchLaws.{first_over, or_else, width_suc}
 use Rattle.valuations.specs.Valuations.{satisfies, first, width}
-use Rattle.first_met.specs.Solutions.{solution_of}
-use Rattle.first_met.specs.declared.search.Solution.{Solution}
+use Rattle.first_met.specs.Solutions.{Solution, solution_of}
 use Rattle.widths.specs.Halves.{lower_of, upper_of}
 use Rattle.first_met.specs.Halves.{first_parts}
 use Rattle.first_met.proofs.Loops.{first_start, first_turn}
@@ -46,16 +46,15 @@ module _ (es : List Affine) (rs cs : List Range) (h : Narrows es rs cs) where
 
   -- the corner meets the inequalities
   pub first_cornered : (v : Valuation) → v.numbers ≡ map low_of cs → length v.numbers ≡ PARAMETERS → Inside v.numbers cs
-      → satisfies es v.numbers ≡ true → ◌≡◌ {A = Solution} (record { found = true; valuation = v }) (solution_of (first rs es))
+      → satisfies es v.numbers ≡ true → ◌≡◌ {A = Solution} (Some v) (solution_of (first rs es))
   first_cornered v e l i m =
       let q : first rs es ≡ some (map low_of cs) = first_narrows es rs cs h ∙ corner_first cs es (rw e at i) (rw e at m) in
       found_path v.numbers (four v.numbers) (sym (places_all (pos 0) v.numbers l)) ∙ ap (λ (u : List ℤ). solution_of (some u))
       e ∙ ap solution_of (sym q)
     where
       found_path : (a b : List ℤ) → a ≡ b
-          → ◌≡◌ {A = Solution} (record { found = true; valuation = record { numbers = a } })
-          (record { found = true; valuation = record { numbers = b } })
-      found_path a b e = λ i. record { found = true; valuation = record { numbers = e i } }
+          → ◌≡◌ {A = Solution} (Some (record { numbers = a })) (Some (record { numbers = b }))
+      found_path a b e = ap (λ (u : List ℤ). Some (record { numbers = u })) e
 
   -- one valuation is left, and it does not
   pub first_pointed : (w : ℕ) (u : List ℤ) → u ≡ map low_of cs → length cs ≤ w → Points w cs → satisfies es u ≡ false
@@ -82,14 +81,14 @@ module _ (es : List Affine) (cs : List Range) (w : ℕ) (r : Range) (n : ℕ) wh
     at_member : s ≡ solution_of (first_at es cs w (r.low +ℤ pos i))
     at_member = es' ∙ ap (λ (z : Range). solution_of (first (set cs w z) es)) eq
 
-    pub first_found : s.found ≡ true → s ≡ solution_of (first cs es)
+    pub first_found : is_some s ≡ true → s ≡ solution_of (first cs es)
     first_found g =
         at_member
         ∙ stop (first_at es cs w (r.low +ℤ pos i)) (first_over (first_at es cs w) (r.low +ℤ pos (i + 1)) (n - (i + 1)))
-        (ap (λ (z : Solution). z.found) (sym at_member) ∙ g)
+        (ap (λ (z : Solution). is_some z) (sym at_member) ∙ g)
         ∙ ap solution_of (sym (first_turn (first_at es cs w) r.low n i h) ∙ k)
       where
-        stop : (o rest : Option (List ℤ)) → (solution_of o).found ≡ true → solution_of o ≡ solution_of (or_else o rest)
+        stop : (o rest : Option (List ℤ)) → is_some (solution_of o) ≡ true → solution_of o ≡ solution_of (or_else o rest)
         stop none rest e = apart cc
         stop (some u) rest e = refl
 
@@ -117,32 +116,32 @@ module _ (es : List Affine) (rs cs : List Range) (h : Narrows es rs cs) (w n : �
   parts = first_narrows es rs cs h ∙ first_parts es cs w n (get_or cs w blank_range) refl few more l p
 
   -- the lower part has one
-  pub first_lower : s.found ≡ true → s ≡ solution_of (first rs es)
+  pub first_lower : is_some s ≡ true → s ≡ solution_of (first rs es)
   first_lower g =
       by (first (set cs w (lower_of (get_or cs w blank_range) n)) es) (first (set cs w (upper_of (get_or cs w blank_range) n)) es) e
-      (ap (λ (z : Solution). z.found) (sym e) ∙ g)
+      (ap (λ (z : Solution). is_some z) (sym e) ∙ g)
       ∙ ap solution_of (sym parts)
     where
-      by : (o t : Option (List ℤ)) → s ≡ solution_of o → (solution_of o).found ≡ true → s ≡ solution_of (or_else o t)
+      by : (o t : Option (List ℤ)) → s ≡ solution_of o → is_some (solution_of o) ≡ true → s ≡ solution_of (or_else o t)
       by none t q k = apart cc
       by (some u) t q k = q
 
   -- it has none
-  pub first_upper : (t : Solution) → s.found ≡ false → t ≡ solution_of (first (set cs w (upper_of (get_or cs w blank_range) n)) es)
+  pub first_upper : (t : Solution) → is_some s ≡ false → t ≡ solution_of (first (set cs w (upper_of (get_or cs w blank_range) n)) es)
       → t ≡ solution_of (first rs es)
   first_upper t g f =
       by (first (set cs w (lower_of (get_or cs w blank_range) n)) es) (first (set cs w (upper_of (get_or cs w blank_range) n)) es) f
-      (ap (λ (z : Solution). z.found) (sym e) ∙ g)
+      (ap (λ (z : Solution). is_some z) (sym e) ∙ g)
       ∙ ap solution_of (sym parts)
     where
-      by : (o u : Option (List ℤ)) → t ≡ solution_of u → (solution_of o).found ≡ false → t ≡ solution_of (or_else o u)
+      by : (o u : Option (List ℤ)) → t ≡ solution_of u → is_some (solution_of o) ≡ false → t ≡ solution_of (or_else o u)
       by none u q k = q
       by (some v) u q k = apart cc
 
 -- what is first where that range is at its lowest is first of all
 pub first_lowest : (es : List Affine) (cs ds : List Range) (w : ℕ) (q : Range) (s : Solution) → Points w cs → w < length cs
     → 0 < width (get_or cs w blank_range) → q ≡ point_of ((get_or cs w blank_range).low +ℤ pos 0) → Narrows es (set cs w q) ds
-    → (s.found ≡ true → s ≡ solution_of (first ds es)) → s.found ≡ true → s ≡ solution_of (first cs es)
+    → (is_some s ≡ true → s ≡ solution_of (first ds es)) → is_some s ≡ true → s ≡ solution_of (first cs es)
 first_lowest es cs ds w q s p l h e n k g =
     let r = get_or cs w blank_range in
     first_found es cs w r (width r) 0 h s q e (k g ∙ ap solution_of (sym (first_narrows es (set cs w q) ds n)))

@@ -3,4 +3,4 @@
 
 mod search;
 
-pub use search::{Solution, first};
+pub use search::first;

@@ -266,21 +266,19 @@ pub record PlainRead (s : List ℕ) (end most parameters clocks at word : ℕ) (
 
 -- it holds where all parts of the guard are right
 pub plain_read :
-    (s : List ℕ) (most parameters clocks at constant : ℕ) (head all zeros : Bool) (word last : ℕ) (list : List ℤ)
+    (s : List ℕ) (most parameters clocks at constant : ℕ) (head : Bool) (word last : ℕ) (list : List ℤ)
     (expr : Expr) (bound : Bound) →
     parameters ≤ most → most ≤ PARAMETERS → constant ≡ number_at s (at + 4) →
-    head ≡ head_right clocks (get_or s at 0) (get_or s (at + 1) 0) (get_or s (at + 2) 0) (get_or s (at + 3) 0) constant →
-    (all ≡ true → CoefsKept s parameters (at + 6) constant parameters word list) →
-    (zeros ≡ true → ZerosKept s most parameters (at + 6) most) → last ≡ cond (ltb parameters most) 32768 word →
-    expr ≡ guard_expr constant list → bound ≡ guard_bound (get_or s (at + 2) 0) expr → head && (all && zeros) ≡ true →
-    (end : ℕ) → at + 6 + 2 * most ≤ end →
+    head ≡ head_right clocks (get_or s at 0) (get_or s (at + 1) 0) (get_or s (at + 2) 0) (get_or s (at + 3) 0) constant → head ≡ true →
+    CoefsKept s parameters (at + 6) constant parameters word list → ZerosKept s most parameters (at + 6) most →
+    last ≡ cond (ltb parameters most) 32768 word →
+    expr ≡ guard_expr constant list → bound ≡ guard_bound (get_or s (at + 2) 0) expr → (end : ℕ) → at + 6 + 2 * most ≤ end →
     PlainRead s end most parameters clocks at last (record { left = get_or s at 0; right = get_or s (at + 1) 0; bound = bound })
-plain_read s most parameters clocks at constant head all zeros word last list expr bound p m ec eh ka kz el ee eb h end room =
+plain_read s most parameters clocks at constant head word last list expr bound p m ec eh h ka kz el ee eb end room =
     let right : head_right clocks (get_or s at 0) (get_or s (at + 1) 0) (get_or s (at + 2) 0) (get_or s (at + 3) 0) (number_at s (at + 4)) ≡ true =
-    rw (sym ec) (sym eh ∙ and_left head (all && zeros) h) in
-    let rest = and_right head (all && zeros) h in
-    let k = ka (and_left all zeros rest) end most p room in
-    let z = kz (and_right all zeros rest) end constant word list room k in
+    rw (sym ec) (sym eh ∙ h) in
+    let k = ka end most p room in
+    let z = kz end constant word list room k in
     let kept : Kept s end most parameters (at + 6) (number_at s (at + 4)) most last list = rw (el, sym ec) z in
     record {
       room = room;

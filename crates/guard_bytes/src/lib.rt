@@ -2,27 +2,25 @@
 // is passed, the guards are read by fields, which finds the place.
 #![tactic(auto)]
 
-ghost use Rattle.std.specs.Prelude.{◌≡◌, true, cond, ℕ, ◌+◌, ◌*◌, ◌<◌, ◌≤◌, ltb, ℤ, length, List};
+ghost use Rattle.std.specs.Prelude.{◌≡◌, true, cond, ℕ, ◌+◌, ◌*◌, ◌<◌, ◌≤◌, ltb, ℤ, length, List, IfSome};
 ghost use Rattle.guards.specs.Guards.{guard_expr};
 ghost use Rattle.guard_bytes.specs.Plain.{number_at, head_right, Kept, PlainRead};
 
 use cursor::within;
 use expr::{Expr, PARAMETERS};
-use guards::{Guard, bound_of, one_zero, signed_of};
-use words::{shifted, word_of};
+use guards::{Guard, bound_of, one_zero};
+use words::{shifted, signed_of, word_of};
 
-// The coefficients of a guard: whether all are right, the last word, plus 32,768, and the numbers.
+// The coefficients of a guard: the last word, plus 32,768, and the numbers.
 #[derive(Clone, Copy)]
 struct Coefs {
-    pub ok: bool,
     pub word: u16,
     pub list: [i32; PARAMETERS],
 }
 
-// A guard: whether all its fields are right, its last word, plus 32,768, and the guard.
+// A guard whose fields are all right: its last word, plus 32,768, and the guard.
 #[derive(Clone, Copy)]
 pub struct Plain {
-    pub ok: bool,
     pub word: u16,
     pub guard: Guard,
 }
@@ -35,33 +33,23 @@ fn number_at(file: &[u8], at: usize) -> u16
     shifted(word_of(file[at], file[at + 1]))
 }
 
-// The coefficients of the sheet's parameters, which start at a place, after the constant.
-fn coefs_plain(file: &[u8], parameters: usize, at: usize, constant: u16) -> Coefs
+// The coefficients of the sheet's parameters, which start at a place, after the constant, if all are right.
+fn coefs_plain(file: &[u8], parameters: usize, at: usize, constant: u16) -> Option<Coefs>
     requires { (at + 2 * parameters ≤ length file.now) × (parameters ≤ 4) }
-    ensures { result.ok ≡ true → (end most : ℕ) → parameters ≤ most → at + 2 * most ≤ end →
-        Kept file.now end most parameters at constant parameters result.word result.list }
+    ensures { IfSome result (λ all. (end most : ℕ) → parameters ≤ most → at + 2 * most ≤ end →
+        Kept file.now end most parameters at constant parameters all.word all.list) }
 {
     let mut list = [0i32; PARAMETERS];
     let mut word = constant;
-    let mut i = 0;
-    while i < parameters {
+    for i in 0..parameters {
         let w = number_at(file, at + 2 * i);
         if !within(31768, w as usize, 33768) {
-            return Coefs {
-                ok: false,
-                word: 0,
-                list: [0; PARAMETERS],
-            };
+            return None;
         }
-        list[i] = signed_of(w);
+        list[i] = i32::from(signed_of(w));
         word = w;
-        i += 1;
     }
-    Coefs {
-        ok: true,
-        word,
-        list,
-    }
+    Some(Coefs { word, list })
 }
 
 // Whether the coefficients that are left are zeros.
@@ -71,12 +59,10 @@ fn zeros_plain(file: &[u8], most: usize, parameters: usize, at: usize) -> bool
         Kept file.now end most parameters at constant parameters word list →
         Kept file.now end most parameters at constant most (cond (ltb parameters most) 32768 word) list }
 {
-    let mut i = parameters;
-    while i < most {
+    for i in parameters..most {
         if !within(32768, number_at(file, at + 2 * i) as usize, 32768) {
             return false;
         }
-        i += 1;
     }
     true
 }
@@ -99,7 +85,7 @@ fn expr_in(constant: u16, all: Coefs) -> Expr
 {
     let coefs = all.list;
     Expr {
-        constant: signed_of(constant),
+        constant: i32::from(signed_of(constant)),
         coefs,
     }
 }
@@ -108,16 +94,7 @@ fn expr_in(constant: u16, all: Coefs) -> Expr
 fn room(length: usize, end: usize, most: usize, parameters: usize, at: usize) -> bool
     ensures { result ≡ true → (end ≤ length) × ((at + 6 + 2 * most ≤ end) × ((parameters ≤ most) × (most ≤ 4))) }
 {
-    if end <= length {
-        if at <= end {
-            if parameters <= most {
-                if most <= 4 {
-                    return 6 + 2 * most <= end - at;
-                }
-            }
-        }
-    }
-    false
+    end <= length && at <= end && parameters <= most && most <= 4 && 6 + 2 * most <= end - at
 }
 
 // The last word of a guard: a zero where it has coefficients past the sheet's parameters.
@@ -128,26 +105,29 @@ fn last_word(most: usize, parameters: usize, word: u16) -> u16
 }
 
 // The guard at a place from which the file has room for it, if all its fields are right.
-fn guard_in(file: &[u8], most: usize, parameters: usize, clocks: u8, at: usize) -> Plain
+fn guard_in(file: &[u8], most: usize, parameters: usize, clocks: u8, at: usize) -> Option<Plain>
     requires { (at + 6 + 2 * most ≤ length file.now) × ((parameters ≤ most) × (most ≤ 4)) }
-    ensures { result.ok ≡ true → (end : ℕ) → at + 6 + 2 * most ≤ end →
-        PlainRead file.now end most parameters clocks at result.word result.guard }
+    ensures { IfSome result (λ read. (end : ℕ) → at + 6 + 2 * most ≤ end →
+        PlainRead file.now end most parameters clocks at read.word read.guard) }
 {
     let left = file[at];
     let right = file[at + 1];
     let relation = file[at + 2];
     let zero = file[at + 3];
     let constant = number_at(file, at + 4);
-    let head = head_right(clocks, left, right, relation, zero, constant);
-    let all = coefs_plain(file, parameters, at + 6, constant);
-    let zeros = zeros_plain(file, most, parameters, at + 6);
+    if !head_right(clocks, left, right, relation, zero, constant) {
+        return None;
+    }
+    let all = coefs_plain(file, parameters, at + 6, constant)?;
+    if !zeros_plain(file, most, parameters, at + 6) {
+        return None;
+    }
     let word = last_word(most, parameters, all.word);
     let bound = bound_of(relation, expr_in(constant, all));
-    Plain {
-        ok: head & (all.ok & zeros),
+    Some(Plain {
         word,
         guard: Guard { left, right, bound },
-    }
+    })
 }
 
 // The guard at a place, if all its fields are right and it lies before the end.
@@ -158,16 +138,12 @@ pub fn guard_plain(
     parameters: u8,
     clocks: u8,
     at: usize,
-) -> Plain
-    ensures { result.ok ≡ true → PlainRead file.now end most parameters clocks at result.word result.guard }
+) -> Option<Plain>
+    ensures { IfSome result (λ read. PlainRead file.now end most parameters clocks at read.word read.guard) }
 {
     if room(file.len(), end, most as usize, parameters as usize, at) {
         guard_in(file, most as usize, parameters as usize, clocks, at)
     } else {
-        Plain {
-            ok: false,
-            word: 0,
-            guard: Guard::BLANK,
-        }
+        None
     }
 }

@@ -8,8 +8,8 @@ ghost use Rattle.guards.specs.Guards.{guard_expr, coef_step, coefs_at, zero_step
 
 use cursor::{Cursor, byte_field};
 use expr::{Expr, PARAMETERS};
-use guards::{CoefsAt, Guard, GuardAt, bound_of, right_field, signed_of};
-use words::signed_field;
+use guards::{CoefsAt, Guard, GuardAt, bound_of, right_field};
+use words::{signed_field, signed_of};
 
 // One more coefficient, if the sheet has the parameter: -1,000 to 1,000.
 fn coef_step(file: &[u8], end: usize, parameters: u8, i: usize, all: CoefsAt) -> CoefsAt
@@ -20,7 +20,7 @@ fn coef_step(file: &[u8], end: usize, parameters: u8, i: usize, all: CoefsAt) ->
         let field = signed_field(file, end, 31768, 33768, all.cursor);
         let mut next = all;
         next.cursor = field;
-        next.coefs[i] = signed_of(field.word);
+        next.coefs[i] = i32::from(signed_of(field.word));
         next
     } else {
         all
@@ -35,10 +35,8 @@ fn coefs_at(file: &[u8], end: usize, parameters: u8, cursor: Cursor) -> CoefsAt
         cursor,
         coefs: [0; PARAMETERS],
     };
-    let mut i: usize = 0;
-    while i < PARAMETERS {
+    for i in 0..PARAMETERS {
         all = coef_step(file, end, parameters, i, all);
-        i += 1;
     }
     all
 }
@@ -63,10 +61,8 @@ fn zeros_at(file: &[u8], end: usize, most: u8, parameters: u8, cursor: Cursor) -
     ensures { result ≡ zeros_at file.now end most parameters cursor }
 {
     let mut after = cursor;
-    let mut i: usize = 0;
-    while i < PARAMETERS {
+    for i in 0..PARAMETERS {
         after = zero_step(file, end, most, parameters, i, after);
-        i += 1;
     }
     after
 }
@@ -77,7 +73,7 @@ fn expr_of(constant: u16, all: CoefsAt) -> Expr
 {
     let coefs = all.coefs;
     Expr {
-        constant: signed_of(constant),
+        constant: i32::from(signed_of(constant)),
         coefs,
     }
 }

@@ -32,13 +32,13 @@ module _ (s : List ℕ) (end most parameters clocks : ℕ) (count : Cursor) wher
       ap (λ (x : Cursor). record { cursor = x; count = count.byte; guards = blank_guards }) e
 
   pub guards_more :
-      (i at byte word : ℕ) (guards : List Guard) (ok : Bool) (last : ℕ) (guard : Guard) → i < count.byte → Stands i at byte word guards →
-      (ok ≡ true → PlainRead s end most parameters clocks at last guard) → ok ≡ true →
+      (i at byte word : ℕ) (guards : List Guard) (last : ℕ) (guard : Guard) → i < count.byte → Stands i at byte word guards →
+      PlainRead s end most parameters clocks at last guard →
       Stands (i + 1) (at + (6 + 2 * most)) 0 last (set guards i guard)
   unfolding guards_from iterate guard_step
-  guards_more i at byte word guards ok last guard h k p o =
+  guards_more i at byte word guards last guard h k p =
       let t = lt-ltb i count.byte h in
-      let read = (p o).read (record { ok = true; at = at; byte = byte; word = word }) refl refl in
+      let read = p.read (record { ok = true; at = at; byte = byte; word = word }) refl refl in
       let sum : at + (6 + 2 * most) ≡ at + 6 + 2 * most = omega arith in
       rw add-one (rw (sym k) (rw t (rw (read, sum) refl)))
 

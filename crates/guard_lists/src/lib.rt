@@ -54,10 +54,8 @@ fn guards_by_field(
         count: count.byte as usize,
         guards: [Guard::BLANK; 6],
     };
-    let mut i: usize = 0;
-    while i < 6 {
+    for i in 0..6 {
         list = guard_step(file, end, most, parameters, clocks, i, list);
-        i += 1;
     }
     list
 }
@@ -76,23 +74,20 @@ fn guards_from(
     if !count.ok {
         return guards_by_field(file, end, most, parameters, clocks, count);
     }
-    let n = numbers::at_most(count.byte as usize, 6);
+    let n = usize::from(count.byte).min(6);
     let mut guards = [Guard::BLANK; 6];
     let mut at = count.at;
     let mut byte = count.byte;
     let mut word = count.word;
-    let mut i = 0;
-    while i < n {
-        let read = guard_plain(file, end, most, parameters, clocks, at);
-        if !read.ok {
+    for i in 0..n {
+        let Some(read) = guard_plain(file, end, most, parameters, clocks, at) else {
             return guards_by_field(file, end, most, parameters, clocks, count);
-        }
+        };
         let guard = read.guard;
         guards[i] = guard;
-        at += 6 + 2 * (most as usize);
+        at += 6 + 2 * usize::from(most);
         byte = 0;
         word = read.word;
-        i += 1;
     }
     GuardsAt {
         cursor: Cursor {

@@ -6,7 +6,6 @@
 #![tactic(auto)]
 
 ghost use Rattle.std.specs.Prelude.{◌≡◌};
-ghost use Rattle.cursor.specs.Cursor.{signed_of};
 ghost use Rattle.guards.specs.Guards.{one_zero, guard_bound, right_field};
 
 use cursor::{Cursor, byte_field, judged};
@@ -50,13 +49,6 @@ pub struct GuardsAt {
     pub cursor: Cursor,
     pub count: usize,
     pub guards: [Guard; 6],
-}
-
-// The number of a signed field, from the number plus 32,768.
-pub fn signed_of(word: u16) -> i32
-    ensures { result ≡ signed_of word }
-{
-    (word as i32) - 32768
 }
 
 // Whether exactly one of two clocks is 0.

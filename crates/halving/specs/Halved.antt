@@ -1,5 +1,6 @@
 -- A search by halves: what it answers, and why each of its steps is right.
 use Rattle.std.specs.Prelude.{◌≡◌, refl, ◌⊎◌, Bool, true, false, List, [], ◌∷◌, map, ℕ, zero, suc, ◌≤◌, ◌<◌, min, ℤ, pos, ◌+ℤ◌, length, get_or, set, ◌≤ℤ◌, ◌<ℤ◌}
+use Rattle.std.specs.Prelude.{Some, None, is_some}
 use Rattle.std.proofs.Common.{sym, ap, ◌∙◌, inl, inr, arith}
 use Rattle.std.proofs.Math.Option.{none}
 use Rattle.std.specs.Int.Signed.{le_z}
@@ -8,12 +9,12 @@ use Rattle.integer.specs.Order.{le_z_true, le_z_false}
 use Rattle.integer.specs.Split.{split, split-all}
 use Rattle.expr.specs.Affine.{Affine}
 use Rattle.expr.specs.Ranges.{In, Inside}
-use Rattle.expr.specs.Records.{PARAMETERS, places_from, blank_range, zero_valuation}
+use Rattle.expr.specs.Records.{PARAMETERS, places_from, blank_range}
 use Rattle.expr.specs.declared.number.Valuation.{Valuation}
 use Rattle.expr.specs.declared.range.Range.{Range}
 use Rattle.corners.specs.Boxes.{low_of, Points}
 use Rattle.corners.specs.BoxLaws.{points_all}
-use Rattle.first_met.specs.declared.search.Solution.{Solution}
+use Rattle.first_met.specs.Solutions.{Solution}
 use Rattle.inequalities.specs.Flat.{exprs_in}
 use Rattle.narrowing.specs.Cut.{Within}
 use Rattle.systems.specs.Boxes.{Narrows}
@@ -23,10 +24,10 @@ use Rattle.valuations.specs.SearchLaws.{first_none, width_suc}
 use Rattle.valuations.specs.Valuations.{satisfies, first, width}
 use Rattle.widths.specs.Halves.{lower_of, upper_of, lower_in, upper_in, halves_in}
 
--- whether a valuation of the ranges meets the inequalities, and where one does, such a valuation
-pub record Some (rs : List Range) (es : List Affine) (s : Solution) : Type 0 where
-  pub yes : s.found ≡ true → Inside s.valuation.numbers rs × (satisfies es s.valuation.numbers ≡ true)
-  pub no : s.found ≡ false → first rs es ≡ none
+-- a valuation of the ranges that meets the inequalities, or that there is none
+pub record Found (rs : List Range) (es : List Affine) (s : Solution) : Type 0 where
+  pub yes : (v : Valuation) → s ≡ Some v → Inside v.numbers rs × (satisfies es v.numbers ≡ true)
+  pub no : s ≡ None → first rs es ≡ none
 
 -- no range has more numbers than the one at w
 pub record Widest (w : ℕ) (rs : List Range) : Type 0 where
@@ -77,26 +78,30 @@ widest_points w rs h k =
     points_all PARAMETERS rs (λ j g. one_at_most (get_or rs j blank_range) (omega (arith, h.widest j g)))
 
 -- ---- the steps of the search
-abbrev pub nothing : Solution
-nothing = record { found = false; valuation = zero_valuation }
+nothing_there : (s : Solution) → is_some s ≡ false → s ≡ None
+nothing_there None h = refl
+nothing_there (Some v) h = apart cc
 
-pub some_none : (rs : List Range) (es : List Affine) → first rs es ≡ none → Some rs es nothing
-some_none rs es h = record { yes = λ e. apart cc; no = λ e. h }
+pub some_none : (rs : List Range) (es : List Affine) → first rs es ≡ none → Found rs es None
+some_none rs es h = record { yes = λ v e. apart cc; no = λ e. h }
 
 module _ (es : List Affine) (rs cs : List Range) (h : Narrows es rs cs) where
   -- the corner does not lie in the box
-  pub some_emptied : (u : List ℤ) → u ≡ map low_of cs → (Inside u cs → ⊥) → Some rs es nothing
+  pub some_emptied : (u : List ℤ) → u ≡ map low_of cs → (Inside u cs → ⊥) → Found rs es None
   some_emptied u e k =
       some_none rs es (first_narrows es rs cs h ∙ first_nothing cs es (λ v i. absurd (k (rw e (corner_inside v cs i)))))
 
   -- the corner meets the inequalities
   pub some_cornered : (v : Valuation) → Inside v.numbers cs → satisfies es v.numbers ≡ true
-      → Some rs es (record { found = true; valuation = v })
-  some_cornered v i m = record { yes = λ e. (within_inside v.numbers cs rs h.within i, m); no = λ e. apart cc }
+      → Found rs es (Some v)
+  some_cornered v i m = record {
+    yes = λ u e. let same : v ≡ u = cc in rw (← same) (within_inside v.numbers cs rs h.within i, m);
+    no = λ e. apart cc;
+  }
 
   -- one valuation is left, and it does not
   pub some_pointed : (u : List ℤ) → u ≡ map low_of cs → length cs ≡ PARAMETERS → Points PARAMETERS cs → satisfies es u ≡ false
-      → Some rs es nothing
+      → Found rs es None
   some_pointed u e l p k =
       let m : satisfies es (map low_of cs) ≡ false = ap (satisfies es) (sym e) ∙ k in
       some_none rs es
@@ -111,38 +116,36 @@ module _ (es : List Affine) (rs cs : List Range) (h : Narrows es rs cs) where
     within_upper = within_set w cs (upper_of r n) (λ x i. rw at-w at (upper_in r n few more x i))
 
     -- the lower half has one
-    pub some_lower : (s : Solution) → Some (set cs w (lower_of r n)) es s → s.found ≡ true → Some rs es s
+    pub some_lower : (s : Solution) → Found (set cs w (lower_of r n)) es s → is_some s ≡ true → Found rs es s
     some_lower s k f = record {
-      yes = λ e. (
-        within_inside s.valuation.numbers cs rs h.within
-            (within_inside s.valuation.numbers (set cs w (lower_of r n)) cs within_lower (k.yes e).0),
-        (k.yes e).1,
+      yes = λ v e. (
+        within_inside v.numbers cs rs h.within (within_inside v.numbers (set cs w (lower_of r n)) cs within_lower (k.yes v e).0),
+        (k.yes v e).1,
       );
-      no = λ e. apart cc;
+      no = λ e. let g : is_some s ≡ false = ap is_some e in apart cc;
     }
 
     -- it has none
-    pub some_upper : (s t : Solution) → Some (set cs w (lower_of r n)) es s → s.found ≡ false → Some (set cs w (upper_of r n)) es t
-        → Some rs es t
+    pub some_upper : (s t : Solution) → Found (set cs w (lower_of r n)) es s → is_some s ≡ false → Found (set cs w (upper_of r n)) es t
+        → Found rs es t
     some_upper s t k f g = record {
-      yes = λ e. (
-        within_inside t.valuation.numbers cs rs h.within
-            (within_inside t.valuation.numbers (set cs w (upper_of r n)) cs within_upper (g.yes e).0),
-        (g.yes e).1,
+      yes = λ v e. (
+        within_inside v.numbers cs rs h.within (within_inside v.numbers (set cs w (upper_of r n)) cs within_upper (g.yes v e).0),
+        (g.yes v e).1,
       );
       no = λ e. first_narrows es rs cs h ∙ first_nothing cs es (λ v i. by v e
           (inside_split w v cs (lower_of r n) (upper_of r n) (λ x j. halves_in r n few more x (rw (sym at-w) at j)) i));
     }
       where
-        by : (v : List ℤ) → t.found ≡ false → Inside v (set cs w (lower_of r n)) ⊎ Inside v (set cs w (upper_of r n))
+        by : (v : List ℤ) → t ≡ None → Inside v (set cs w (lower_of r n)) ⊎ Inside v (set cs w (upper_of r n))
             → satisfies es v ≡ false
-        by v e (inl i) = first_none (set cs w (lower_of r n)) es (k.no f) v i
+        by v e (inl i) = first_none (set cs w (lower_of r n)) es (k.no (nothing_there s f)) v i
         by v e (inr i) = first_none (set cs w (upper_of r n)) es (g.no e) v i
 
 -- ---- over the list that contracts have
 pub some_listed : (rs : List Range) (l : List ℤ) (n m : ℕ) (s : Solution) → m ≡ min n (length l) → length rs ≡ PARAMETERS
-    → Some rs (exprs_in l m) s → Some (places_from blank_range rs 0 PARAMETERS) (exprs_in l n) s
+    → Found rs (exprs_in l m) s → Found (places_from blank_range rs 0 PARAMETERS) (exprs_in l n) s
 some_listed rs l n m s e h k = record {
-  yes = λ f. (rw (places_all blank_range rs h) (k.yes f).0, rw (clamped l n s.valuation.numbers, sym e) (k.yes f).1);
+  yes = λ v f. (rw (places_all blank_range rs h) (k.yes v f).0, rw (clamped l n v.numbers, sym e) (k.yes v f).1);
   no = λ f. sym (first_listed rs l n m e h) ∙ k.no f;
 }

@@ -9,15 +9,13 @@ pub(crate) fn widest(b: Ranges) -> usize
 {
     let mut w = 0;
     let mut most = 0;
-    let mut i = 0;
-    while i < PARAMETERS {
+    for i in 0..PARAMETERS {
         let r = b.list[i];
         let n = widths::width(r);
         if most < n {
             most = n;
             w = i;
         }
-        i += 1;
     }
     w
 }

@@ -13,6 +13,5 @@ pub fn first_held(b: Ranges, zone: Zone) -> Valuation
     ensures { result ≡ valuation_of (numbers_in (first (range_list b) (map affine (take zone.count zone.ineqs)))) }
 {
     let list = zones::flat_of(zone);
-    let found = search::first(b, &list.numbers, list.count);
-    found.valuation
+    search::first(b, &list.numbers, list.count).unwrap_or(Valuation::ZERO)
 }

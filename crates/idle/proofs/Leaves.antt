@@ -5,11 +5,12 @@ use mathlib.Core.List.{List, [], ◌∷◌, ◌++◌, map}
 use mathlib.Core.Option.{none}
 use Prim.Native.Nat.{ℕ, suc, ◌+◌, ◌*◌, ◌<◌, min}
 use native.Mathlib.Omega.{arith}
-use borrow.Author.Tests.{eq-eqb, lt-ltb}
+use borrow.Author.Tests.{lt-ltb}
 use lib.Dec.{ltb}
 use lib.IntN.{ℤ, pos, ◌+ℤ◌}
 use lib.ListN.{length, get_or, take}
 use lib.Signed.{le_z, ◌≤ℤ◌, ◌<ℤ◌}
+use Rattle.integer.specs.Apart.{apart}
 use Rattle.integer.specs.Bools.{and_left, and_right}
 use Rattle.integer.specs.Order.{le_z_true}
 use Rattle.integer.specs.Split.{split, split-all}
@@ -19,27 +20,28 @@ use Rattle.constrain.specs.declared.rule.Rule.{Rule}
 use Rattle.expr.specs.Affine.{Affine, value, dot}
 use Rattle.expr.specs.RecordLaws.{inside_any}
 use Rattle.expr.specs.Records.{affine, no_bound, zero_bound, range_list}
-use Rattle.expr.specs.declared.bound.Asked.{Asked}
-use Rattle.expr.specs.declared.bound.Asked.TheVariants.{Yes, No, Ask}
 use Rattle.expr.specs.declared.bound.Bound.{Bound}
 use Rattle.expr.specs.declared.bound.Test.{Test}
+use Rattle.expr.specs.declared.bound.Test.TheVariants.{Yes, No, Ask}
 use Rattle.expr.specs.declared.number.Expr.{Expr}
 use Rattle.expr.specs.declared.range.Range.{Range}
 use Rattle.expr.specs.declared.range.Ranges.{Ranges}
+use Rattle.guards.specs.declared.Guard.{Guard}
 use Rattle.narrowing.specs.Best.{best_sum, best_of, best_sum_most}
 use Rattle.passing.specs.Laws.{pass_one}
 use Rattle.systems.specs.BoxLaws.{first_nothing, first_in_narrower}
 use Rattle.valuations.specs.Valuations.{satisfies, first}
 use Rattle.split.specs.Guarded.{rule_c}
 use Rattle.split.specs.Listed.{list_c}
-use Rattle.split.specs.Trees.{TreeC, cut_t, keep_t, tested_by, tested_c, push_c, tight_c, tree_at, worked_c, meant}
+use Rattle.split.specs.Trees.{TreeC, cut_t, keep_t, tested_c, push_c, tight_c, tree_at, worked_c, meant}
 use Rattle.split.specs.declared.list.Counted.{Counted}
-use Rattle.steps.specs.Steps.{asks_c, part_c}
+use Rattle.steps.specs.Steps.{asks_c, guard_of_c, asks_clocks, part_c}
 use Rattle.steps.specs.declared.step.Step.{Step}
 use Rattle.zones.specs.Hinted.{Hinted}
 use Rattle.zones.specs.Put.{map_last}
 use Rattle.zones.specs.Settled.{Verdict, is_none, never_c, opposite_c, on_c, settled_c}
 use Rattle.zones.specs.declared.hint.Hint.{Hint}
+use Rattle.zones.specs.declared.told.Told.TheVariants as kinds
 use Rattle.zones.specs.declared.zone.Zone.{Zone}
 use Rattle.idle.specs.Idle.{Fails, Idle}
 
@@ -78,86 +80,85 @@ never_best h e g b z n =
     ∙ sym (first_in_narrower (map affine xs) (affine e ∷ []) (range_list b) (range_list h.ranges) n.narrows)
     ∙ last_fails (map affine xs) (affine e) (range_list h.ranges) g)
 
-pub fails_best : (h : Hint) (t : Test) → t.asked ≡ Ask → best_of (affine t.expr) (range_list h.ranges) <ℤ pos 0 → Fails h t
+pub fails_best : (h : Hint) (t : Test) (e : Expr) → t ≡ Ask e → best_of (affine e) (range_list h.ranges) <ℤ pos 0 → Fails h t
 unfolding on_c
-fails_best h t a g b z n = rw (a, never_best h t.expr g b z n) refl
+fails_best h t e a g b z n = rw (a, never_best h e g b z n) refl
 
-pub fails_no : (h : Hint) (t : Test) → t.asked ≡ No → Fails h t
+pub fails_no : (h : Hint) (t : Test) → t ≡ No → Fails h t
 fails_no h t a b z n = rw a refl
 
 -- ---- a test that fails leads on
-no_side : (v w x y : Verdict) (r s t : Bool) → v.kind ≡ 0 → w.kind ≡ 1 → x.kind ≡ 3 → y.kind ≡ 8
-    → (cond r v (cond s w (cond t x y))).kind ≡ 0 → r ≡ true
+no_side : (v w x y : Verdict) (r s t : Bool) → v.kind ≡ kinds.No → w.kind ≡ kinds.Yes → x.kind ≡ kinds.Split
+    → y.kind ≡ kinds.Full
+    → (cond r v (cond s w (cond t x y))).kind ≡ kinds.No → r ≡ true
 no_side v w x y true s t hv hw hx hy h = refl
-no_side v w x y false true t hv hw hx hy h = absurd (omega arith)
-no_side v w x y false false true hv hw hx hy h = absurd (omega arith)
-no_side v w x y false false false hv hw hx hy h = absurd (omega arith)
+no_side v w x y false true t hv hw hx hy h = apart cc
+no_side v w x y false false true hv hw hx hy h = apart cc
+no_side v w x y false false false hv hw hx hy h = apart cc
 
-never_told : (b : Ranges) (z : Zone) (e : Expr) → (on_c b z e).kind ≡ 0 → never_c b z e ≡ true
+never_told : (b : Ranges) (z : Zone) (e : Expr) → (on_c b z e).kind ≡ kinds.No → never_c b z e ≡ true
 unfolding on_c
 never_told b z e h = no_side _ _ _ _ (never_c b z e) (never_c b z (opposite_c e)) (ltb z.count 24) refl refl refl refl h
 
-leads_on_lem : (b : Ranges) (z : Zone) (a : Asked) (e : Expr) (f : Bool → TreeC) (k : ℕ)
-    → (settled_c b z (record { asked = a; expr = e })).kind ≡ 0
-    → (n : ℕ) × ((out : Counted) → worked_c b (tested_by a e f) k z out ≡ worked_c b (f false) n z out)
-unfolding worked_c
-leads_on_lem b z Yes e f k h = absurd (omega arith)
-leads_on_lem b z No e f k h = (k, λ out. refl)
-leads_on_lem b z Ask e f k h = (suc k, λ out. rw (never_told b z e h) refl)
-
-leads : (b : Ranges) (z : Zone) (t : Test) (f : Bool → TreeC) (k : ℕ) → (settled_c b z t).kind ≡ 0
+leads : (b : Ranges) (z : Zone) (t : Test) (f : Bool → TreeC) (k : ℕ) → (settled_c b z t).kind ≡ kinds.No
     → (n : ℕ) × ((out : Counted) → worked_c b (tested_c t f) k z out ≡ worked_c b (f false) n z out)
-unfolding tested_c
-leads b z t f k h = leads_on_lem b z t.asked t.expr f k h
+unfolding tested_c worked_c
+leads b z Yes f k h = apart cc
+leads b z No f k h = (k, λ out. refl)
+leads b z (Ask e) f k h = (suc k, λ out. rw (never_told b z e h) refl)
 
 -- ---- a guard whose first two tests fail
 module _ (b : Ranges) (w : ℕ) (st : Step) (z : Zone) where
   abbrev r : Rule
-  r = rule_c w st.guard z
+  r = rule_c w (guard_of_c st) z
 
   starts : asks_c st ≡ true → (out : Counted) → pass_one b w st z out ≡ worked_c b (tree_at r 0 z.bounds) 0 z out
   unfolding part_c meant
   starts a out = rw a refl
 
-  tight_leads : (k : ℕ) → (settled_c b z (tight_test r)).kind ≡ 0
+  tight_leads : (k : ℕ) → (settled_c b z (tight_test r)).kind ≡ kinds.No
       → (n : ℕ) × ((out : Counted) → worked_c b (tight_c r z.bounds) k z out ≡ list_c z n out)
   unfolding tight_c worked_c
   tight_leads k h = leads b z (tight_test r) (λ t. cond t (push_c r 25 0 z.bounds) (keep_t z.bounds)) k h
 
-  void_leads : (settled_c b z (void_test r)).kind ≡ 0
+  void_leads : (settled_c b z (void_test r)).kind ≡ kinds.No
       → (n : ℕ) × ((out : Counted) → worked_c b (tree_at r 0 z.bounds) 0 z out ≡ worked_c b (tight_c r z.bounds) n z out)
   unfolding tree_at
   void_leads h = leads b z (void_test r) (λ t. cond t cut_t (tight_c r z.bounds)) 0 h
 
-  leaves : asks_c st ≡ true → (settled_c b z (void_test r)).kind ≡ 0 → (settled_c b z (tight_test r)).kind ≡ 0 → Idle b w st z
+  leaves : asks_c st ≡ true → (settled_c b z (void_test r)).kind ≡ kinds.No → (settled_c b z (tight_test r)).kind ≡ kinds.No → Idle b w st z
   leaves a h g =
       let first = void_leads h in
       let second = tight_leads first.0 g in
       record { tests = second.0; same = λ out. starts a out ∙ first.1 out ∙ second.1 out }
 
-asks_guard : (st : Step) → st.kind ≡ 1 → st.guard.left < 5 → st.guard.right < 5 → asks_c st ≡ true
-unfolding asks_c
-asks_guard st k l r = rw (eq-eqb st.kind 1 k, lt-ltb st.guard.left 5 l, lt-ltb st.guard.right 5 r) refl
+module _ (h : Hint) (st : Step) (z : Zone) (a : asks_c st ≡ true) (long : length z.bounds ≡ 25) where
+  abbrev g : Guard
+  g = guard_of_c st
 
-module _ (h : Hint) (st : Step) (z : Zone) (k : st.kind ≡ 1) (l : st.guard.left < 5) (r : st.guard.right < 5)
-    (long : length z.bounds ≡ 25) where
   read : (i j : ℕ) → i < 5 → j < 5 → get_or z.bounds (5 * i + j) no_bound ≡ get_or z.bounds (5 * i + j) zero_bound
   read i j p q = inside_any z.bounds (5 * i + j) no_bound zero_bound (omega (arith, long))
 
-  void_is : (w : ℕ) → tighter_c (sum_c st.guard.bound (get_or z.bounds (5 * st.guard.right + st.guard.left) no_bound)) zero_bound
-      ≡ void_test (rule_c w st.guard z)
+  few : (g.left < 5) × (g.right < 5)
+  few = asks_clocks st a
+
+  void_is : (w : ℕ) → tighter_c (sum_c g.bound (get_or z.bounds (5 * g.right + g.left) no_bound)) zero_bound
+      ≡ void_test (rule_c w g z)
   unfolding void_test
-  void_is w = ap (λ (x : Bound). tighter_c (sum_c st.guard.bound x) zero_bound) (read st.guard.right st.guard.left r l)
+  void_is w = ap (λ (x : Bound). tighter_c (sum_c g.bound x) zero_bound) (read g.right g.left few.1 few.0)
 
-  tight_is : (w : ℕ) → tighter_c st.guard.bound (get_or z.bounds (5 * st.guard.left + st.guard.right) no_bound)
-      ≡ tight_test (rule_c w st.guard z)
+  tight_is : (w : ℕ) → tighter_c g.bound (get_or z.bounds (5 * g.left + g.right) no_bound)
+      ≡ tight_test (rule_c w g z)
   unfolding tight_test
-  tight_is w = ap (tighter_c st.guard.bound) (read st.guard.left st.guard.right l r)
+  tight_is w = ap (tighter_c g.bound) (read g.left g.right few.0 few.1)
 
-  pub idle_is : (t u : Test) → t ≡ tighter_c (sum_c st.guard.bound (get_or z.bounds (5 * st.guard.right + st.guard.left) no_bound))
-      zero_bound → u ≡ tighter_c st.guard.bound (get_or z.bounds (5 * st.guard.left + st.guard.right) no_bound)
+  pub idle_is : (guard : Guard) → guard ≡ g → (left right : ℕ) → left ≡ guard.left → right ≡ guard.right → (t u : Test)
+      → t ≡ tighter_c (sum_c guard.bound (get_or z.bounds (5 * right + left) no_bound)) zero_bound
+      → u ≡ tighter_c guard.bound (get_or z.bounds (5 * left + right) no_bound)
       → Fails h t → Fails h u → (b : Ranges) → Hinted b z h → (w : ℕ) → Idle b w st z
-  idle_is t u ht hu ft fu b n w =
-      leaves b w st z (asks_guard st k l r)
-      (ap (λ (x : Test). (settled_c b z x).kind) (sym (void_is w) ∙ sym ht) ∙ ft b z n)
-      (ap (λ (x : Test). (settled_c b z x).kind) (sym (tight_is w) ∙ sym hu) ∙ fu b z n)
+  idle_is guard hg left right hl hr t u ht hu ft fu b n w =
+      let void : t ≡ tighter_c (sum_c g.bound (get_or z.bounds (5 * g.right + g.left) no_bound)) zero_bound = rw (hl, hr, hg) at ht in
+      let tight : u ≡ tighter_c g.bound (get_or z.bounds (5 * g.left + g.right) no_bound) = rw (hl, hr, hg) at hu in
+      leaves b w st z a
+      (ap (λ (x : Test). (settled_c b z x).kind) (sym (void_is w) ∙ sym void) ∙ ft b z n)
+      (ap (λ (x : Test). (settled_c b z x).kind) (sym (tight_is w) ∙ sym tight) ∙ fu b z n)

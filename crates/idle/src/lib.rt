@@ -7,7 +7,7 @@ ghost use Rattle.expr.specs.declared.range.Ranges.{Ranges};
 ghost use Rattle.zones.specs.Hinted.{Hinted};
 ghost use Rattle.idle.specs.Idle.{Fails, Idle};
 
-use expr::{Asked, Bound, Test};
+use expr::{Bound, Test};
 use steps::Step;
 use zones::Hint;
 
@@ -15,11 +15,10 @@ use zones::Hint;
 fn fails(hint: Hint, test: Test) -> bool
     ensures { result ≡ true → Fails hint test }
 {
-    let asked = test.asked;
-    match asked {
-        Asked::Yes => false,
-        Asked::No => true,
-        Asked::Ask => narrowing::best(hint.ranges, test.expr) < 0,
+    match test {
+        Test::Yes => false,
+        Test::No => true,
+        Test::Ask(e) => narrowing::best(hint.ranges, e) < 0,
     }
 }
 
@@ -30,20 +29,16 @@ pub fn idle(hint: Hint, step: Step, cells: &[i32], marks: &[u8], p: usize) -> bo
         → Hinted b (zone_of n (get_or (cells_in cells.now marks.now) p no_cell))
         hint → (w : ℕ) → Idle b w step (zone_of n (get_or (cells_in cells.now marks.now) p no_cell)) }
 {
-    let guard = step.guard;
-    if step.kind == 1 {
-        if guard.left < 5 {
-            if guard.right < 5 {
-                let left = guard.left as usize;
-                let right = guard.right as usize;
-                let bound = guard.bound;
-                let back = cells::bound_at(cells, marks, p, 5 * right + left);
-                if fails(hint, bound.sum(back).tighter(Bound::ZERO)) {
-                    let there = cells::bound_at(cells, marks, p, 5 * left + right);
-                    return fails(hint, bound.tighter(there));
-                }
-            }
-        }
+    let Some(guard) = steps::asked(step) else {
+        return false;
+    };
+    let left = usize::from(guard.left);
+    let right = usize::from(guard.right);
+    let bound = guard.bound;
+    let back = cells::bound_at(cells, marks, p, 5 * right + left);
+    if fails(hint, bound.sum(back).tighter(Bound::ZERO)) {
+        let there = cells::bound_at(cells, marks, p, 5 * left + right);
+        return fails(hint, bound.tighter(there));
     }
     false
 }

@@ -1,41 +1,25 @@
 -- The index of a file: the same bodies in the same order as in `File`, of whose locations and transitions the places are kept.
-use Rattle.std.specs.Prelude.{ℕ, List, length, replicate}
-use Rattle.answers.specs.Numbers.{checked_as}
+use Rattle.std.specs.Prelude.{ℕ, List, length}
+use Rattle.std.specs.declared.result.Result.{Result}
+use Rattle.std.specs.declared.result.Result.TheVariants.{Ok, Err}
+use Rattle.answers.specs.Numbers.{numbered, refusal_as}
+use Rattle.answers.specs.declared.file.Refusal.{Refusal}
 use Rattle.contents.specs.declared.Contents.{Contents}
 use Rattle.contents.specs.Contents.{most_parameters}
 use Rattle.cursor.specs.Cursor.{advanced}
-use Rattle.expr.specs.Records.{zero_ranges}
 use Rattle.parameters.specs.Parameters.{parameters_at}
 use Rattle.route.specs.Route.{route_at}
 use Rattle.index.specs.declared.Index.{Index}
 use Rattle.index.specs.SheetIn.{sheet_in}
 use Rattle.places.specs.Places.{location_places, transition_places}
 use Rattle.reading.specs.declared.SheetAt.{SheetAt}
-use Rattle.indexing.specs.declared.Indexing.{Indexing}
 use Rattle.indexing.specs.declared.IndexAt.{IndexAt}
-use Rattle.reading.specs.File.{Read}
+use Rattle.reading.specs.File.{Read, blank_sheet}
 
--- the code's record of what reading gives, with the sheet that the index stands for
-abbrev pub indexed_as : List ℕ → Indexing → Read
-indexed_as s r = record { answer = checked_as r.checked; sheet = sheet_in s r.index }
-
--- the index of nothing
-abbrev pub blank_index : Index
-blank_index =
-    record {
-      version = 0;
-      parameters = 0;
-      clocks = 0;
-      locations = 0;
-      transitions = 0;
-      moves = 0;
-      second = 0;
-      third = 0;
-      ranges = zero_ranges;
-      location = replicate 16 0;
-      transition = replicate 32 0;
-      route = replicate 32 0;
-    }
+-- what the code answers, with the sheet that the index stands for
+abbrev pub indexed_as : List ℕ → Result Index Refusal → Read
+indexed_as s (Ok ix) = record { answer = numbered 0 0; sheet = sheet_in s ix }
+indexed_as s (Err r) = record { answer = refusal_as r; sheet = blank_sheet }
 
 -- the four bodies, one after another
 unfoldable pub index_of : List ℕ → Contents → IndexAt

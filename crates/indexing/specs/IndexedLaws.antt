@@ -2,6 +2,7 @@
 use Rattle.std.specs.Prelude.{ℕ, ◌-◌, ◌≤◌, ◌≡◌, refl, List, Bool, true, false, length}
 use Rattle.std.proofs.Common.{sym, ap, subst}
 use native.Mathlib.Omega.{arith}
+use Rattle.std.specs.declared.result.Result.TheVariants.{Ok}
 use Rattle.cursor.specs.declared.Cursor.{Cursor}
 use Rattle.cursor.specs.Cursor.{advanced, byte_field, word_field}
 use Rattle.cursor_laws.specs.Laws.{within_true, byte_field_right, word_field_right, word_field_ok}
@@ -14,30 +15,25 @@ use Rattle.parameters.specs.Parameters.{parameters_at}
 use Rattle.parameters.specs.ParameterLaws.{parameters_at_right}
 use Rattle.automaton.specs.declared.locations.LocationsAt.{LocationsAt}
 use Rattle.automaton.specs.declared.transitions.TransitionsAt.{TransitionsAt}
-use Rattle.automaton.specs.Automaton.{locations_at, transitions_at, blank_locations, blank_transitions}
+use Rattle.automaton.specs.Automaton.{locations_at, transitions_at}
 use Rattle.automaton.specs.AutomatonLaws.{locations_at_right, transitions_at_right}
 use Rattle.route.specs.declared.RouteAt.{RouteAt}
 use Rattle.route.specs.Route.{route_at}
 use Rattle.route.specs.RouteLaws.{route_at_right}
 use Rattle.places.specs.declared.LocationPlaces.{LocationPlaces}
 use Rattle.places.specs.declared.TransitionPlaces.{TransitionPlaces}
-use Rattle.index.specs.Listed.{listed, listed_from}
+use Rattle.index.specs.Listed.{listed}
+use Rattle.index.specs.declared.Index.{Index}
 use Rattle.index.specs.SheetIn.{location_in, transition_in, sheet_in}
 use Rattle.places.specs.Places.{location_places, transition_places}
 use Rattle.places.specs.PlaceLaws.{location_cursor, location_clocks, location_count, location_again, location_lists}
 use Rattle.places.specs.PlaceLaws.{transition_cursor, transition_count, transition_again, transition_lists}
 use Rattle.reading.specs.declared.SheetAt.{SheetAt}
 use Rattle.sheet.specs.WellFormed.{WellFormed}
-use Rattle.indexing.specs.declared.Indexing.{Indexing}
-use Rattle.reading.specs.File.{Fine, blank_sheet, Read, bodies_of, judged_bodies, read_of}
-use Rattle.indexing.specs.Indexed.{blank_index, index_of, sheet_at, indexed_as}
+use Rattle.reading.specs.File.{Read, bodies_of, judged_bodies, read_of}
+use Rattle.indexing.specs.Indexed.{index_of, sheet_at, indexed_as}
 use Rattle.reading.specs.Versions.{most_few}
 use Rattle.reading.proofs.Accepted.{read_well_formed}
-
--- the blank index stands for the blank sheet
-pub blank_same : (s : List ℕ) → sheet_in s blank_index ≡ blank_sheet
-unfolding sheet_in blank_sheet listed_from location_in transition_in blank_locations blank_transitions
-blank_same s = refl
 
 -- ---- the ends of the bodies
 module _ (s : List ℕ) where
@@ -163,7 +159,7 @@ index_same s z h =
     (index_cursor s (contents_of s))
     (λ o. index_sheet s (contents_of s) small.0 small.1 o)
 
--- the sheet of a result of `indexed` that is not refused is well formed, by its contract
-pub indexing_well_formed :
-    (s : List ℕ) (r : Indexing) → indexed_as s r ≡ read_of s → Fine (indexed_as s r) → WellFormed (sheet_in s r.index)
-indexing_well_formed s r e h = subst WellFormed (sym (ap (λ (x : Read). x.sheet) e)) (read_well_formed s (subst Fine e h))
+-- the sheet of an index that `indexed` answers is well formed, by its contract
+pub indexing_well_formed : (s : List ℕ) (ix : Index) → indexed_as s (Ok ix) ≡ read_of s → WellFormed (sheet_in s ix)
+indexing_well_formed s ix e =
+    subst WellFormed (sym (ap (λ (x : Read). x.sheet) e)) (read_well_formed s (sym (ap (λ (x : Read). x.answer.number) e)))

@@ -2,11 +2,10 @@
 #![tactic(auto)]
 
 ghost use Rattle.std.specs.Prelude.{◌≡◌};
-ghost use Rattle.answers.specs.Numbers.{checked_as, refusal_as};
 ghost use Rattle.reading.specs.File.{judged_bodies, read_of};
-ghost use Rattle.indexing.specs.Indexed.{blank_index, index_of, sheet_at, indexed_as};
+ghost use Rattle.indexing.specs.Indexed.{index_of, sheet_at, indexed_as};
 
-use answers::file::{Checked, Refusal};
+use answers::file::Refusal;
 use contents::Contents;
 use contents::entries::{contents_of, most_parameters, sized};
 use cursor::Cursor;
@@ -17,28 +16,11 @@ use places::{location_places, transition_places};
 use reading::few_valuations;
 use route::route_at;
 
-// What reading a file gives: that it is fine, and its index; or why it is refused, and a blank index.
-#[derive(Clone, Copy)]
-pub struct Indexing {
-    pub checked: Checked,
-    pub index: Index,
-}
-
 // The four bodies: where reading them ended, and the index.
 #[derive(Clone, Copy)]
 pub struct IndexAt {
     pub cursor: Cursor,
     pub index: Index,
-}
-
-// The index of a file that is refused.
-fn no_index(refusal: Refusal) -> Indexing
-    ensures { (checked_as result.checked ≡ refusal_as refusal) × (result.index ≡ blank_index) }
-{
-    Indexing {
-        checked: Checked::Refused(refusal),
-        index: Index::BLANK,
-    }
 }
 
 // The four bodies of a file, read in order.
@@ -88,45 +70,36 @@ fn index_of(file: &[u8], contents: Contents) -> IndexAt
     }
 }
 
-// The index of a file whose body 4 starts at `third` and whose fields are right: its ranges and then its route are judged.
-fn judged_index(file: &[u8], third: u32, bodies: IndexAt) -> Indexing
+// Judges the ranges and then the route of a file whose body 4 starts at `third`: its bodies have been read.
+fn judged_index(file: &[u8], third: u32, bodies: IndexAt) -> Result<Index, Refusal>
     ensures { indexed_as file.now result ≡ judged_bodies third (sheet_at file.now bodies) }
 {
     let cursor = bodies.cursor;
     let index = bodies.index;
-    let ranges = index.ranges;
-    if cursor.ok {
-        if few_valuations(ranges) {
-            let link = links_of(file, index);
-            if link.ok {
-                Indexing {
-                    checked: Checked::Fine,
-                    index,
-                }
-            } else {
-                no_index(Refusal::Route((third as usize) + 1 + (link.index as usize)))
-            }
-        } else {
-            no_index(Refusal::Valuations)
-        }
-    } else {
-        no_index(Refusal::Body(cursor.at))
+    if !cursor.ok {
+        return Err(Refusal::Body(cursor.at));
+    }
+    if !few_valuations(index.ranges) {
+        return Err(Refusal::Valuations);
+    }
+    match links_of(file, index) {
+        Ok(_) => Ok(index),
+        Err(at) => Err(Refusal::Route((third as usize) + 1 + (at as usize))),
     }
 }
 
 // The index of a file, or why it is refused.
-pub fn indexed(file: &[u8]) -> Indexing
+pub fn indexed(file: &[u8]) -> Result<Index, Refusal>
     ensures { indexed_as file.now result ≡ read_of file.now }
 {
-    if sized(file) {
-        let contents = contents_of(file);
-        let cursor = contents.cursor;
-        if cursor.ok {
-            judged_index(file, contents.third, index_of(file, contents))
-        } else {
-            no_index(Refusal::Contents(cursor.at))
-        }
+    if !sized(file) {
+        return Err(Refusal::Size);
+    }
+    let contents = contents_of(file);
+    let cursor = contents.cursor;
+    if cursor.ok {
+        judged_index(file, contents.third, index_of(file, contents))
     } else {
-        no_index(Refusal::Size)
+        Err(Refusal::Contents(cursor.at))
     }
 }

@@ -1,19 +1,9 @@
 // Inequalities in a flat list, 1 + PARAMETERS numbers each.
-ghost use Rattle.std.specs.Prelude.{◌≡◌, pos, length, get_or, ◌+◌, ◌<◌};
-ghost use Rattle.expr.specs.Records.{affine};
-ghost use Rattle.inequalities.specs.Flat.{expr_at, expr_from};
+ghost use Rattle.std.specs.Prelude.{◌≡◌, length, ◌∷◌, ◌+◌, ◌<◌, ◌≤◌};
+ghost use Rattle.expr.specs.Records.{affine, four};
+ghost use Rattle.inequalities.specs.Flat.{expr_at, expr_from, put_from};
 
 use expr::{Expr, PARAMETERS};
-
-// The number at i, or 0 past the end.
-fn number(flat: &[i32], i: usize) -> i32
-    ensures { result ≡ get_or flat.now i (pos 0) }
-{
-    if i < flat.len() {
-        return flat[i];
-    }
-    0
-}
 
 // The inequality whose numbers start at `at`, none of them past the end.
 fn whole(flat: &[i32], at: usize) -> Expr
@@ -22,27 +12,22 @@ fn whole(flat: &[i32], at: usize) -> Expr
 {
     let mut e = Expr::ZERO;
     e.constant = flat[at];
-    let mut i = 0;
-    while i < PARAMETERS {
+    for i in 0..PARAMETERS {
         e.coefs[i] = flat[at + 1 + i];
-        i += 1;
     }
     e
 }
 
-// The inequality whose numbers start at `at`.
+// The inequality whose numbers start at `at`, the last of them past the end, where every number is 0.
 fn ended(flat: &[i32], at: usize) -> Expr
-    requires { at + 4 < 18446744073709551616 }
+    requires { length flat.now ≤ at + 4 }
     ensures { affine result ≡ expr_from flat.now at }
 {
-    let mut e = Expr::ZERO;
-    e.constant = number(flat, at);
-    let mut i = 0;
-    while i < PARAMETERS {
-        e.coefs[i] = number(flat, at + 1 + i);
-        i += 1;
+    let mut row = [0i32; 5];
+    if let Some(rest) = flat.get(at..) {
+        row[..rest.len()].copy_from_slice(rest);
     }
-    e
+    whole(&row, 0)
 }
 
 // Inequality k; 0 ≥ 0 past the end.
@@ -57,4 +42,13 @@ pub fn inequality(flat: &[i32], k: usize) -> Expr
         return whole(flat, at);
     }
     ended(flat, at)
+}
+
+// Writes e into the list, its constant at `at` and its coefficients behind it.
+pub fn put(flat: &mut [i32], at: usize, e: Expr)
+    requires { at + 5 ≤ length flat.old }
+    ensures { flat.new ≡ put_from flat.old at (e.constant ∷ four e.coefs) }
+{
+    flat[at] = e.constant;
+    flat[at + 1..at + 5].copy_from_slice(&e.coefs);
 }

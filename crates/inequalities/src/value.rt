@@ -11,7 +11,7 @@ pub fn term(a: i32, x: i16) -> i64
     ensures value { result ≡ a *ℤ x }
     ensures small { Sized result }
 {
-    numbers::wide(a) * numbers::wide16(x)
+    i64::from(a) * i64::from(x)
 }
 
 // The value of e at a valuation.
@@ -19,11 +19,9 @@ pub fn value_at(v: Valuation, e: Expr) -> i64
     ensures value { result ≡ value (affine e) v.numbers }
     ensures small { SizedTo 4 result }
 {
-    let mut total = numbers::wide(e.constant);
-    let mut j = 0;
-    while j < PARAMETERS {
+    let mut total = i64::from(e.constant);
+    for j in 0..PARAMETERS {
         total += term(e.coefs[j], v.numbers[j]);
-        j += 1;
     }
     total
 }

@@ -77,7 +77,7 @@ fn step(s: Stack, t: Top, joined: bool, n: usize, count: usize) -> Stack
         }
         r.list[k - 2] = Item {
             at: t.below,
-            count: numbers::less(t.level, 1),
+            count: t.level.saturating_sub(1),
         };
         r.count = k - 1;
         return r;
@@ -100,8 +100,9 @@ pub(crate) fn stacked(cells: &[i32], counts: &[usize], n: usize) -> Stack
     ensures same { (b : Ranges) → held_on b (zones_in cells.now counts.now) result.list result.count
         ≡ held_in b (take n (zones_in cells.now counts.now)) }
 {
-    let m = numbers::at_most(n, 32);
+    let m = n.min(32);
     let mut s = Stack::EMPTY;
+    // No `for`: a turn puts the next zone on the stack or joins the two on top, so that their number is not known before.
     while s.next <= m {
         let t = highest(s);
         let joined = siblings::siblings(cells, t.below, t.top, t.level);

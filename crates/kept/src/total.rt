@@ -14,12 +14,10 @@ pub fn kept(b: Ranges, cells: &[i32], counts: &[usize], n: usize) -> usize
 {
     let s = stack::stacked(cells, counts, n);
     let mut total = 0;
-    let mut i = 0;
-    while i < s.count {
+    for i in 0..s.count {
         let q = s.list[i];
         let at = 250 * q.at;
-        total += counting::count(b, &cells[at..], numbers::at_most(q.count, 24));
-        i += 1;
+        total += counting::count(b, &cells[at..], q.count.min(24));
     }
     total
 }

@@ -12,7 +12,7 @@ use Rattle.cursor.specs.Cursor.{advanced, below_field, iterate}
 use Rattle.cursor_laws.specs.Counted.{beyond}
 use Rattle.automaton.specs.declared.Transition.{Transition}
 use Rattle.automaton.specs.Automaton.{blank_transition, no_transition, transition_at}
-use Rattle.route.specs.declared.Link.{Link}
+use Rattle.std.proofs.Common.{Result, Ok, Err}
 use Rattle.route.specs.Route.{ends_at, link_step, links_of}
 use Rattle.index.specs.declared.Index.{Index}
 use Rattle.index.specs.Listed.{listed, listed_long}
@@ -46,25 +46,32 @@ module _ (s : List ℕ) (ix : Index) where
       let past : length (listed (transition_in s ix) 32) ≤ n = omega arith in
       rw (get_or-eq_default (listed (transition_in s ix) 32) no_transition past) refl
 
+-- past the count a step does nothing
+past :
+    (transition : List Transition) (route : List ℕ) (moves k : ℕ) (link : Result ℕ ℕ) → moves ≤ k →
+    link_step transition route moves k link ≡ link
+unfolding link_step
+past transition route moves k (Ok location) h =
+    let t = le-ltb k moves h in
+    rw t refl
+past transition route moves k (Err index) h = refl
+
 -- a route that has been followed up to its count
 links_cases :
-    (transition : List Transition) (route : List ℕ) (moves i : ℕ) (a : Link) (b : Bool) → ltb moves 32 ≡ b → i ≡ min moves 32 →
-    iterate (link_step transition route moves) a i ≡ iterate (link_step transition route moves) a 32
-unfolding link_step
-links_cases transition route moves i a true e h =
+    (transition : List Transition) (route : List ℕ) (moves i : ℕ) (b : Bool) → ltb moves 32 ≡ b → i ≡ min moves 32 →
+    iterate (link_step transition route moves) (Ok 0) i ≡ iterate (link_step transition route moves) (Ok 0) 32
+links_cases transition route moves i true e h =
     let few = ltb-true moves 32 e in
     let same : i ≡ moves = omega arith in
-    rw same
-    (sym (beyond (link_step transition route moves) a moves 32 (omega arith) (λ k x past. let t = le-ltb k moves past in rw t refl)))
-links_cases transition route moves i a false e h =
+    rw same (sym (beyond (link_step transition route moves) (Ok 0) moves 32 (omega arith) (past transition route moves)))
+links_cases transition route moves i false e h =
     let many = ltb-false moves 32 e in
     let same : i ≡ 32 = omega arith in
     rw same refl
 
 pub links_done :
-    (transition : List Transition) (route : List ℕ) (moves i n : ℕ) (link : Link) → n ≡ min moves 32 → i ≤ n → (i < n → ⊥) →
-    link ≡ iterate (link_step transition route moves) (record { ok = true; index = 0; location = 0 }) i →
-    link ≡ links_of transition route moves
+    (transition : List Transition) (route : List ℕ) (moves i n location : ℕ) → n ≡ min moves 32 → i ≤ n → (i < n → ⊥) →
+    Ok location ≡ iterate (link_step transition route moves) (Ok 0) i → Ok location ≡ links_of transition route moves
 unfolding links_of
-links_done transition route moves i n link e l g h =
-    h ∙ links_cases transition route moves i (record { ok = true; index = 0; location = 0 }) (ltb moves 32) refl (omega arith)
+links_done transition route moves i n location e l g h =
+    h ∙ links_cases transition route moves i (ltb moves 32) refl (omega arith)

@@ -2,12 +2,13 @@
 #![tactic(auto)]
 
 ghost use Rattle.std.specs.Prelude.{◌≡◌, ◌<◌};
+ghost use Rattle.std.specs.declared.result.Result.TheVariants.{Ok};
 ghost use Rattle.route.specs.Route.{ends_at, link_step, links_of};
 ghost use Rattle.index.specs.SheetIn.{sheet_in};
 
 use cursor::below_field;
 use index::{Index, standing};
-use route::{Ends, Link};
+use route::Ends;
 
 // The ends of the transition with this number, 0 and 0 where there is none.
 fn ends_at(file: &[u8], ix: Index, number: u8) -> Ends
@@ -28,45 +29,29 @@ fn ends_at(file: &[u8], ix: Index, number: u8) -> Ends
     Ends { from: 0, to: 0 }
 }
 
-// One more move, which the route has.
-fn link_step(file: &[u8], ix: Index, i: usize, link: Link) -> Link
+// One more move, which the route has: where the route has arrived then, or the move's index where it does not start where the last
+// arrived.
+fn link_step(file: &[u8], ix: Index, i: usize, location: usize) -> Result<usize, u8>
     requires { (i < 32) × (i < ix.moves) }
-    ensures { result ≡ link_step (sheet_in file.now ix).transition ix.route ix.moves i link }
+    ensures { result ≡ link_step (sheet_in file.now ix).transition ix.route ix.moves i (Ok location) }
 {
     let ends = ends_at(file, ix, ix.route[i]);
-    if link.ok {
-        if ends.from == link.location {
-            Link {
-                ok: true,
-                index: i as u8,
-                location: ends.to,
-            }
-        } else {
-            Link {
-                ok: false,
-                index: i as u8,
-                location: 0,
-            }
-        }
+    if ends.from == location {
+        Ok(ends.to)
     } else {
-        link
+        Err(i as u8)
     }
 }
 
-// The whole route followed from location 0.
-pub fn links_of(file: &[u8], ix: Index) -> Link
+// The whole route followed from location 0: where it has arrived, or the index of the first move that does not start where the last
+// arrived.
+pub fn links_of(file: &[u8], ix: Index) -> Result<usize, u8>
     ensures { result ≡ links_of (sheet_in file.now ix).transition ix.route ix.moves }
 {
-    let n = numbers::at_most(ix.moves as usize, 32);
-    let mut link = Link {
-        ok: true,
-        index: 0,
-        location: 0,
-    };
-    let mut i = 0;
-    while i < n {
-        link = link_step(file, ix, i, link);
-        i += 1;
+    let n = usize::from(ix.moves).min(32);
+    let mut location = 0;
+    for i in 0..n {
+        location = link_step(file, ix, i, location)?;
     }
-    link
+    Ok(location)
 }

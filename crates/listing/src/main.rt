@@ -3,66 +3,56 @@
 // prints no more.
 #![tactic(auto)]
 
-mod text;
 mod zone;
 
 ghost use Rattle.std.specs.Prelude.{◌≤◌, IfOk, length};
 
-use answers::windows::{Answer, Counts};
+use answers::Numbered;
+use answers::windows::{Counts, Refused};
 use std::io;
 use std::io::Read;
 use windows::Piece;
 
 // The line of the counts. It answers whether all was written, as each function below does.
 fn print_counts(rt: &impl Print, counts: Counts) -> io::Result<()> {
-    text::named(rt, b"pieces", counts.pieces)?;
-    text::named(rt, b" kept", counts.kept)?;
-    text::named(rt, b" cut", counts.cut)?;
-    text::word(rt, b"\n")
+    println!(rt;
+        "pieces {} kept {} cut {}",
+        counts.pieces, counts.kept, counts.cut
+    )
 }
 
-// The lines of the first zones of a table, that many.
-fn print_zones(
-    rt: &impl Print,
-    table: [Piece; 40],
-    pieces: usize,
-    clocks: usize,
-) -> io::Result<()> {
-    let n = numbers::at_most(pieces, 32);
-    let mut k = 0;
-    while k < n {
-        let z = table[k];
+// The lines of the pieces of a sheet with so many clocks.
+fn print_pieces(rt: &impl Print, pieces: &[Piece], clocks: usize) -> io::Result<()> {
+    for (k, z) in pieces.iter().enumerate() {
         zone::print_zone(rt, k, z, clocks)?;
-        k += 1;
     }
     Ok(())
 }
 
 // The line of a refusal.
-fn print_refusal(rt: &impl Print, answer: Answer) -> io::Result<()> {
-    let refusal = answers::windows::numbered(answer);
-    text::named(rt, b"refused", refusal.number)?;
-    text::named(rt, b" place", refusal.place)?;
-    text::word(rt, b"\n")
+fn print_refusal(rt: &impl Print, refused: Refused) -> io::Result<()> {
+    let refusal = Numbered::from(refused);
+    println!(rt; "refused {} place {}", refusal.number, refusal.place)
 }
 
-// How many clocks the sheet of a file has.
+// How many clocks the sheet of a file has; none where the file is refused.
 fn clocks_of(file: &[u8]) -> usize {
-    let reading = reading::read(file);
-    let s = reading.sheet;
-    s.clocks
+    match reading::read(file) {
+        Ok(sheet) => sheet.clocks,
+        Err(_) => 0,
+    }
 }
 
 // What Windows found in a file.
 fn print_listing(rt: &impl Print, file: &[u8]) -> io::Result<()> {
     let reply = tabled::windows(file, [Piece::BLANK; 40], 32);
-    let answer = reply.answer;
-    let table = reply.table;
-    if let Answer::Listed(counts) = answer {
-        print_counts(rt, counts)?;
-        return print_zones(rt, table, counts.pieces, clocks_of(file));
+    match reply.answer {
+        Ok(counts) => {
+            print_counts(rt, counts)?;
+            print_pieces(rt, &reply.table[..counts.pieces.min(32)], clocks_of(file))
+        }
+        Err(refused) => print_refusal(rt, refused),
     }
-    print_refusal(rt, answer)
 }
 
 // Whether the input has ended. At the end one more read gives 0; otherwise it fails, or it gives a byte that the file read so far lacks.

@@ -1,6 +1,5 @@
 -- The most of an inequality in a box, term by term, and what a cut at one place keeps.
 use mathlib.Core.Path.{◌≡◌, refl, ap, sym, ◌∙◌}
-use mathlib.Core.Bool.{Bool, true, false, cond}
 use mathlib.Core.List.{List, [], ◌∷◌}
 use Prim.Native.Nat.{ℕ, zero, suc, ◌+◌, ◌-◌, ◌≤◌, ◌<◌}
 use native.Mathlib.Numerals.{add-one}
@@ -8,7 +7,7 @@ use native.Mathlib.Omega.{arith}
 use lib.IntN.{ℤ, pos, ◌+ℤ◌, ◌-ℤ◌, ◌*ℤ◌}
 use lib.ListN.{length, get_or, set, drop, replicate}
 use lib.Seq.{drop-cons}
-use lib.Signed.{le_z, ◌≤ℤ◌, ◌<ℤ◌}
+use lib.Signed.{◌≤ℤ◌, ◌<ℤ◌}
 use mir.Syntax.{w32, w64}
 use mir.Val.{SFits, to_z, of_z}
 use mir.ValLaws.{to_z-of_z}
@@ -22,7 +21,7 @@ use Rattle.expr.specs.declared.number.Expr.{Expr}
 use Rattle.expr.specs.declared.range.Range.{Range}
 use Rattle.narrowing.specs.Cut.{Within, Cut, Part}
 use Rattle.intervals.specs.Interval.{EMPTY, interval, Tame}
-use Rattle.narrowing.specs.Best.{best, end_of, best_sum, best_of, best_most, best_sum_most}
+use Rattle.narrowing.specs.Best.{best, best_sum, best_of, best_most, best_sum_most}
 use Rattle.inequalities.specs.Sizes.{Sized, SizedTo}
 use Rattle.intervals.specs.IntervalLaws.{In-EMPTY, interval_exact}
 
@@ -31,23 +30,6 @@ use Rattle.intervals.specs.IntervalLaws.{In-EMPTY, interval_exact}
 pub record Most (a : ℤ) (r : Range) (x : ℤ) : Type 0 where
   pub is : x ≡ best a r
   pub size : Sized x
-
-pub end_high : (a : ℤ) (r : Range) (x : ℤ) → x ≡ r.high → le_z (pos 0) a ≡ true → x ≡ end_of a r
-end_high a r x e h = e ∙ rw h refl
-
-pub end_low : (a : ℤ) (r : Range) (x : ℤ) → x ≡ r.low → le_z (pos 0) a ≡ false → x ≡ end_of a r
-end_low a r x e h = e ∙ rw h refl
-
--- the product at the end that gives the most, held as its bits
-pub most_is : (a : ℤ) (r : Range) (x y : ℤ) → y ≡ end_of a r → x ≡ a *ℤ y → Sized x
-    → (to_z w64 (of_z w64 x) ≡ best a r) × Sized (to_z w64 (of_z w64 x))
-most_is a r x y h e s =
-    let f : SFits w64 x = size_fits w64 x (omega arith) in
-    rw (to_z-of_z w64 x f) (e ∙ ap (λ (z : ℤ). a *ℤ z) h ∙ by (le_z (pos 0) a), s)
-  where
-    by : (t : Bool) → a *ℤ cond t r.high r.low ≡ cond t (a *ℤ r.high) (a *ℤ r.low)
-    by true = refl
-    by false = refl
 
 -- ---- the constant and the products, one after another
 -- what the products from place i on add, at most
@@ -86,6 +68,16 @@ sum_turn e rs i x y s h m t =
       size = omega (arith, sum_size x y s.size t.size);
     }
 
+-- the sum with one product more, at locals that hold the numbers
+pub sum_next : (e : Expr) (rs : List Range) (i : ℕ) (sum x : ℤ) → SumTo e rs i sum → i < PARAMETERS → length rs ≡ PARAMETERS
+    → SFits w32 (get_or e.coefs i (pos 0)) → x ≡ best (to_z w32 (of_z w32 (get_or e.coefs i (pos 0)))) (get_or rs i blank_range) → Sized x
+    → SumTo e rs (i + 1) (sum +ℤ to_z w64 (of_z w64 x))
+sum_next e rs i sum x t h l g v s =
+    let f : SFits w64 x = size_fits w64 x (omega (arith, s)) in
+    let a = get_or e.coefs i (pos 0) in
+    let m : Most a (get_or rs i blank_range) x = record { is = rw (to_z-of_z w32 a g) at v; size = s } in
+    rw (to_z-of_z w64 x f) (sum_turn e rs i _ x t h l m)
+
 pub sum_fits : (i : ℕ) (x : ℤ) → i ≤ PARAMETERS → SizedTo i x → SFits w64 x
 sum_fits i x h k = size_fits w64 x (omega arith)
 
@@ -112,9 +104,6 @@ less_tame m x h k =
       size_high {x = m -ℤ x} {A = 4611686018427387903}
           (omega (arith, s)),
     )
-
-pub part_all : (a m : ℤ) (r : Range) → Part a m r r
-part_all a m r = record { within = λ x h. h; keeps = λ x h k. h }
 
 pub part_cut : (a m b x y : ℤ) (r s : Range) → s ≡ interval r x y → x ≡ m -ℤ b → b ≡ best a r → y ≡ a → Part a m r s
 part_cut a m b x y r s e f g h =

@@ -1,11 +1,11 @@
 // Nogoods: expressions that were found to be below 0 wherever some inequalities hold, kept so that the same is not asked again.
 #![tactic(auto)]
 
-ghost use Rattle.std.specs.Prelude.{◌≡◌, true, false, ℤ, pos, ◌-ℤ◌, ◌≤ℤ◌, List};
+ghost use Rattle.std.specs.Prelude.{◌≡◌, true, false, ℤ, pos, ◌≤ℤ◌, List};
 ghost use Rattle.std.specs.Int.Signed.{le_z};
 ghost use Rattle.expr.specs.Affine.{value};
 ghost use Rattle.expr.specs.Records.{affine};
-ghost use Rattle.nogoods.specs.Nogoods.{Below, Same, with_c};
+ghost use Rattle.nogoods.specs.Nogoods.{Below, with_c};
 
 use expr::{Expr, PARAMETERS};
 
@@ -30,37 +30,12 @@ impl Nogoods {
     };
 }
 
-// x - y.
-fn difference(x: i32, y: i32) -> i64
-    ensures { result ≡ x -ℤ y }
-{
-    numbers::wide(x) - numbers::wide(y)
-}
-
-// Whether the coefficients are the same.
-fn same(e: Expr, f: Expr) -> bool
-    ensures { result ≡ true → Same e.coefs f.coefs 4 }
-{
-    let mut i = 0;
-    while i < PARAMETERS {
-        let t = difference(e.coefs[i], f.coefs[i]);
-        if t < 0 {
-            return false;
-        }
-        if 0 < t {
-            return false;
-        }
-        i += 1;
-    }
-    true
-}
-
 // Whether e is seen to be nowhere more than f.
 fn at_most(e: Expr, f: Expr) -> bool
     ensures { result ≡ true → (v : List ℤ) → value (affine e) v ≤ℤ value (affine f) v }
 {
-    if same(e, f) {
-        return difference(e.constant, f.constant) <= 0;
+    if e.coefs == f.coefs {
+        return e.constant <= f.constant;
     }
     false
 }
@@ -69,18 +44,11 @@ fn at_most(e: Expr, f: Expr) -> bool
 pub fn refute(g: Nogoods, e: Expr) -> bool
     ensures { result ≡ true → (v : List ℤ) → Below g.list v → le_z (pos 0) (value (affine e) v) ≡ false }
 {
-    let mut k = 0;
-    while k < 3 {
-        let f = g.list[k];
-        if at_most(e, f) {
-            return true;
-        }
-        k += 1;
-    }
-    false
+    g.list.iter().any(|f| at_most(e, *f))
 }
 
 // With one more, in the place of the oldest.
+#[tactic(auto, unfolding(crate::specs::Nogoods::with_c))]
 pub fn with(g: Nogoods, e: Expr) -> Nogoods
     ensures { result ≡ with_c g e }
 {

@@ -1,32 +1,20 @@
 // Two inequalities of opposite coefficients: no valuation meets both if their constants sum below 0, and each meets one of them if these
 // sum to -1.
-ghost use Rattle.std.specs.Prelude.{◌≡◌, true, ◌+ℤ◌};
+ghost use Rattle.std.specs.Prelude.{◌≡◌, true};
 ghost use Rattle.expr.specs.Records.{affine};
 ghost use Rattle.opposites.specs.Opposite.{Opposite, Apart, Halves};
 
 use expr::{Expr, PARAMETERS};
 
-// x + y.
-fn sum(x: i32, y: i32) -> i64
-    ensures { result ≡ x +ℤ y }
-{
-    numbers::wide(x) + numbers::wide(y)
-}
-
 // Whether the coefficients are opposite.
 fn opposite(e: Expr, f: Expr) -> bool
     ensures { result ≡ true → Opposite e.coefs f.coefs 4 }
 {
-    let mut i = 0;
-    while i < PARAMETERS {
-        let t = sum(e.coefs[i], f.coefs[i]);
-        if t < 0 {
+    for i in 0..PARAMETERS {
+        let sum = i64::from(e.coefs[i]) + i64::from(f.coefs[i]);
+        if sum != 0 {
             return false;
         }
-        if 0 < t {
-            return false;
-        }
-        i += 1;
     }
     true
 }
@@ -36,7 +24,7 @@ pub fn apart(e: Expr, f: Expr) -> bool
     ensures { result ≡ true → Apart (affine e) (affine f) }
 {
     if opposite(e, f) {
-        return sum(e.constant, f.constant) < 0;
+        return i64::from(e.constant) + i64::from(f.constant) < 0;
     }
     false
 }
@@ -46,11 +34,8 @@ pub fn halves(e: Expr, f: Expr) -> bool
     ensures { result ≡ true → Halves (affine e) (affine f) }
 {
     if opposite(e, f) {
-        let t = sum(e.constant, f.constant);
-        if t < -1 {
-            return false;
-        }
-        return t < 0;
+        let sum = i64::from(e.constant) + i64::from(f.constant);
+        return sum == -1;
     }
     false
 }

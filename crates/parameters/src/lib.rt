@@ -4,7 +4,6 @@
 #![tactic(auto)]
 
 ghost use Rattle.std.specs.Prelude.{◌≡◌, ◌<◌};
-ghost use Rattle.cursor.specs.Cursor.{signed_of};
 ghost use Rattle.parameters.specs.Parameters.{
   range_of,
   highest_right,
@@ -16,7 +15,7 @@ ghost use Rattle.parameters.specs.Parameters.{
 
 use cursor::{Cursor, byte_field, finished, judged};
 use expr::{PARAMETERS, Range, Ranges};
-use words::signed_field;
+use words::{signed_field, signed_of};
 
 // Body 1: where reading stands after it, how many parameters, and their ranges.
 #[derive(Clone, Copy)]
@@ -26,20 +25,13 @@ pub struct ParametersAt {
     pub ranges: Ranges,
 }
 
-// The number of a signed field that is the end of a range, from the number plus 32,768.
-fn short_of(word: u16) -> i16
-    ensures { result ≡ signed_of word }
-{
-    ((word as i32) - 32768) as i16
-}
-
 // A range from its two fields.
 fn range_of(low: u16, high: u16) -> Range
     ensures { result ≡ range_of low high }
 {
     Range {
-        low: short_of(low),
-        high: short_of(high),
+        low: signed_of(low),
+        high: signed_of(high),
     }
 }
 
@@ -88,10 +80,8 @@ fn parameters_read(file: &[u8], end: usize, most: u8, cursor: Cursor) -> Paramet
         count: count.byte,
         ranges: Ranges::ZERO,
     };
-    let mut i: usize = 0;
-    while i < PARAMETERS {
+    for i in 0..PARAMETERS {
         all = range_step(file, end, i, all);
-        i += 1;
     }
     all
 }

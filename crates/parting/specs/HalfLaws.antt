@@ -15,21 +15,23 @@ use Rattle.expr.specs.declared.bound.Bound.{Bound}
 use Rattle.expr.specs.declared.number.Expr.{Expr}
 use Rattle.parts.specs.Parts.{with_bounds, standing, put_c, pushed_c, answered_c, next, after_c, with_more, yes_c, no_c}
 use Rattle.parts.specs.declared.part.Next.{Next}
+use Rattle.parts.specs.declared.part.Halt.TheVariants as stops
 use Rattle.parts.specs.declared.part.Part.{Part}
 use Rattle.running.specs.Tasks.{part_with, rule_at, answered_t}
 use Rattle.running.specs.declared.task.Guarding.{Guarding}
 use Rattle.running.specs.declared.task.Task.{Task}
 use Rattle.zones.specs.Settled.{opposite_c}
 use Rattle.zones.specs.Zone.{plus_c, more_c}
+use Rattle.zones.specs.declared.told.Told.TheVariants as kinds
 use Rattle.zones.specs.declared.zone.Zone.{Zone}
 use Rattle.parting.specs.Halves.{yes_cell, no_half, halves_c}
 
 -- the last entry, or one more
-last_entry : (x : ℕ) → cond (ltb (suc (suc x)) 26) (next (suc (suc x) + 1) 0) (next 27 2) ≡ cond (ltb x 24) (next (x + 3) 0) (next 27 2)
+last_entry : (x : ℕ) → cond (ltb (suc (suc x)) 26) (next (suc (suc x) + 1) stops.No) (next 27 stops.Kept) ≡ cond (ltb x 24) (next (x + 3) stops.No) (next 27 stops.Kept)
 last_entry x = by (ltb x 24) refl
   where
-    by : (s : Bool) → ltb x 24 ≡ s → cond (ltb (suc (suc x)) 26) (next (suc (suc x) + 1) 0) (next 27 2) ≡ cond s (next (x + 3) 0)
-        (next 27 2)
+    by : (s : Bool) → ltb x 24 ≡ s → cond (ltb (suc (suc x)) 26) (next (suc (suc x) + 1) stops.No) (next 27 stops.Kept) ≡ cond s (next (x + 3) stops.No)
+        (next 27 stops.Kept)
     by true s =
         let h = ltb-true x 24 s in
         let same : suc (suc x) + 1 ≡ x + 3 = omega arith in
@@ -42,20 +44,20 @@ stands_by q true a b = refl
 stands_by q false a b = refl
 
 -- the answer no leaves the zone
-answered_no : (r : Rule) (q : Part) (k : ℕ) → q.phase ≡ k → answered_c r q false ≡ standing q (after_c k 0).phase (after_c k 0).halt
+answered_no : (r : Rule) (q : Part) (k : ℕ) → q.phase ≡ k → answered_c r q false ≡ standing q (after_c k kinds.No).phase (after_c k kinds.No).halt
 unfolding answered_c pushed_c after_c
 answered_no r q zero e = rw e refl
 answered_no r q (suc zero) e = rw e refl
 answered_no r q (suc (suc x)) e =
     let two : suc (suc x) - 2 ≡ x = omega arith in
     rw (e, le-ltb (suc (suc x)) 1 (omega arith), le-ltb (suc (suc x)) 2 (omega arith), two)
-    (sym (stands_by q (ltb x 24) (next (x + 3) 0) (next 27 2))
+    (sym (stands_by q (ltb x 24) (next (x + 3) stops.No) (next 27 stops.Kept))
     ∙ ap (λ (n : Next). standing q n.phase n.halt) (sym (last_entry x)))
 
 -- the answer yes puts the entry in, from the third phase on
 answered_yes : (r : Rule) (q : Part) (k : ℕ) → q.phase ≡ k
     → answered_c r q true
-    ≡ standing (cond (ltb 1 k) (put_c q (k - 2) (via_c r (k - 2))) q) (after_c k 1).phase (after_c k 1).halt
+    ≡ standing (cond (ltb 1 k) (put_c q (k - 2) (via_c r (k - 2))) q) (after_c k kinds.Yes).phase (after_c k kinds.Yes).halt
 unfolding answered_c pushed_c after_c
 answered_yes r q zero e = rw e refl
 answered_yes r q (suc zero) e = rw e refl
@@ -68,7 +70,7 @@ answered_yes r q (suc (suc x)) e =
       lt-ltb 1 (suc (suc x)) (omega arith),
       two,
     )
-    (sym (stands_by (put_c q x (via_c r x)) (ltb x 24) (next (x + 3) 0) (next 27 2))
+    (sym (stands_by (put_c q x (via_c r x)) (ltb x 24) (next (x + 3) stops.No) (next 27 stops.Kept))
     ∙ ap (λ (n : Next). standing (put_c q x (via_c r x)) n.phase n.halt) (sym (last_entry x)))
 
 module _ (r : Rule) (c : Cell) (n : ℕ) (t : Task) (few : n < 24) where
@@ -79,26 +81,26 @@ module _ (r : Rule) (c : Cell) (n : ℕ) (t : Task) (few : n < 24) where
   unfolding more_c plus_c
   more e = rw (lt-ltb n 24 few, add-one n) refl
 
-  pub no_is : part_with (answered_t t 0) (zone_of (n + 1) (no_half c n t)) ≡ no_c r part
+  pub no_is : part_with (answered_t t kinds.No) (zone_of (n + 1) (no_half c n t)) ≡ no_c r part
   unfolding no_c answered_t
   no_is =
-      ap (λ (z : Zone). part_with (answered_t t 0) z) (sym (more (opposite_c t.test)))
+      ap (λ (z : Zone). part_with (answered_t t kinds.No) z) (sym (more (opposite_c t.test)))
       ∙ sym (answered_no r (with_more part (opposite_c t.test)) t.phase refl)
 
-  pub yes_is : part_with (answered_t t 1) (zone_of (n + 1) (yes_cell r c n t)) ≡ yes_c r part
+  pub yes_is : part_with (answered_t t kinds.Yes) (zone_of (n + 1) (yes_cell r c n t)) ≡ yes_c r part
   unfolding yes_c answered_t
   yes_is = by (ltb 1 t.phase) ∙ sym (answered_yes r (with_more part t.test) t.phase refl)
     where
       by : (s : Bool)
-          → part_with (answered_t t 1)
+          → part_with (answered_t t kinds.Yes)
           (zone_of (n + 1)
           (cond s (with_matrix (with_ineq c n t.test) (set c.bounds (t.phase - 2) (via_c r (t.phase - 2)))) (with_ineq c n t.test)))
           ≡ standing (cond s (put_c (with_more part t.test) (t.phase - 2) (via_c r (t.phase - 2))) (with_more part t.test))
-          (after_c t.phase 1).phase (after_c t.phase 1).halt
+          (after_c t.phase kinds.Yes).phase (after_c t.phase kinds.Yes).halt
       by true =
-          ap (λ (z : Zone). part_with (answered_t t 1) (with_bounds z (set z.bounds (t.phase - 2) (via_c r (t.phase - 2)))))
+          ap (λ (z : Zone). part_with (answered_t t kinds.Yes) (with_bounds z (set z.bounds (t.phase - 2) (via_c r (t.phase - 2)))))
           (sym (more t.test))
-      by false = ap (λ (z : Zone). part_with (answered_t t 1) z) (sym (more t.test))
+      by false = ap (λ (z : Zone). part_with (answered_t t kinds.Yes) z) (sym (more t.test))
 
 -- ---- the code's steps
 pub via_of_lem : (r : Rule) → length r.old ≡ 25 → (x : ℕ) (at : Reads) (f l s v : Bound) → at ≡ places_at r.left r.right (x + 2)

@@ -3,4 +3,4 @@
 
 mod part;
 
-pub use part::{Next, Part, Turn, after, no_part, tests_in, turned, yes_part};
+pub use part::{Halt, Next, Part, Turn, after, no_part, tests_in, turned, yes_part};

@@ -1,33 +1,68 @@
 // A part of a zone on its way through the tests of a guard.
-ghost use Rattle.std.specs.Prelude.{cond, ◌≡◌, ◌<◌, ltb};
+ghost use Rattle.std.specs.Prelude.{cond, ◌≡◌, ◌<◌};
 ghost use Rattle.constrain.specs.Rules.{via_c};
 ghost use Rattle.constrain.specs.RuleLaws.{read_c};
-ghost use Rattle.parts.specs.Parts.{standing, put_c, pushed_c, answered_c, tests_in, after_c, enters_c, turn_c, yes_c, no_c};
+ghost use Rattle.parts.specs.Parts.{goes_on, is_kept, is_split, standing, put_c, pushed_c, answered_c, tests_in};
+ghost use Rattle.parts.specs.Parts.{settled_n, after_c, enters_c, question_c, turn_c, yes_c, no_c};
+ghost use Rattle.zones.specs.Settled.{told_settled};
 
 use constrain::Rule;
-use expr::{Asked, Bound, Expr, Test};
-use zones::Zone;
+use expr::{Bound, Expr, Test};
+use zones::{Told, Zone};
 
-// A part: the test that comes next (27: none); whether it goes on (0), is cut (1), is kept (2), splits by the test (3), or is refused
-// (8); how many tests were asked on its way; and its zone, whose matrix is the new one.
+// Where a part stops: nowhere yet, it goes on; it is cut; it is kept; it splits by the test; or it would, with a 25th inequality.
+#[derive(Clone, Copy, PartialEq, Eq)]
+pub enum Halt {
+    No,
+    Cut,
+    Kept,
+    Split,
+    Full,
+}
+
+impl Halt {
+    // Whether it goes on.
+    pub fn goes_on(self) -> bool
+        ensures { result ≡ goes_on self }
+    {
+        self == Halt::No
+    }
+
+    // Whether it is kept.
+    pub fn is_kept(self) -> bool
+        ensures { result ≡ is_kept self }
+    {
+        self == Halt::Kept
+    }
+
+    // Whether it splits.
+    pub fn is_split(self) -> bool
+        ensures { result ≡ is_split self }
+    {
+        self == Halt::Split
+    }
+}
+
+// A part: the test that comes next (27: none); where it stops; how many tests were asked on its way; and its zone, whose matrix is the
+// new one.
 #[derive(Clone, Copy)]
 pub struct Part {
     pub phase: usize,
-    pub halt: usize,
+    pub halt: Halt,
     pub tests: usize,
     pub test: Expr,
     pub zone: Zone,
 }
 
-// Where a part stands after a test: the next phase, and whether it goes on, as in `Part`.
+// Where a part stands after a test: the next phase, and where it stops.
 #[derive(Clone, Copy)]
 pub struct Next {
     pub phase: usize,
-    pub halt: usize,
+    pub halt: Halt,
 }
 
 // The part at a phase, going on or halted.
-fn at(p: Part, phase: usize, halt: usize) -> Part
+fn at(p: Part, phase: usize, halt: Halt) -> Part
     ensures { result ≡ standing p phase halt }
 {
     let zone = p.zone;
@@ -62,7 +97,7 @@ fn put(p: Part, x: usize, b: Bound) -> Part
 fn entry(r: Rule, x: usize) -> Bound
     ensures { result ≡ read_c r.old x }
 {
-    let b = r.old[numbers::at_most(x, 24)];
+    let b = r.old[x.min(24)];
     constrain::inside(x, b)
 }
 
@@ -95,9 +130,9 @@ fn pushed(r: Rule, p: Part, x: usize, yes: bool) -> Part
 {
     let q = entered(r, p, x, yes);
     if x < 24 {
-        return at(q, x + 3, 0);
+        return at(q, x + 3, Halt::No);
     }
-    at(q, 27, 2)
+    at(q, 27, Halt::Kept)
 }
 
 // The part after the answer to its test.
@@ -106,15 +141,15 @@ fn answered(r: Rule, p: Part, yes: bool) -> Part
 {
     if p.phase < 1 {
         if yes {
-            return at(p, 27, 1);
+            return at(p, 27, Halt::Cut);
         }
-        return at(p, 1, 0);
+        return at(p, 1, Halt::No);
     }
     if p.phase < 2 {
         if yes {
-            return at(p, 2, 0);
+            return at(p, 2, Halt::No);
         }
-        return at(p, 27, 2);
+        return at(p, 27, Halt::Kept);
     }
     pushed(r, p, p.phase - 2, yes)
 }
@@ -123,70 +158,103 @@ fn answered(r: Rule, p: Part, yes: bool) -> Part
 pub fn tests_in(test: Test) -> usize
     ensures { result ≡ tests_in test }
 {
-    let asked = test.asked;
-    match asked {
-        Asked::Yes => 0,
-        Asked::No => 0,
-        Asked::Ask => 1,
+    match test {
+        Test::Yes => 0,
+        Test::No => 0,
+        Test::Ask(_) => 1,
     }
 }
 
-// The phase after a verdict on the test of a phase, and whether the part goes on: it stops at a test that is not settled.
-pub fn after(phase: usize, kind: usize) -> Next
-    ensures { result ≡ after_c phase kind }
+// The phase after the answer to the test of a phase, and whether the part goes on.
+fn settled(phase: usize, yes: bool) -> Next
+    ensures { result ≡ settled_n phase yes }
 {
-    if 1 < kind {
-        return Next { phase, halt: kind };
-    }
     if phase < 1 {
-        if kind < 1 {
-            return Next { phase: 1, halt: 0 };
+        if yes {
+            return Next {
+                phase: 27,
+                halt: Halt::Cut,
+            };
         }
-        return Next { phase: 27, halt: 1 };
+        return Next {
+            phase: 1,
+            halt: Halt::No,
+        };
     }
     if phase < 2 {
-        if kind < 1 {
-            return Next { phase: 27, halt: 2 };
+        if yes {
+            return Next {
+                phase: 2,
+                halt: Halt::No,
+            };
         }
-        return Next { phase: 2, halt: 0 };
+        return Next {
+            phase: 27,
+            halt: Halt::Kept,
+        };
     }
     if phase < 26 {
         return Next {
             phase: phase + 1,
-            halt: 0,
+            halt: Halt::No,
         };
     }
-    Next { phase: 27, halt: 2 }
+    Next {
+        phase: 27,
+        halt: Halt::Kept,
+    }
+}
+
+// The phase after a verdict on the test of a phase, and whether the part goes on: it stops at a test that is not settled.
+pub fn after(phase: usize, kind: Told) -> Next
+    ensures { result ≡ after_c phase kind }
+{
+    match kind {
+        Told::No => settled(phase, false),
+        Told::Yes => settled(phase, true),
+        Told::Split => Next {
+            phase,
+            halt: Halt::Split,
+        },
+        Told::Full => Next {
+            phase,
+            halt: Halt::Full,
+        },
+    }
 }
 
 // An entry after a verdict on the test of a phase: what was compared, where the phase is an entry's and the verdict is yes.
-fn entry_after(phase: usize, kind: usize, via: Bound, was: Bound) -> Bound
+fn entry_after(phase: usize, kind: Told, via: Bound, was: Bound) -> Bound
     ensures { result ≡ cond (enters_c phase kind) via was }
 {
     if 1 < phase {
-        if kind == 1 {
+        if kind.is_yes() {
             return via;
         }
     }
     was
 }
 
-// The question that a part stops at, where the verdict on its test t is that; else what it was.
-fn question_after(kind: usize, t: Test, was: Expr) -> Expr
-    ensures { result ≡ cond (ltb 1 kind) t.expr was }
+// The question that a part stops at, where the verdict on its test t is that, zero if it asked nothing; else what it was.
+fn question_after(kind: Told, t: Test, was: Expr) -> Expr
+    ensures { result ≡ cond (told_settled kind) was (question_c t) }
 {
-    if 1 < kind {
-        return t.expr;
+    if kind.is_settled() {
+        return was;
     }
-    was
+    match t {
+        Test::Yes => Expr::ZERO,
+        Test::No => Expr::ZERO,
+        Test::Ask(e) => e,
+    }
 }
 
-// What a turn of a part makes of it: its phase, whether it goes on, its tests and its question, as in `Part`; and the entry that the phase
-// may put in.
+// What a turn of a part makes of it: its phase, where it stops, its tests and its question, as in `Part`; and the entry that the phase may
+// put in.
 #[derive(Clone, Copy)]
 pub struct Turn {
     pub phase: usize,
-    pub halt: usize,
+    pub halt: Halt,
     pub tests: usize,
     pub test: Expr,
     pub entry: Bound,
@@ -201,7 +269,7 @@ pub fn turned(
     was: Bound,
     t: Test,
     via: Bound,
-    kind: usize,
+    kind: Told,
 ) -> Turn
     ensures { result ≡ turn_c phase tests test was t via kind }
 {
@@ -209,7 +277,7 @@ pub fn turned(
     Turn {
         phase: next.phase,
         halt: next.halt,
-        tests: numbers::at_most(tests, 26) + tests_in(t),
+        tests: tests.min(26) + tests_in(t),
         test: question_after(kind, t, test),
         entry: entry_after(phase, kind, via, was),
     }
@@ -224,7 +292,7 @@ pub fn yes_part(r: Rule, p: Part) -> Part
     let more = zones::with_inequality(zone, test);
     let part = Part {
         phase: p.phase,
-        halt: 0,
+        halt: Halt::No,
         tests: p.tests,
         test,
         zone: more,
@@ -241,7 +309,7 @@ pub fn no_part(r: Rule, p: Part) -> Part
     let more = zones::with_opposite(zone, test);
     let part = Part {
         phase: p.phase,
-        halt: 0,
+        halt: Halt::No,
         tests: p.tests,
         test,
         zone: more,

@@ -1,12 +1,13 @@
 -- A step over zones in order is what each zone's part comes to, one after another.
 use Rattle.std.specs.Prelude.{◌≡◌, Bool, not, cond, ℕ, suc, ◌+◌, ◌-◌, ◌≤◌, ◌<◌, ltb, length, set, replicate}
 use Rattle.std.proofs.Math.Path.{refl, sym, ap}
-use Rattle.std.proofs.Common.{subst, ◌∙◌, add-one, arith, length-append}
+use Rattle.std.proofs.Common.{◌∙◌, add-one, arith, length-append}
 use Rattle.std.proofs.Math.Bool.{true, false}
 use mathlib.Core.List.{List, [], ◌∷◌, ◌++◌, map}
-use borrow.Author.Tests.{lt-ltb, le-ltb, eq-eqb, ne_eqb, ltb-true, ltb-false}
+use borrow.Author.Tests.{lt-ltb, le-ltb, ne_eqb, ltb-true, ltb-false}
 use Rattle.std.proofs.lemmas.List.{length-map}
 use Rattle.std.proofs.Math.Seq.{take-append_seam}
+use Rattle.constrain.specs.declared.rule.Rule.{Rule}
 use Rattle.delay.specs.Delayed.{on_first, delayed_zone, resets_zone, delayed_all, resets_all}
 use Rattle.expr.specs.declared.range.Ranges.{Ranges}
 use Rattle.guards.specs.declared.Guard.{Guard}
@@ -15,8 +16,9 @@ use Rattle.split.specs.Listed.{none_at, list_c}
 use Rattle.split.specs.Stack.{start_drained, meant_sticks}
 use Rattle.split.specs.Trees.{start_c, ended_c, meant}
 use Rattle.split.specs.declared.list.Counted.{Counted}
-use Rattle.steps.specs.Steps.{at_visit, step_c, steps_all, changed_c, asks_c, part_c}
+use Rattle.steps.specs.Steps.{at_visit, step_c, steps_all, changed_c, asks_c, guard_of_c, part_c}
 use Rattle.steps.specs.declared.step.Step.{Step}
+use Rattle.steps.specs.declared.step.Step.TheVariants as step
 use Rattle.zones.specs.Zone.{blank_zone}
 use Rattle.zones.specs.declared.zone.Zone.{Zone}
 use Rattle.zones.specs.declared.zone.Zones.{Zones}
@@ -27,7 +29,7 @@ plain v l = record { refusal = 0; visit = v; count = length l; list = l ++ repli
 
 -- what a zone's part comes to, and those of zones in order
 abbrev pub pass_one : Ranges → ℕ → Step → Zone → Counted → Counted
-pass_one b w st z out = meant b (rule_c w st.guard z) (part_c st w z) out
+pass_one b w st z out = meant b (rule_c w (guard_of_c st) z) (part_c st w z) out
 
 unfoldable pub pass_all : Ranges → ℕ → Step → List Zone → Counted → Counted
 pass_all b w st [] out = out
@@ -35,7 +37,9 @@ pass_all b w st (z ∷ zs) out = pass_all b w st zs (pass_one b w st z out)
 
 -- the zones when a step is done
 unfoldable pub done : Step → Zones → Zones
-done st zs = cond (ltb 1 st.kind) (at_visit st.visit zs) zs
+done step.Delay zs = zs
+done (step.Guard g) zs = zs
+done (step.Resets bits visit) zs = at_visit visit zs
 
 -- ---- one more zone behind others
 append_nil : (l : List Zone) → l ++ [] ≡ l
@@ -67,9 +71,12 @@ none_plain v = refl
 
 -- ---- a step that asks nothing
 module _ (b : Ranges) (w : ℕ) (st : Step) (quiet : asks_c st ≡ false) where
-  pub one_kept : (z : Zone) (out : Counted) → pass_one b w st z out ≡ list_c (changed_c st w z) 0 out
+  pub kept_by : (z : Zone) (r : Rule) (out : Counted) → meant b r (part_c st w z) out ≡ list_c (changed_c st w z) 0 out
   unfolding part_c meant ended_c
-  one_kept z out = rw quiet refl
+  kept_by z r out = rw quiet refl
+
+  pub one_kept : (z : Zone) (out : Counted) → pass_one b w st z out ≡ list_c (changed_c st w z) 0 out
+  one_kept z out = kept_by z (rule_c w (guard_of_c st) z) out
 
   pub all_kept : (v : ℕ) (l k : List Zone) (out : Counted) → out.zones ≡ plain v k → length k + length l ≤ 32
       → (pass_all b w st l out).zones ≡ plain v (k ++ map (changed_c st w) l)
@@ -88,14 +95,14 @@ unfolding part_c
 is_start b w st a z = rw a refl
 
 asking_all : (b : Ranges) (w : ℕ) (st : Step) → asks_c st ≡ true → (l : List Zone) (out : Counted)
-    → pass_all b w st l out ≡ cut_all b w st.guard l out
+    → pass_all b w st l out ≡ cut_all b w (guard_of_c st) l out
 unfolding pass_all cut_all
 asking_all b w st a [] out = refl
 asking_all b w st a (z ∷ l) out =
-    ap (pass_all b w st l) (one_asked z) ∙ asking_all b w st a l (cut_c b (rule_c w st.guard z) z out)
+    ap (pass_all b w st l) (one_asked z) ∙ asking_all b w st a l (cut_c b (rule_c w (guard_of_c st) z) z out)
   where
-    one_asked : (z : Zone) → pass_one b w st z out ≡ cut_c b (rule_c w st.guard z) z out
-    one_asked z = rw (is_start b w st a z) (start_drained b (rule_c w st.guard z) z out)
+    one_asked : (z : Zone) → pass_one b w st z out ≡ cut_c b (rule_c w (guard_of_c st) z) z out
+    one_asked z = rw (is_start b w st a z) (start_drained b (rule_c w (guard_of_c st) z) z out)
 
 -- ---- the first of a list changed
 first_changed : (f : Zone → Zone) (l r : List Zone) → on_first f (length l) (l ++ r) ≡ map f l ++ r
@@ -116,23 +123,6 @@ plain_map : (v : ℕ) (f : Zone → Zone) (l : List Zone)
     ≡ plain v (map f l)
 plain_map v f l = rw (first_changed f l (replicate (32 - length l) blank_zone), length-map l f) refl
 
--- ---- the kinds of steps
-asks_other : (st : Step) → (st.kind ≡ 1 → ⊥) → asks_c st ≡ false
-unfolding asks_c
-asks_other st h = rw (ne_eqb st.kind 1 h) refl
-
-changed_delay : (st : Step) (w : ℕ) → st.kind < 1 → (z : Zone) → changed_c st w z ≡ delayed_zone w z
-unfolding changed_c
-changed_delay st w h z = rw (lt-ltb st.kind 1 h) refl
-
-changed_guard : (st : Step) (w : ℕ) → 1 ≤ st.kind → st.kind < 2 → (z : Zone) → changed_c st w z ≡ z
-unfolding changed_c
-changed_guard st w h g z = rw (le-ltb st.kind 1 h, lt-ltb st.kind 2 g) refl
-
-changed_resets : (st : Step) (w : ℕ) → 2 ≤ st.kind → (z : Zone) → changed_c st w z ≡ resets_zone w st.bits z
-unfolding changed_c
-changed_resets st w h z = rw (le-ltb st.kind 1 (omega arith), le-ltb st.kind 2 h) refl
-
 -- the clocks of a guard
 right_in : (r : ℕ) (t : Bool) → ltb r 5 ≡ t → ltb 4 r ≡ not t
 right_in r true e = le-ltb 4 r (omega (arith, ltb-true r 5 e))
@@ -151,87 +141,66 @@ guarded_by b w g v l s t hs ht =
     by true false = refl
     by false t = refl
 
-guarded_is : (b : Ranges) (w : ℕ) (st : Step) (v : ℕ) (l : List Zone) → st.kind ≡ 1 → (t : Bool) → asks_c st ≡ t
-    → guarded_c b w st.guard (plain v l) ≡ cond t (cut_all b w st.guard l (none_at v)).zones (plain v l)
+guarded_is : (b : Ranges) (w : ℕ) (g : Guard) (v : ℕ) (l : List Zone) (t : Bool) → asks_c (step.Guard g) ≡ t
+    → guarded_c b w g (plain v l) ≡ cond t (cut_all b w g l (none_at v)).zones (plain v l)
 unfolding asks_c
-guarded_is b w st v l k t a =
-    guarded_by b w st.guard v l (ltb st.guard.left 5) (ltb st.guard.right 5) refl refl
-    ∙ by (ltb st.guard.left 5) (ltb st.guard.right 5)
-    (subst (λ (x : Bool). cond x (cond (ltb st.guard.left 5) (ltb st.guard.right 5) false) false ≡ t) (eq-eqb st.kind 1 k) a)
+guarded_is b w g v l t a =
+    guarded_by b w g v l (ltb g.left 5) (ltb g.right 5) refl refl ∙ by (ltb g.left 5) (ltb g.right 5) a
   where
     by : (s u : Bool) → cond s u false ≡ t
-        → cond s (cond u (cut_all b w st.guard l (none_at v)).zones (plain v l)) (plain v l)
-        ≡ cond t (cut_all b w st.guard l (none_at v)).zones (plain v l)
-    by true u e = ap (λ (x : Bool). cond x (cut_all b w st.guard l (none_at v)).zones (plain v l)) e
-    by false u e = ap (λ (x : Bool). cond x (cut_all b w st.guard l (none_at v)).zones (plain v l)) e
+        → cond s (cond u (cut_all b w g l (none_at v)).zones (plain v l)) (plain v l)
+        ≡ cond t (cut_all b w g l (none_at v)).zones (plain v l)
+    by true u e = ap (λ (x : Bool). cond x (cut_all b w g l (none_at v)).zones (plain v l)) e
+    by false u e = ap (λ (x : Bool). cond x (cut_all b w g l (none_at v)).zones (plain v l)) e
 
 -- ---- a step on zones in order
-module _ (b : Ranges) (w : ℕ) (st : Step) (v : ℕ) (l : List Zone) (few : length l ≤ 32) where
-  abbrev after : Zones
-  after = (pass_all b w st l (none_at v)).zones
+module _ (b : Ranges) (w : ℕ) (v : ℕ) (l : List Zone) (few : length l ≤ 32) where
+  abbrev after : Step → Zones
+  after st = (pass_all b w st l (none_at v)).zones
 
-  quiet_after : asks_c st ≡ false → after ≡ plain v (map (changed_c st w) l)
-  quiet_after q = all_kept b w st q v l [] (none_at v) (none_plain v) (omega (arith, few))
+  quiet_after : (st : Step) → asks_c st ≡ false → after st ≡ plain v (map (changed_c st w) l)
+  quiet_after st q = all_kept b w st q v l [] (none_at v) (none_plain v) (omega (arith, few))
 
-  delay_step_lem : st.kind < 1 → step_c b w st (plain v l) ≡ done st after
-  unfolding step_c done delayed_all
-  delay_step_lem h =
-      rw (lt-ltb st.kind 1 h, le-ltb 1 st.kind (omega arith), quiet_after (asks_other st (λ e. omega arith)))
-      (plain_map v (delayed_zone w) l ∙ ap (plain v) (map_same (delayed_zone w) (changed_c st w) (λ z. sym (changed_delay st w h z)) l))
+  delay_step_lem : step_c b w step.Delay (plain v l) ≡ after step.Delay
+  unfolding step_c delayed_all asks_c changed_c
+  delay_step_lem = rw (quiet_after step.Delay refl) (plain_map v (delayed_zone w) l)
 
-  guard_step_lem : 1 ≤ st.kind → st.kind < 2 → step_c b w st (plain v l) ≡ done st after
-  unfolding step_c done
-  guard_step_lem h g =
-      rw (le-ltb st.kind 1 h, lt-ltb st.kind 2 g, le-ltb 1 st.kind (omega arith)) (by (asks_c st) refl)
+  guard_step_lem : (g : Guard) → step_c b w (step.Guard g) (plain v l) ≡ after (step.Guard g)
+  unfolding step_c changed_c
+  guard_step_lem g = by (asks_c (step.Guard g)) refl
     where
-      by : (t : Bool) → asks_c st ≡ t → guarded_c b w st.guard (plain v l) ≡ after
+      by : (t : Bool) → asks_c (step.Guard g) ≡ t → guarded_c b w g (plain v l) ≡ after (step.Guard g)
       by true a =
-          guarded_is b w st v l (omega arith) true a ∙ ap (λ (o : Counted). o.zones) (sym (asking_all b w st a l (none_at v)))
+          guarded_is b w g v l true a ∙ ap (λ (o : Counted). o.zones) (sym (asking_all b w (step.Guard g) a l (none_at v)))
       by false a =
-          guarded_is b w st v l (omega arith) false a
-          ∙ ap (plain v) (sym (map_id (changed_c st w) (changed_guard st w h g) l))
-          ∙ sym (quiet_after a)
+          guarded_is b w g v l false a
+          ∙ ap (plain v) (sym (map_id (changed_c (step.Guard g) w) (λ z. refl) l))
+          ∙ sym (quiet_after (step.Guard g) a)
 
-  resets_step : 2 ≤ st.kind → step_c b w st (plain v l) ≡ done st after
-  unfolding step_c done resets_all
-  resets_step h =
-      rw (
-        le-ltb st.kind 1 (omega arith),
-        le-ltb st.kind 2 h,
-        lt-ltb 1 st.kind (omega arith),
-        quiet_after (asks_other st
-            (λ e. omega arith)),
-      )
-      (ap (at_visit st.visit)
-      (plain_map v (resets_zone w st.bits) l
-      ∙ ap (plain v) (map_same (resets_zone w st.bits) (changed_c st w) (λ z. sym (changed_resets st w h z)) l)))
+  resets_step : (bits visit : ℕ) → step_c b w (step.Resets bits visit) (plain v l) ≡ at_visit visit (after (step.Resets bits visit))
+  unfolding step_c resets_all asks_c changed_c
+  resets_step bits visit = rw (quiet_after (step.Resets bits visit) refl) (ap (at_visit visit) (plain_map v (resets_zone w bits) l))
 
-  pub step_is : step_c b w st (plain v l) ≡ done st after
-  step_is = first (ltb st.kind 1) refl
-    where
-      second : (t : Bool) → ltb st.kind 2 ≡ t → 1 ≤ st.kind → step_c b w st (plain v l) ≡ done st after
-      second true e h = guard_step_lem h (ltb-true st.kind 2 e)
-      second false e h = resets_step (ltb-false st.kind 2 e)
-
-      first : (t : Bool) → ltb st.kind 1 ≡ t → step_c b w st (plain v l) ≡ done st after
-      first true e = delay_step_lem (ltb-true st.kind 1 e)
-      first false e = second (ltb st.kind 2) refl (ltb-false st.kind 1 e)
+pub step_is : (b : Ranges) (w : ℕ) (st : Step) (v : ℕ) (l : List Zone) → length l ≤ 32
+    → step_c b w st (plain v l) ≡ done st (pass_all b w st l (none_at v)).zones
+unfolding done
+step_is b w step.Delay v l few = delay_step_lem b w v l few
+step_is b w (step.Guard g) v l few = guard_step_lem b w v l few g
+step_is b w (step.Resets bits visit) v l few = resets_step b w v l few bits visit
 
 -- ---- a refusal sticks
 pub pass_sticks : (b : Ranges) (w : ℕ) (st : Step) (l : List Zone) (out : Counted) → 0 < out.zones.refusal → pass_all b w st l out ≡ out
 unfolding pass_all
 pass_sticks b w st [] out h = refl
 pass_sticks b w st (z ∷ l) out h =
-    let same = meant_sticks b (rule_c w st.guard z) (part_c st w z) out h in
+    let same = meant_sticks b (rule_c w (guard_of_c st) z) (part_c st w z) out h in
     ap (pass_all b w st l) same ∙ pass_sticks b w st l out h
 
 pub done_sticks : (st : Step) (zs : Zones) → 0 < zs.refusal → done st zs ≡ zs
 unfolding done at_visit
-done_sticks st zs h = rw (ne_eqb zs.refusal 0 (λ e. omega arith)) (by (ltb 1 st.kind))
-  where
-    by : (t : Bool) → cond t zs zs ≡ zs
-    by true = refl
-    by false = refl
+done_sticks step.Delay zs h = refl
+done_sticks (step.Guard g) zs h = refl
+done_sticks (step.Resets bits visit) zs h = rw (ne_eqb zs.refusal 0 (λ e. omega arith)) refl
 
 none_changed : (f : Zone → Zone) (l : List Zone) → on_first f 0 l ≡ l
 unfolding on_first
@@ -239,23 +208,10 @@ none_changed f l = refl
 
 step_sticks : (b : Ranges) (w : ℕ) (st : Step) (zs : Zones) → 0 < zs.refusal → zs.count ≡ 0 → step_c b w st zs ≡ zs
 unfolding step_c delayed_all resets_all guarded_c at_visit
-step_sticks b w st zs h n =
-    rw (
-      n,
-      lt-ltb 0 zs.refusal h,
-      ne_eqb zs.refusal 0 (λ e. omega arith),
-      none_changed (delayed_zone w) zs.list,
-      none_changed (resets_zone w st.bits) zs.list,
-    )
-    (by (ltb st.kind 1) (ltb st.kind 2))
-  where
-    same : Zones
-    same = record { refusal = zs.refusal; visit = zs.visit; count = 0; list = zs.list }
-
-    by : (s t : Bool) → cond s same (cond t same same) ≡ same
-    by true t = refl
-    by false true = refl
-    by false false = refl
+step_sticks b w step.Delay zs h n = rw (n, none_changed (delayed_zone w) zs.list) refl
+step_sticks b w (step.Guard g) zs h n = rw (lt-ltb 0 zs.refusal h) refl
+step_sticks b w (step.Resets bits visit) zs h n =
+    rw (n, ne_eqb zs.refusal 0 (λ e. omega arith), none_changed (resets_zone w bits) zs.list) refl
 
 pub steps_stick : (b : Ranges) (w : ℕ) (ss : List Step) (zs : Zones) → 0 < zs.refusal → zs.count ≡ 0 → steps_all b w ss zs ≡ zs
 unfolding steps_all

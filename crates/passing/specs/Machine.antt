@@ -1,37 +1,39 @@
 -- A pass over zones, turn by turn: what is still to come of it stays the same.
 use Rattle.std.specs.Prelude.{◌≡◌, Bool, true, false, cond, ℕ, zero, suc, ◌+◌, ◌-◌, ◌*◌, ◌≤◌, ◌<◌, min, ltb, eqb, length, get_or, drop, set, replicate}
 use Rattle.std.proofs.Math.Path.{refl, ap, subst}
-use Rattle.std.proofs.Common.{sym, ◌∙◌, add-one, length-take, length-drop, length-append, drop_of_length-le, drop-cons, get_or-take, get_or-drop, get_or-append-add, get_or-set_same, ext_get_or}
+use Rattle.std.proofs.Common.{sym, ◌∙◌, add-one, true≢false, length-take, length-drop, length-append, drop_of_length-le, drop-cons, get_or-take, get_or-drop, get_or-append-add, get_or-set_same, ext_get_or}
 use mathlib.Core.List.{List, [], ◌∷◌, ◌++◌}
 use native.Mathlib.Omega.{arith}
-use borrow.Author.Tests.{lt-ltb, le-ltb, ltb-true, ltb-false, eqb-true, eqb-false}
+use borrow.Author.Tests.{lt-ltb, le-ltb, ltb-true, ltb-false}
 use Rattle.std.proofs.Math.ListN.{take, length-set, get_or-append}
 use Rattle.constrain.specs.declared.rule.Rule.{Rule}
-use Rattle.expr.specs.Records.{no_bound}
 use Rattle.expr.specs.declared.range.Ranges.{Ranges}
-use Rattle.parts.specs.Parts.{yes_c, no_c}
+use Rattle.parts.specs.Parts.{is_kept, is_split, yes_c, no_c}
+use Rattle.parts.specs.declared.part.Halt.{Halt}
+use Rattle.parts.specs.declared.part.Halt.TheVariants as stops
 use Rattle.parts.specs.declared.part.Part.{Part}
 use Rattle.split.specs.Guarded.{rule_c}
 use Rattle.split.specs.Listed.{none_at, refused_c, list_c}
 use Rattle.split.specs.Runs.{split_leaves}
 use Rattle.split.specs.Stack.{Turned, Turn, drained, load, size, size_more, no_part, all_turned, ends_turned, refused_turned, room_turned}
 use Rattle.split.specs.Stack.{splits_turned, splits_less, ends_less, start_live}
-use Rattle.split.specs.Trees.{start_c, ended_c, meant, Live, Ran}
+use Rattle.split.specs.Trees.{start_c, ended_by, ended_c, meant, Live, Ran}
 use Rattle.split.specs.declared.list.Counted.{Counted}
-use Rattle.passing.specs.Laws.{plain, pass_one, pass_all, done, append_assoc, list_plain, none_plain, step_is}
+use Rattle.passing.specs.Laws.{plain, pass_one, pass_all, done, append_assoc, kept_by, one_kept, list_plain, none_plain, step_is}
 use Rattle.passing.specs.Laws.{pass_sticks, done_sticks, steps_stick}
 use Rattle.steps.specs.Places.{drop_set, take_more}
-use Rattle.passing.specs.State.{begun_c, pushed_c, listed_c, dropped_c, loaded_c, passed_c, stepped_c, number_c, refused_z}
-use Rattle.steps.specs.Steps.{no_zone, Fit, closed, at_visit, steps_all, kept_c, changed_c, asks_c, part_c}
+use Rattle.passing.specs.State.{begun_c, pushed_c, listed_c, dropped_c, loaded_c, passed_c, visit_after_c, stepped_c, number_c, refused_z}
+use Rattle.steps.specs.Steps.{no_zone, Fit, closed, at_visit, steps_all, kept_c, changed_c, asks_c, guard_of_c, part_c}
 use Rattle.passing.specs.declared.pass.Pass.{Pass}
 use Rattle.steps.specs.declared.step.Step.{Step}
+use Rattle.steps.specs.declared.step.Step.TheVariants as step
 use Rattle.zones.specs.Zone.{blank_zone}
 use Rattle.zones.specs.declared.zone.Zone.{Zone}
 use Rattle.zones.specs.declared.zone.Zones.{Zones}
 
 -- what is read past the steps' end
 abbrev pub no_step : Step
-no_step = record { kind = 0; bits = 0; visit = 0; guard = record { left = 0; right = 0; bound = no_bound } }
+no_step = step.Delay
 
 -- what comes of the steps that are left, the first of which has taken up i of the n first zones of full and come to o so far
 unfoldable pub rest : Ranges → ℕ → List Step → ℕ → ℕ → ℕ → List Zone → Counted → Zones
@@ -189,6 +191,15 @@ pass_cons : (b : Ranges) (w : ℕ) (st : Step) (z : Zone) (l : List Zone) (out :
 unfolding pass_all
 pass_cons b w st z l out = refl
 
+-- where nothing is asked the rule does not matter
+rule_any : (b : Ranges) (w : ℕ) (st : Step) (z : Zone) (q : Rule) → (asks_c st ≡ true → q ≡ rule_c w (guard_of_c st) z) → (out : Counted)
+    → meant b q (part_c st w z) out ≡ pass_one b w st z out
+rule_any b w st z q h out = by (asks_c st) refl
+  where
+    by : (t : Bool) → asks_c st ≡ t → meant b q (part_c st w z) out ≡ pass_one b w st z out
+    by true a = ap (λ (x : Rule). meant b x (part_c st w z) out) (h a)
+    by false a = kept_by b w st a z q out ∙ sym (one_kept b w st a z out)
+
 -- what a step makes of a zone waits for its turn
 part_live : (st : Step) (w : ℕ) (z : Zone) → Live (part_c st w z)
 unfolding part_c
@@ -196,7 +207,7 @@ part_live st w z = by (asks_c st)
   where
     by : (t : Bool) → Live (cond t (start_c z) (kept_c (changed_c st w z)))
     by true = start_live z
-    by false = record { below = omega arith; early = λ h. absurd (omega arith); counted = omega arith }
+    by false = record { below = refl; early = λ h. absurd (true≢false (sym h)); counted = omega arith }
 
 -- ---- the turns
 module _ (b : Ranges) (w : ℕ) (ss : List Step) (whole : Zones) (list spare : List Zone) (stack : List Part) (r : Rule) (s : Pass)
@@ -243,14 +254,15 @@ module _ (b : Ranges) (w : ℕ) (ss : List Step) (whole : Zones) (list spare : L
 
       done_plain : done st m.out.zones ≡ plain next.visit (take s.kept list)
       unfolding done at_visit
-      done_plain = rw m.shown (by (ltb 1 st.kind))
+      done_plain = rw m.shown (by st)
         where
           l : List Zone
           l = take s.kept list
 
-          by : (t : Bool) → cond t (plain st.visit l) (plain s.visit l) ≡ plain (cond t st.visit s.visit) l
-          by true = refl
-          by false = refl
+          by : (st : Step) → done st (plain s.visit l) ≡ plain (visit_after_c st s.visit) l
+          by step.Delay = refl
+          by (step.Guard g) = refl
+          by (step.Resets bits visit) = refl
 
       after_all : steps_all b w (drop (suc s.j) ss) (plain next.visit (take s.kept list)) ≡ whole
       after_all =
@@ -287,7 +299,7 @@ module _ (b : Ranges) (w : ℕ) (ss : List Step) (whole : Zones) (list spare : L
     -- a zone is taken up
     module _ (idle : s.depth ≤ 0) (more : s.i < s.n) (z : Zone) (hz : z ≡ get_or m.full s.i no_zone) (p : Part) (hp : p ≡
         part_c st w z)
-        (q : Rule) (hq : q ≡ rule_c w st.guard z) where
+        (q : Rule) (hq : asks_c st ≡ true → q ≡ rule_c w (guard_of_c st) z) where
       first_left : drop s.i (take s.n m.full) ≡ z ∷ drop (suc s.i) (take s.n m.full)
       first_left =
           let size = taken_long s.n 32 m.full m.full_long m.few in
@@ -314,7 +326,7 @@ module _ (b : Ranges) (w : ℕ) (ss : List Step) (whole : Zones) (list spare : L
             waiting = rw (first_place ∙ hp) (omega arith, part_live st w z, tt);
             same =
                 ap (λ (x : Part). meant b q x m.out) (first_place ∙ hp)
-                ∙ ap (λ (x : Rule). meant b x (part_c st w z) m.out) hq;
+                ∙ rule_any b w st z q hq m.out;
           }
 
       pub turn_loaded : Machine b w ss whole list spare (set stack 0 p) q (loaded_c s)
@@ -431,86 +443,88 @@ module _ (b : Ranges) (w : ℕ) (ss : List Step) (whole : Zones) (list spare : L
               ∙ ap (λ (n : ℕ). take n (set list s.kept y)) (sym (add-one s.kept))
 
 -- ---- the numbers of refusals
-number_two : (kept : ℕ) → number_c 2 kept ≤ 0 → kept < 32
-unfolding number_c
-number_two kept h = by (ltb kept 32) refl
-  where
-    by : (t : Bool) → ltb kept 32 ≡ t → kept < 32
-    by true e = ltb-true kept 32 e
-    by false e =
-        let seven : 7 ≤ 0 = subst (λ (x : Bool). cond x 0 7 ≤ 0) e h in
-        absurd (omega arith)
-
-number_large : (halt kept : ℕ) → 4 ≤ halt → number_c halt kept ≡ halt
-unfolding number_c
-number_large halt kept h = rw (le-ltb halt 2 (omega arith), le-ltb halt 3 (omega arith), le-ltb halt 4 h) refl
-
-number_small : (halt kept : ℕ) → halt < 2 → number_c halt kept ≡ 0
-unfolding number_c
-number_small halt kept h = rw (lt-ltb halt 2 h) refl
-
-number_full : (kept : ℕ) → 32 ≤ kept → number_c 2 kept ≡ 7
+number_full : (kept : ℕ) → 32 ≤ kept → number_c stops.Kept kept ≡ 7
 unfolding number_c
 number_full kept h = rw (le-ltb kept 32 h) refl
 
-number_room : (kept : ℕ) → kept < 32 → number_c 2 kept ≡ 0
+number_room : (kept : ℕ) → kept < 32 → number_c stops.Kept kept ≡ 0
 unfolding number_c
 number_room kept h = rw (lt-ltb kept 32 h) refl
 
-kept_full : (kept : ℕ) → 0 < number_c 2 kept → 32 ≤ kept
+kept_full : (kept : ℕ) → 0 < number_c stops.Kept kept → 32 ≤ kept
 kept_full kept h = by (ltb kept 32) refl
   where
     by : (t : Bool) → ltb kept 32 ≡ t → 32 ≤ kept
     by true e = let n = number_room kept (ltb-true kept 32 e) in absurd (omega arith)
     by false e = ltb-false kept 32 e
 
-number_three : (kept : ℕ) → number_c 3 kept ≡ 0
+-- a part that is cut, or goes on
+abbrev pub is_dropped : Halt → Bool
+is_dropped stops.No = true
+is_dropped stops.Cut = true
+is_dropped stops.Kept = false
+is_dropped stops.Split = false
+is_dropped stops.Full = false
+
+pub number_dropped : (halt : Halt) (kept : ℕ) → number_c halt kept ≤ 0 → is_split halt ≡ false → is_kept halt ≡ false → is_dropped halt ≡ true
 unfolding number_c
-number_three kept = refl
+number_dropped stops.No kept h a c = refl
+number_dropped stops.Cut kept h a c = refl
+number_dropped stops.Kept kept h a c = absurd (true≢false c)
+number_dropped stops.Split kept h a c = absurd (true≢false a)
+number_dropped stops.Full kept h a c = absurd (omega arith)
 
-two_only : (halt kept : ℕ) → halt < 4 → 0 < number_c halt kept → halt ≡ 2
-two_only halt kept l h = first (ltb halt 2) refl
+pub number_listed : (halt : Halt) (kept : ℕ) → number_c halt kept ≤ 0 → is_kept halt ≡ true → kept < 32
+unfolding number_c
+number_listed stops.No kept h e = absurd (true≢false (sym e))
+number_listed stops.Cut kept h e = absurd (true≢false (sym e))
+number_listed stops.Kept kept h e = by (ltb kept 32) refl
   where
-    second : (t : Bool) → eqb halt 3 ≡ t → 2 ≤ halt → halt ≡ 2
-    second true e g =
-        let three = eqb-true halt 3 e in
-        let n : number_c halt kept ≡ 0 = ap (λ (x : ℕ). number_c x kept) three ∙ number_three kept in
+    by : (t : Bool) → ltb kept 32 ≡ t → kept < 32
+    by true e = ltb-true kept 32 e
+    by false e =
+        let seven : 7 ≤ 0 = subst (λ (x : Bool). cond x 0 7 ≤ 0) e h in
         absurd (omega arith)
-    second false e g = between halt l g (eqb-false halt 3 e)
-      where
-        between : (halt : ℕ) → halt < 4 → 2 ≤ halt → (halt ≡ 3 → ⊥) → halt ≡ 2
-        between halt l g o = omega (arith, o)
-
-    first : (t : Bool) → ltb halt 2 ≡ t → halt ≡ 2
-    first true e = let n = number_small halt kept (ltb-true halt 2 e) in absurd (omega arith)
-    first false e = second (eqb halt 3) refl (ltb-false halt 2 e)
-
-pub number_dropped : (halt kept : ℕ) → number_c halt kept ≤ 0 → (halt ≡ 3 → ⊥) → (halt ≡ 2 → ⊥) → halt < 2
-number_dropped halt kept h a c = by (ltb halt 4) refl
-  where
-    small : (halt : ℕ) → halt < 4 → (halt ≡ 3 → ⊥) → (halt ≡ 2 → ⊥) → halt < 2
-    small halt l a c = omega (arith, a, c)
-
-    by : (t : Bool) → ltb halt 4 ≡ t → halt < 2
-    by true e = small halt (ltb-true halt 4 e) a c
-    by false e = let g = ltb-false halt 4 e in let n = number_large halt kept g in absurd (omega arith)
-
-pub number_listed : (halt kept : ℕ) → number_c halt kept ≤ 0 → halt ≡ 2 → kept < 32
-number_listed halt kept h e = number_two kept (subst (λ (x : ℕ). number_c x kept ≤ 0) e h)
+number_listed stops.Split kept h e = absurd (true≢false (sym e))
+number_listed stops.Full kept h e = absurd (true≢false (sym e))
 
 -- ---- the end of a part
+cut_splits_not : (k : Halt) → is_dropped k ≡ true → is_split k ≡ false
+cut_splits_not stops.No h = refl
+cut_splits_not stops.Cut h = refl
+cut_splits_not stops.Kept h = refl
+cut_splits_not stops.Split h = sym h
+cut_splits_not stops.Full h = refl
+
+pub kept_splits_not : (k : Halt) → is_kept k ≡ true → is_split k ≡ false
+kept_splits_not stops.No h = refl
+kept_splits_not stops.Cut h = refl
+kept_splits_not stops.Kept h = refl
+kept_splits_not stops.Split h = sym h
+kept_splits_not stops.Full h = refl
+
 module _ (p : Part) (out : Counted) where
-  ended_cut : p.halt < 2 → ended_c p out ≡ out
-  unfolding ended_c
-  ended_cut h = rw (lt-ltb p.halt 2 h) refl
+  ends_cut : (k : Halt) → is_dropped k ≡ true → ended_by k p out ≡ out
+  ends_cut stops.No h = refl
+  ends_cut stops.Cut h = refl
+  ends_cut stops.Kept h = absurd (true≢false (sym h))
+  ends_cut stops.Split h = refl
+  ends_cut stops.Full h = absurd (true≢false (sym h))
 
-  pub ended_kept : p.halt ≡ 2 → ended_c p out ≡ list_c p.zone p.tests out
+  ended_cut : is_dropped p.halt ≡ true → ended_c p out ≡ out
   unfolding ended_c
-  ended_kept h = rw h refl
+  ended_cut h = ends_cut p.halt h
 
-  ended_refused : 4 ≤ p.halt → ended_c p out ≡ refused_c p.halt out
+  ends_kept : (k : Halt) → is_kept k ≡ true → ended_by k p out ≡ list_c p.zone p.tests out
+  ends_kept stops.No h = absurd (true≢false (sym h))
+  ends_kept stops.Cut h = absurd (true≢false (sym h))
+  ends_kept stops.Kept h = refl
+  ends_kept stops.Split h = absurd (true≢false (sym h))
+  ends_kept stops.Full h = absurd (true≢false (sym h))
+
+  pub ended_kept : is_kept p.halt ≡ true → ended_c p out ≡ list_c p.zone p.tests out
   unfolding ended_c
-  ended_refused h = rw (le-ltb p.halt 2 (omega arith), le-ltb p.halt 3 (omega arith), le-ltb p.halt 4 h) refl
+  ended_kept h = ends_kept p.halt h
 
 refused_plain : (n v : ℕ) (l : List Zone) (out : Counted) → out.zones ≡ plain v l → (refused_c n out).zones ≡ refused_z n v
 unfolding refused_c
@@ -534,7 +548,7 @@ module _ (b : Ranges) (w : ℕ) (ss : List Step) (whole : Zones) (list spare : L
   size_kept : length (take s.kept list) ≡ s.kept
   size_kept = taken_long s.kept 32 list m.long m.room
 
-  pub turn_dropped : p.halt < 2 → Machine b w ss whole list spare stack r (dropped_c s)
+  pub turn_dropped : is_dropped p.halt ≡ true → Machine b w ss whole list spare stack r (dropped_c s)
   turn_dropped h =
       record {
         most = m.most;
@@ -552,11 +566,11 @@ module _ (b : Ranges) (w : ℕ) (ss : List Step) (whole : Zones) (list spare : L
         out = ended;
         shown = ap (λ (o : Counted). o.zones) (ended_cut p m.out h) ∙ m.shown;
         worth = m.worth;
-        turned = ends_turned turn (λ e. absurd (omega arith));
+        turned = ends_turned turn (cut_splits_not p.halt h);
         same = m.same;
       }
 
-  listed_shown : p.halt ≡ 2 → s.kept < 32 → ended.zones ≡ plain s.visit (take (s.kept + 1) (set list s.kept p.zone))
+  listed_shown : is_kept p.halt ≡ true → s.kept < 32 → ended.zones ≡ plain s.visit (take (s.kept + 1) (set list s.kept p.zone))
   listed_shown h k =
       ap (λ (o : Counted). o.zones) (ended_kept p m.out h)
       ∙ list_plain s.visit (take s.kept list) p.zone p.tests m.out m.shown (omega (arith, size_kept))
@@ -564,7 +578,7 @@ module _ (b : Ranges) (w : ℕ) (ss : List Step) (whole : Zones) (list spare : L
       (sym (take_more s.kept list p.zone (omega (arith, m.long)))
       ∙ ap (λ (n : ℕ). take n (set list s.kept p.zone)) (sym (add-one s.kept)))
 
-  pub turn_listed : p.halt ≡ 2 → s.kept < 32
+  pub turn_listed : is_kept p.halt ≡ true → s.kept < 32
       → Machine b w ss whole (set list s.kept p.zone) (set spare s.kept (get_or list s.kept no_zone)) stack r (listed_c s)
   turn_listed h k =
       record {
@@ -585,12 +599,12 @@ module _ (b : Ranges) (w : ℕ) (ss : List Step) (whole : Zones) (list spare : L
         out = ended;
         shown = listed_shown h k;
         worth = m.worth;
-        turned = ends_turned turn (λ e. absurd (omega arith));
+        turned = ends_turned turn (kept_splits_not p.halt h);
         same = m.same;
       }
 
   -- the same where the place was taken up before: nothing is spared
-  pub turn_listed_late : p.halt ≡ 2 → s.kept < 32 → s.kept < s.i
+  pub turn_listed_late : is_kept p.halt ≡ true → s.kept < 32 → s.kept < s.i
       → Machine b w ss whole (set list s.kept p.zone) spare stack r (listed_c s)
   turn_listed_late h k late =
       record {
@@ -610,17 +624,17 @@ module _ (b : Ranges) (w : ℕ) (ss : List Step) (whole : Zones) (list spare : L
         out = ended;
         shown = listed_shown h k;
         worth = m.worth;
-        turned = ends_turned turn (λ e. absurd (omega arith));
+        turned = ends_turned turn (kept_splits_not p.halt h);
         same =
             rest_ahead b w (drop s.j ss) s.visit s.n s.i _ m.full m.worth (omega (arith, length-drop s.j ss))
             (given_ahead s.kept s.i spare list m.full m.spare_long m.long m.full_long k late m.merged s.n)
             ∙ m.same;
       }
 
-  pub split_room : p.halt ≡ 3 → s.depth < 25
+  pub split_room : is_split p.halt ≡ true → s.depth < 25
   split_room h = room_turned turn h
 
-  module _ (h : p.halt ≡ 3) (no yes : Part) (hn : no ≡ no_c r p) (hy : yes ≡ yes_c r p) where
+  module _ (h : is_split p.halt ≡ true) (no yes : Part) (hn : no ≡ no_c r p) (hy : yes ≡ yes_c r p) where
     above : s.depth - 1 + 1 ≡ s.depth
     above = omega arith
 
@@ -655,27 +669,21 @@ module _ (b : Ranges) (w : ℕ) (ss : List Step) (whole : Zones) (list spare : L
 
   -- a refusal is what the whole pass comes to
   refused_by_lem : 0 < number_c p.halt s.kept → ended.zones ≡ refused_z (number_c p.halt s.kept) s.visit
-  refused_by_lem h = by (ltb p.halt 4) refl
+  unfolding ended_c number_c
+  refused_by_lem h = by p.halt h
     where
-      large : 4 ≤ p.halt → ended.zones ≡ refused_z (number_c p.halt s.kept) s.visit
-      large g =
-          ap (λ (o : Counted). o.zones) (ended_refused p m.out g)
-          ∙ refused_plain p.halt s.visit (take s.kept list) m.out m.shown
-          ∙ ap (λ (n : ℕ). refused_z n s.visit) (sym (number_large p.halt s.kept g))
-
-      full : p.halt ≡ 2 → ended.zones ≡ refused_z (number_c p.halt s.kept) s.visit
-      full e =
-          let positive : 0 < number_c 2 s.kept = subst (λ (x : ℕ). 0 < number_c x s.kept) e h in
-          let k : 32 ≤ s.kept = kept_full s.kept positive in
-          ap (λ (o : Counted). o.zones)
-          (ended_kept p m.out e
-          ∙ list_full s.visit (take s.kept list) p.zone p.tests m.out m.shown (omega (arith, size_kept)))
+      full : 32 ≤ s.kept → (list_c p.zone p.tests m.out).zones ≡ refused_z (number_c stops.Kept s.kept) s.visit
+      full k =
+          ap (λ (o : Counted). o.zones) (list_full s.visit (take s.kept list) p.zone p.tests m.out m.shown (omega (arith, size_kept)))
           ∙ refused_plain 7 s.visit (take s.kept list) m.out m.shown
-          ∙ ap (λ (n : ℕ). refused_z n s.visit) (sym (ap (λ (x : ℕ). number_c x s.kept) e ∙ number_full s.kept k))
+          ∙ ap (λ (n : ℕ). refused_z n s.visit) (sym (number_full s.kept k))
 
-      by : (t : Bool) → ltb p.halt 4 ≡ t → ended.zones ≡ refused_z (number_c p.halt s.kept) s.visit
-      by true e = full (two_only p.halt s.kept (ltb-true p.halt 4 e) h)
-      by false e = large (ltb-false p.halt 4 e)
+      by : (k : Halt) → 0 < number_c k s.kept → (ended_by k p m.out).zones ≡ refused_z (number_c k s.kept) s.visit
+      by stops.No h = absurd (omega arith)
+      by stops.Cut h = absurd (omega arith)
+      by stops.Kept h = full (kept_full s.kept h)
+      by stops.Split h = absurd (omega arith)
+      by stops.Full h = refused_plain 8 s.visit (take s.kept list) m.out m.shown
 
   pub turn_refused : 0 < number_c p.halt s.kept → refused_z (number_c p.halt s.kept) s.visit ≡ whole
   turn_refused h =

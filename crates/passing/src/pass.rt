@@ -1,7 +1,8 @@
 // Where a pass over zones stands, and how it goes on.
-ghost use Rattle.std.specs.Prelude.{◌≡◌, cond, ltb, ◌<◌};
-ghost use Rattle.passing.specs.State.{begun_c, pushed_c, listed_c, dropped_c, loaded_c, passed_c, stepped_c, number_c};
+ghost use Rattle.std.specs.Prelude.{◌≡◌, ◌<◌};
+ghost use Rattle.passing.specs.State.{begun_c, pushed_c, listed_c, dropped_c, loaded_c, passed_c, visit_after_c, stepped_c, number_c};
 
+use parts::Halt;
 use steps::Step;
 
 // Where a pass stands: at step j, of whose n zones the first i are taken up, `kept` are listed so far, and `depth` parts wait; and at
@@ -47,7 +48,7 @@ pub fn listed(s: Pass) -> Pass
 {
     let mut r = s;
     r.kept = s.kept + 1;
-    r.depth = numbers::less(s.depth, 1);
+    r.depth = s.depth.saturating_sub(1);
     r
 }
 
@@ -56,7 +57,7 @@ pub fn dropped(s: Pass) -> Pass
     ensures { result ≡ dropped_c s }
 {
     let mut r = s;
-    r.depth = numbers::less(s.depth, 1);
+    r.depth = s.depth.saturating_sub(1);
     r
 }
 
@@ -84,12 +85,12 @@ pub fn passed_by(s: Pass) -> Pass
 
 // The visit after a step: resets make the move.
 fn visit_after(step: Step, visit: usize) -> usize
-    ensures { result ≡ cond (ltb 1 step.kind) step.visit visit }
+    ensures { result ≡ visit_after_c step visit }
 {
-    if 1 < step.kind {
-        return step.visit;
+    match step {
+        Step::Resets { visit: made, .. } => made,
+        _ => visit,
     }
-    visit
 }
 
 // At the next step, which finds the zones that are listed.
@@ -107,21 +108,21 @@ pub fn stepped(s: Pass, step: Step) -> Pass
     }
 }
 
-// The refusal that a part which stopped so means after so many zones, or 0: a 33rd zone (7), or its own.
-pub fn number(halt: usize, kept: usize) -> usize
+// The refusal that a part which stopped so means after so many zones, or 0: a 33rd zone (7), or a 25th inequality (8).
+#[tactic(auto, unfolding(crate::specs::State::number_c))]
+pub fn number(halt: Halt, kept: usize) -> usize
     ensures { result ≡ number_c halt kept }
 {
-    if halt < 2 {
-        return 0;
-    }
-    if halt < 3 {
-        if kept < 32 {
-            return 0;
+    match halt {
+        Halt::No => 0,
+        Halt::Cut => 0,
+        Halt::Kept => {
+            if kept < 32 {
+                return 0;
+            }
+            7
         }
-        return 7;
+        Halt::Split => 0,
+        Halt::Full => 8,
     }
-    if halt < 4 {
-        return 0;
-    }
-    halt
 }

@@ -1,8 +1,9 @@
 -- The turns of the loops over the ranges.
-use mathlib.Core.Path.{◌≡◌, refl, ◌∙◌}
+use mathlib.Core.Path.{◌≡◌, refl, sym, ◌∙◌}
+use Rattle.std.specs.Prelude.{Option, Some, None}
 use mathlib.Core.Bool.{Bool, true, false}
 use mathlib.Core.List.{List}
-use Prim.Native.Nat.{ℕ, ◌+◌, ◌≤◌, ◌<◌}
+use Prim.Native.Nat.{ℕ, ◌+◌, ◌<◌}
 use native.Mathlib.Omega.{arith}
 use lib.Dec.{ltb}
 use lib.IntN.{ℤ}
@@ -13,7 +14,7 @@ use Rattle.integer.specs.Order.{lt_z_true, lt_z_false}
 use Rattle.expr.specs.Records.{PARAMETERS, blank_range}
 use Rattle.expr.specs.declared.range.Range.{Range}
 use Rattle.corners.specs.Boxes.{Points, Wide, wide_from}
-use Rattle.corners.specs.BoxLaws.{wide_high, wide_there, wide_points}
+use Rattle.corners.specs.BoxLaws.{wide_high, wide_there, none_points}
 
 -- ---- a test on two ends, at locals that hold them
 module _ (a b : ℤ) {x y : ℤ} (ex : x ≡ a) (ey : y ≡ b) where
@@ -24,27 +25,11 @@ module _ (a b : ℤ) {x y : ℤ} (ex : x ≡ a) (ey : y ≡ b) where
   not_below e = lt_z_false (rw (ex, ey) at e)
 
 -- ---- the first range of several numbers
-pub first_wide : (rs : List Range) (w : ℕ) → w ≡ wide_from rs 0 PARAMETERS → w < PARAMETERS → Wide w rs
-first_wide rs w e h = rw e (wide_there rs PARAMETERS 0 (omega arith))
+pub first_wide : (rs : List Range) (w : ℕ) (o : Option ℕ) → o ≡ wide_from rs 0 PARAMETERS → o ≡ Some w → (w < PARAMETERS) × Wide w rs
+first_wide rs w o e f = let found = sym e ∙ f in (wide_high rs PARAMETERS 0 w found, wide_there rs PARAMETERS 0 w found)
 
--- what is picked behind it
-module _ (rs : List Range) (first w : ℕ) where
-  pub picked_some : (first < PARAMETERS → (w < PARAMETERS) × Wide w rs) → (PARAMETERS ≤ first → w ≡ first) → w < PARAMETERS → Wide w rs
-  picked_some h g k = by (ltb first PARAMETERS) refl
-    where
-      by : (b : Bool) → ltb first PARAMETERS ≡ b → Wide w rs
-      by true e = (h (ltb-true first PARAMETERS e)).1
-      by false e = absurd (omega (arith, g (ltb-false first PARAMETERS e), ltb-false first PARAMETERS e))
-
-  pub picked_none : first ≡ wide_from rs 0 PARAMETERS → (first < PARAMETERS → (w < PARAMETERS) × Wide w rs)
-      → (PARAMETERS ≤ first → w ≡ first) → PARAMETERS ≤ w → Points PARAMETERS rs
-  picked_none q h g k = by (ltb first PARAMETERS) refl
-    where
-      by : (b : Bool) → ltb first PARAMETERS ≡ b → Points PARAMETERS rs
-      by true e = absurd (omega (arith, (h (ltb-true first PARAMETERS e)).0))
-      by false e =
-          let all : wide_from rs 0 PARAMETERS ≡ PARAMETERS = omega (arith, ltb-false first PARAMETERS e, wide_high rs PARAMETERS 0) in
-          rw all at (wide_points rs PARAMETERS 0 tt)
+pub none_wide : (rs : List Range) (o : Option ℕ) → o ≡ wide_from rs 0 PARAMETERS → o ≡ None → Points PARAMETERS rs
+none_wide rs o e f = none_points rs PARAMETERS 0 (sym e ∙ f) tt
 
 -- ---- one range more has one number at most, or is one of the two
 pub two_more : (rs : List Range) (w t i : ℕ)

@@ -1,5 +1,5 @@
 // Places of ranges that have several numbers.
-ghost use Rattle.std.specs.Prelude.{◌≡◌, true, false, ◌<◌, ◌≤◌, ◌≤ℤ◌, ◌<ℤ◌};
+ghost use Rattle.std.specs.Prelude.{◌≡◌, true, false, ◌<◌, ◌≤ℤ◌, ◌<ℤ◌, IfSome, IfNone};
 ghost use Rattle.corners.specs.Boxes.{Points, Wide, Two};
 
 use expr::{PARAMETERS, Range, Ranges};
@@ -27,34 +27,29 @@ fn narrower(b: Ranges, w: usize, i: usize) -> usize
     w
 }
 
-// The place of the range with the fewest numbers among those that have several, the first of these; PARAMETERS if there is none.
-pub fn narrowest(b: Ranges) -> usize
-    ensures some { result < 4 → Wide result b.list }
-    ensures none { 4 ≤ result → Points 4 b.list }
+// The place of the range with the fewest numbers among those that have several, the first of these.
+pub fn narrowest(b: Ranges) -> Option<usize>
+    ensures some { IfSome result (λ w. (w < 4) × Wide w b.list) }
+    ensures none { IfNone result (Points 4 b.list) }
 {
-    let mut w = corners::wide(b, 0);
-    let mut i = w + 1;
-    while i < PARAMETERS {
+    let first = corners::wide(b, 0)?;
+    let mut w = first;
+    for i in first + 1..PARAMETERS {
         w = narrower(b, w, i);
-        i += 1;
     }
-    w
+    Some(w)
 }
 
 // A place but w whose range has several numbers; some place but w if there is none.
 pub fn other(b: Ranges, w: usize) -> usize
     ensures { (result < 4) × (w ≡ result → ⊥) }
 {
-    let t = corners::wide(b, 0);
-    if t < w {
-        if t < PARAMETERS {
-            return t;
+    for t in 0..PARAMETERS {
+        if t != w {
+            if several(b.list[t]) {
+                return t;
+            }
         }
-        return 0;
-    }
-    let u = corners::wide(b, w + 1);
-    if u < PARAMETERS {
-        return u;
     }
     if w == 0 {
         return 1;
@@ -79,13 +74,11 @@ fn third(r: Range, i: usize, w: usize, t: usize) -> bool
 pub fn two(b: Ranges, w: usize, t: usize) -> bool
     ensures { result ≡ true → Two w t b.list }
 {
-    let mut i = 0;
-    while i < PARAMETERS {
+    for i in 0..PARAMETERS {
         let r = b.list[i];
         if third(r, i, w, t) {
             return false;
         }
-        i += 1;
     }
     true
 }

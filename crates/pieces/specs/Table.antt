@@ -14,7 +14,9 @@ use Rattle.coded.specs.CodedRead.{first_coded}
 use Rattle.cutting.specs.Cutting.{Listing, listed, refused, zones_of}
 use Rattle.cutting.specs.Cutting as cutting
 use Rattle.cutting.specs.FirstHeld.{first_held}
+use Rattle.std.specs.declared.result.Result.TheVariants.{Ok, Err}
 use Rattle.answers.specs.Numbers.{numbered}
+use Rattle.answers.specs.declared.windows.Refused.{Refused}
 use Rattle.expr.specs.Records.{affine, range_list, valuation_of}
 use Rattle.expr.specs.declared.range.Ranges.{Ranges}
 use Rattle.valuations.specs.Valuations.{first, numbers_in}
@@ -23,7 +25,7 @@ use Rattle.sheet.specs.declared.Sheet.{Sheet}
 use Rattle.reading.specs.File.{read_of}
 use Rattle.windows_reply.specs.Reply.{WindowsReply, answered_of, answered_as, refused_reply, listing_reply, sheet_reply, read_reply, reply_of}
 use Rattle.pieces.specs.Pieces.{piece_of, blank_piece, table_of}
-use Rattle.windows_reply.specs.Work.{Shown, shown, shown_of, take_closed}
+use Rattle.windows_reply.specs.Work.{Shown, shown, shown_of, blank_shown, take_closed}
 use Rattle.windows_route.specs.Places.{list_of, list_long}
 use Rattle.windows_reply.specs.declared.Worked.{Worked}
 use Rattle.pieces.specs.declared.Piece.{Piece}
@@ -70,7 +72,7 @@ unfolding items_of
 items_length work zero = refl
 items_length work (suc n) = let a = length-append (items_of work n) (item_of work n ∷ []) in let b = items_length work n in omega arith
 
-items_at : (work : Work) (n i : ℕ) → i < n → get_or (items_of work n) i blank_piece ≡ item_of work i
+pub items_at : (work : Work) (n i : ℕ) → i < n → get_or (items_of work n) i blank_piece ≡ item_of work i
 unfolding items_of
 items_at work zero i h = absurd (omega arith)
 items_at work (suc n) i h = by (ltb i n) refl (items_at work n i)
@@ -180,8 +182,8 @@ reply_few file n = by (ltb n 32) (eqb (read_of file).answer.number 0) refl
     by false true h = listing_few s n (ltb-false n 32 h) (zones_of s) refl
     by false false h = (omega arith, omega arith)
 
-work_fits : (w : Worked) (l : List ℤ) (m ns : List ℕ) (r : WindowsReply) (n : ℕ) → shown w l m ns ≡ shown_of r → Few r n
-    → Fits (work_in w.ranges w.pieces l m ns) n
+work_fits : (w : Worked) (l : List ℤ) (m ns : List ℕ) (r : WindowsReply) (n : ℕ) → shown (Ok w) l m ns ≡ shown_of r → Few r n
+    → Fits (work_in w.ranges w.counts.pieces l m ns) n
 work_fits w l m ns r n e f =
     let p = ap (λ (x : Shown). x.pieces) e in
     record { long = list_long ns (cells_in l m); few = omega (arith, f.0); room = omega (arith, f.1) }
@@ -195,30 +197,30 @@ map_pieces b [] = refl
 map_pieces b (z ∷ zs) = rw (piece_coded b z, map_pieces b zs) refl
 
 -- the zones at the first places are the reply's
-zones_there : (w : Worked) (l : List ℤ) (m ns : List ℕ) (r : WindowsReply) → shown w l m ns ≡ shown_of r
-    → take w.pieces (list_of ns (cells_in l m)) ≡ map zone_of r.zones
+zones_there : (w : Worked) (l : List ℤ) (m ns : List ℕ) (r : WindowsReply) → shown (Ok w) l m ns ≡ shown_of r
+    → take w.counts.pieces (list_of ns (cells_in l m)) ≡ map zone_of r.zones
 unfolding zones_in
 zones_there w l m ns r e =
-    let p : w.pieces ≡ length r.zones = ap (λ (x : Shown). x.pieces) e in
-    sym (take_closed blank_zone w.pieces 32 (list_of ns (cells_in l m)) (list_long ns (cells_in l m)))
-    ∙ ap (λ (x : Shown). take w.pieces x.zones) e
+    let p : w.counts.pieces ≡ length r.zones = ap (λ (x : Shown). x.pieces) e in
+    sym (take_closed blank_zone w.counts.pieces 32 (list_of ns (cells_in l m)) (list_long ns (cells_in l m)))
+    ∙ ap (λ (x : Shown). take w.counts.pieces x.zones) e
     ∙ ap (λ (k : ℕ). take k (zones_in r.zones)) p
     ∙ taken zone_of blank_zone (32 - length r.zones) r.zones
 
-places_table : (w : Worked) (l : List ℤ) (m ns : List ℕ) (r : WindowsReply) (n : ℕ) → shown w l m ns ≡ shown_of r
-    → places_of (work_in w.ranges w.pieces l m ns) n ≡ table_of r n
+places_table : (w : Worked) (l : List ℤ) (m ns : List ℕ) (r : WindowsReply) (n : ℕ) → shown (Ok w) l m ns ≡ shown_of r
+    → places_of (work_in w.ranges w.counts.pieces l m ns) n ≡ table_of r n
 unfolding places_of table_of
 places_table w l m ns r n e =
-    let p : w.pieces ≡ length r.zones = ap (λ (x : Shown). x.pieces) e in
+    let p : w.counts.pieces ≡ length r.zones = ap (λ (x : Shown). x.pieces) e in
     let b : w.ranges ≡ r.ranges = ap (λ (x : Shown). x.ranges) e in
     (λ i. map (piece_in (b i)) (zones_there w l m ns r e i) ++ replicate (n - p i) blank_piece)
     ∙ ap (λ (k : List Piece). k ++ replicate (n - length r.zones) blank_piece) (map_pieces r.ranges r.zones)
 
 -- the items that are stored are the table
-pub work_table : (file : List ℕ) (n : ℕ) (w : Worked) (l : List ℤ) (m ns : List ℕ) → shown w l m ns ≡ shown_of (reply_of file n)
-    → items_of (work_in w.ranges w.pieces l m ns) n ≡ table_of (reply_of file n) n
+pub work_table : (file : List ℕ) (n : ℕ) (w : Worked) (l : List ℤ) (m ns : List ℕ) → shown (Ok w) l m ns ≡ shown_of (reply_of file n)
+    → items_of (work_in w.ranges w.counts.pieces l m ns) n ≡ table_of (reply_of file n) n
 work_table file n w l m ns e =
-    items_table (work_in w.ranges w.pieces l m ns) n (work_fits w l m ns (reply_of file n) n e (reply_few file n))
+    items_table (work_in w.ranges w.counts.pieces l m ns) n (work_fits w l m ns (reply_of file n) n e (reply_few file n))
     ∙ places_table w l m ns (reply_of file n) n e
 
 pub table_length : (file : List ℕ) (n : ℕ) → length (table_of (reply_of file n) n) ≡ n
@@ -231,7 +233,21 @@ table_length file n =
     let c = length-replicate (n - length zs) blank_piece in
     omega (arith, (reply_few file n).1)
 
+-- with a refusal there are blanks alone
+pub refused_table : (file : List ℕ) (n : ℕ) (r : Refused) → blank_shown r ≡ shown_of (reply_of file n)
+    → replicate n blank_piece ≡ table_of (reply_of file n) n
+unfolding table_of
+refused_table file n r e = by (reply_of file n).zones (ap (λ (x : Shown). x.pieces) e)
+  where
+    by : (zs : List cutting.Zone) → 0 ≡ length zs
+        → replicate n blank_piece ≡ map (piece_of (reply_of file n).ranges) zs ++ replicate (n - length zs) blank_piece
+    by [] h = let e : n - 0 ≡ n = omega arith in rw e refl
+    by (z ∷ zs) h = absurd (omega arith)
+
 -- what the code answers is the reply's
-pub work_answer : (r : WindowsReply) (w : Worked) (l : List ℤ) (m ns : List ℕ) → shown w l m ns ≡ shown_of r
-    → answered_as w.answer ≡ answered_of r
+pub work_answer : (r : WindowsReply) (w : Worked) (l : List ℤ) (m ns : List ℕ) → shown (Ok w) l m ns ≡ shown_of r
+    → answered_as (Ok w.counts) ≡ answered_of r
 work_answer r w l m ns e = ap (λ (x : Shown). record { answer = x.answer; counts = x.counts }) e
+
+pub refused_answer : (r : WindowsReply) (x : Refused) → blank_shown x ≡ shown_of r → answered_as (Err x) ≡ answered_of r
+refused_answer r x e = ap (λ (x : Shown). record { answer = x.answer; counts = x.counts }) e

@@ -12,6 +12,7 @@ use expr::{Bound, Expr, Ranges, Valuation};
 // A place of the table (paper: piece): whether it is used; the first valuation that it holds (paper: the setting to start from); its
 // inequalities, the first `count` of the list, each an expression that is at least 0, zeros past them; and its matrix, five rows of
 // five: entry 5i + j bounds clock i - clock j.
+// A mark, not an option: the caller lends the table of these, and `table_of` of specs/Pieces tells each place.
 #[derive(Clone, Copy)]
 pub struct Piece {
     pub used: bool,
@@ -38,8 +39,7 @@ fn piece_at(b: Ranges, cells: &[i32], marks: &[u8], p: usize, n: usize) -> Piece
     ensures { result ≡ piece_in b (zone_of n (get_or (cells_in cells.now marks.now) p no_cell)) }
 {
     let at = 250 * p;
-    let found = search::first(b, &cells[at..], numbers::at_most(n, 24));
-    let first = found.valuation;
+    let first = search::first(b, &cells[at..], n.min(24)).unwrap_or(Valuation::ZERO);
     let mut z = Piece {
         used: true,
         first,
@@ -47,11 +47,9 @@ fn piece_at(b: Ranges, cells: &[i32], marks: &[u8], p: usize, n: usize) -> Piece
         ineqs: [Expr::ZERO; 24],
         bounds: [Bound::ZERO; 25],
     };
-    let mut i = 0;
-    while i < 24 {
+    for i in 0..24 {
         z.ineqs[i] = inequalities::inequality(cells, 50 * p + i);
         z.bounds[i] = cells::bound_at(cells, marks, p, i);
-        i += 1;
     }
     z.bounds[24] = cells::bound_at(cells, marks, p, 24);
     z
@@ -69,7 +67,7 @@ pub fn item_for(
     requires { (length cells.now ≡ 22500) × ((length marks.now ≡ 2250) × (length counts.now ≡ 90)) }
     ensures { result ≡ item_for b pieces i (zone_in counts.now (cells_in cells.now marks.now) i) }
 {
-    if i < numbers::at_most(pieces, 32) {
+    if i < pieces.min(32) {
         return piece_at(b, cells, marks, i, counts[i]);
     }
     Piece::BLANK

@@ -44,15 +44,13 @@ pub fn location_places(
 {
     let clocks = byte_field(file, end, 1, 4, cursor);
     let count = byte_field(file, end, 1, 16, clocks);
-    let n = numbers::at_most(count.byte as usize, 16);
+    let n = usize::from(count.byte).min(16);
     let mut list = [0u16; 16];
     let mut here = count;
-    let mut i = 0;
-    while i < n {
+    for i in 0..n {
         list[i] = short(here.at);
         let read = guards_at(file, end, most, parameters, clocks.byte, here);
         here = read.cursor;
-        i += 1;
     }
     LocationPlaces {
         cursor: finished(end, here),
@@ -75,15 +73,13 @@ pub fn transition_places(
     ensures { result ≡ transition_places file.now end most parameters clocks locations cursor }
 {
     let count = byte_field(file, end, 0, 32, cursor);
-    let n = numbers::at_most(count.byte as usize, 32);
+    let n = usize::from(count.byte).min(32);
     let mut list = [0u16; 32];
     let mut here = count;
-    let mut i = 0;
-    while i < n {
+    for i in 0..n {
         list[i] = short(here.at);
         let read = transition_at(file, end, most, parameters, clocks, locations, here);
         here = read.cursor;
-        i += 1;
     }
     TransitionPlaces {
         cursor: finished(end, here),

@@ -1,6 +1,7 @@
 -- Every sheet that is read is well formed: the theorem `read_well_formed`, from the definitions alone. With a refusal the sheet is blank.
-use Rattle.std.specs.Prelude.{ℕ, ◌+◌, ◌≤◌, ◌≡◌, refl, List, ◌⊎◌, Bool, true, false, cond, leb, length}
+use Rattle.std.specs.Prelude.{ℕ, ◌+◌, ◌≤◌, ◌≡◌, refl, List, ◌⊎◌, Bool, true, false, cond, leb, length, is_ok}
 use Rattle.std.proofs.Common.{sym, subst, ap, ◌∙◌, inl, inr, arith, leb-true}
+use Rattle.std.specs.declared.result.Result.TheVariants.{Ok}
 use Rattle.contents.specs.declared.Contents.{Contents}
 use Rattle.cursor.specs.Cursor.{advanced}
 use Rattle.contents.specs.Contents.{sized, most_parameters, contents_of}
@@ -8,11 +9,10 @@ use Rattle.expr.specs.Records.{PARAMETERS, range_list}
 use Rattle.valuations.specs.Valuations.{widths}
 use Rattle.sheet.specs.declared.Sheet.{Sheet}
 use Rattle.reading.specs.declared.SheetAt.{SheetAt}
-use Rattle.reading.specs.declared.Reading.{Reading}
 use Rattle.answers.specs.Numbers.{numbered}
 use Rattle.parameters.specs.Parameters.{parameters_at}
 use Rattle.automaton.specs.Automaton.{locations_at, transitions_at}
-use Rattle.route.specs.Route.{route_at, links_of}
+use Rattle.route.specs.Route.{route_at, links_of, broken_at}
 use Rattle.reading.specs.File.{Fine, blank_sheet, Read, read_as, refused_by, bodies_of, judged_route, judged_widths, judged_bodies}
 use Rattle.reading.specs.File.{read_of, OfFile}
 use Rattle.reading.specs.Versions.{most_few, version_right}
@@ -25,7 +25,7 @@ bodies_right :
     (s : List ℕ) (contents : Contents) → (contents.version ≡ 1) ⊎ (contents.version ≡ 2) →
     (bodies_of s contents).cursor.ok ≡ true →
     leb (widths (range_list (bodies_of s contents).sheet.ranges)) MOST_VALUATIONS ≡ true →
-    (links_of (bodies_of s contents).sheet.transition (bodies_of s contents).sheet.route (bodies_of s contents).sheet.moves).ok ≡ true →
+    is_ok (links_of (bodies_of s contents).sheet.transition (bodies_of s contents).sheet.route (bodies_of s contents).sheet.moves) ≡ true →
     WellFormed (bodies_of s contents).sheet
 unfolding bodies_of
 bodies_right s contents v h w l =
@@ -66,18 +66,18 @@ accepted_cases false x n at l h = absurd (omega arith)
 
 route_accepted :
     (third : ℕ) (sheet : Sheet) → Fine (judged_route third sheet) →
-    ((links_of sheet.transition sheet.route sheet.moves).ok ≡ true) × ((judged_route third sheet).sheet ≡ sheet)
+    (is_ok (links_of sheet.transition sheet.route sheet.moves) ≡ true) × ((judged_route third sheet).sheet ≡ sheet)
 unfolding judged_route
 route_accepted third sheet h =
     let link = links_of sheet.transition sheet.route sheet.moves in
-    let a = accepted_cases link.ok (record { answer = numbered 0 0; sheet = sheet }) 5 (third + 1 + link.index) (omega arith) h in
+    let a = accepted_cases (is_ok link) (record { answer = numbered 0 0; sheet = sheet }) 5 (third + 1 + broken_at link) (omega arith) h in
     (a.0, ap (λ (x : Read). x.sheet) a.1.1)
 
 -- its ranges are few, and its route links
 Judged : Sheet → Type 0
 Judged sheet =
     (leb (widths (range_list sheet.ranges)) MOST_VALUATIONS ≡ true) ×
-    ((links_of sheet.transition sheet.route sheet.moves).ok ≡ true)
+    (is_ok (links_of sheet.transition sheet.route sheet.moves) ≡ true)
 
 widths_accepted :
     (third : ℕ) (sheet : Sheet) → Fine (judged_widths third sheet) → Judged sheet × ((judged_widths third sheet).sheet ≡ sheet)
@@ -116,7 +116,7 @@ read_refused s =
     (refused_cases contents.cursor.ok _ 3 contents.cursor.at
     (refused_cases bodies.cursor.ok _ 4 bodies.cursor.at
     (refused_cases few _ 16 0
-    (refused_cases link.ok (record { answer = numbered 0 0; sheet = bodies.sheet }) 5 (contents.third + 1 + link.index)
+    (refused_cases (is_ok link) (record { answer = numbered 0 0; sheet = bodies.sheet }) 5 (contents.third + 1 + broken_at link)
     (λ n. absurd (n refl))))))
 
 -- what `read` gives without a refusal is well formed
@@ -131,10 +131,9 @@ read_well_formed s h =
     rw (a.1.1, b.1.1, d.1.1) (bodies_right s contents (version_right s b.0) d.0 d.1.0.0 d.1.0.1)
 
 -- the same of a result of `read`, by its contract
-pub reading_well_formed :
-    (s : List ℕ) (reading : Reading) → read_as reading ≡ read_of s → Fine (read_as reading) → WellFormed reading.sheet
-reading_well_formed s reading e h =
-    subst WellFormed (sym (ap (λ (x : Read). x.sheet) e)) (read_well_formed s (subst Fine e h))
+pub reading_well_formed : (s : List ℕ) (sheet : Sheet) → read_as (Ok sheet) ≡ read_of s → WellFormed sheet
+reading_well_formed s sheet e =
+    subst WellFormed (sym (ap (λ (x : Read). x.sheet) e)) (read_well_formed s (sym (ap (λ (x : Read). x.answer.number) e)))
 
 -- ---- the refusals that a file meets
 abbrev Met : Read → Type 0
@@ -156,6 +155,6 @@ read_numbered s =
     (met_cases contents.cursor.ok _ 3 contents.cursor.at (inr (inl refl))
     (met_cases bodies.cursor.ok _ 4 bodies.cursor.at (inr (inr (inl refl)))
     (met_cases few _ 16 0 (inr (inr (inr (inl refl))))
-    (met_cases link.ok (record { answer = numbered 0 0; sheet = bodies.sheet }) 5 (contents.third + 1 + link.index)
+    (met_cases (is_ok link) (record { answer = numbered 0 0; sheet = bodies.sheet }) 5 (contents.third + 1 + broken_at link)
     (inr (inr (inr (inr refl))))
     (inl refl)))))

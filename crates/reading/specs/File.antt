@@ -1,18 +1,20 @@
 -- The whole file (paper 01, "The sheet file", rows 2 to 5 of "When no piece is given", and row 16 of paper 02, request (i)): checked 2, 3,
 -- 4, 16, 5 in order, the whole file for each.
-use Rattle.std.specs.Prelude.{◌≡◌, ◌⊎◌, ℕ, ◌+◌, List, cond, leb, length, replicate}
-use Rattle.answers.specs.Numbers.{numbered, checked_as}
+use Rattle.std.specs.Prelude.{◌≡◌, ◌⊎◌, ℕ, ◌+◌, List, cond, leb, length, replicate, is_ok}
+use Rattle.std.specs.declared.result.Result.{Result}
+use Rattle.std.specs.declared.result.Result.TheVariants.{Ok, Err}
+use Rattle.answers.specs.Numbers.{numbered, refusal_as}
 use Rattle.answers.specs.declared.Numbered.{Numbered}
+use Rattle.answers.specs.declared.file.Refusal.{Refusal}
 use Rattle.contents.specs.declared.Contents.{Contents}
 use Rattle.cursor.specs.Cursor.{advanced}
 use Rattle.contents.specs.Contents.{sized, most_parameters, contents_of}
 use Rattle.sheet.specs.declared.Sheet.{Sheet}
 use Rattle.reading.specs.declared.SheetAt.{SheetAt}
-use Rattle.reading.specs.declared.Reading.{Reading}
 use Rattle.expr.specs.Records.{range_list, zero_ranges}
 use Rattle.parameters.specs.Parameters.{parameters_at}
 use Rattle.automaton.specs.Automaton.{locations_at, transitions_at, blank_locations, blank_transitions}
-use Rattle.route.specs.Route.{route_at, links_of}
+use Rattle.route.specs.Route.{route_at, links_of, broken_at}
 use Rattle.valuations.specs.Valuations.{widths}
 use Rattle.sheet.specs.WellFormed.{MOST_VALUATIONS}
 
@@ -37,9 +39,10 @@ pub record Read : Type 0 where
   pub answer : Numbered
   pub sheet : Sheet
 
--- the code's record of it
-abbrev pub read_as : Reading → Read
-read_as r = record { answer = checked_as r.checked; sheet = r.sheet }
+-- what the code answers
+abbrev pub read_as : Result Sheet Refusal → Read
+read_as (Ok sheet) = record { answer = numbered 0 0; sheet = sheet }
+read_as (Err r) = record { answer = refusal_as r; sheet = blank_sheet }
 
 -- refused by a number at a place
 unfoldable pub refused_by : ℕ → ℕ → Read
@@ -74,7 +77,7 @@ bodies_of s contents =
 unfoldable pub judged_route : ℕ → Sheet → Read
 judged_route third sheet =
     let link = links_of sheet.transition sheet.route sheet.moves in
-    cond link.ok (record { answer = numbered 0 0; sheet = sheet }) (refused_by 5 (third + 1 + link.index))
+    cond (is_ok link) (record { answer = numbered 0 0; sheet = sheet }) (refused_by 5 (third + 1 + broken_at link))
 
 -- refusal 16, where the ranges have more than 262,144 valuations, else what follows it
 unfoldable pub judged_widths : ℕ → Sheet → Read

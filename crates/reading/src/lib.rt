@@ -4,13 +4,12 @@
 #![tactic(auto)]
 
 ghost use Rattle.std.specs.Prelude.{◌≡◌, leb};
-ghost use Rattle.reading.specs.File.{blank_sheet, bodies_of, judged_route, judged_widths, judged_bodies, read_of, read_as};
+ghost use Rattle.reading.specs.File.{bodies_of, judged_route, judged_widths, judged_bodies, read_of, read_as};
 ghost use Rattle.expr.specs.Records.{range_list};
 ghost use Rattle.valuations.specs.Valuations.{widths};
 ghost use Rattle.sheet.specs.WellFormed.{MOST_VALUATIONS};
-ghost use Rattle.answers.specs.Numbers.{refusal_as};
 
-use answers::file::{Checked, Refusal};
+use answers::file::Refusal;
 use automaton::locations::locations_at;
 use automaton::transitions::transitions_at;
 use contents::Contents;
@@ -21,28 +20,11 @@ use parameters::parameters_at;
 use route::{links_of, route_at};
 use sheet::Sheet;
 
-// What reading a file gives: that it is fine, and its sheet; or why it is refused, and a blank sheet.
-#[derive(Clone, Copy)]
-pub struct Reading {
-    pub checked: Checked,
-    pub sheet: Sheet,
-}
-
 // The four bodies: where reading them ended, and the sheet.
 #[derive(Clone, Copy)]
 pub struct SheetAt {
     pub cursor: Cursor,
     pub sheet: Sheet,
-}
-
-// The reading of a file that is refused.
-fn refused(refusal: Refusal) -> Reading
-    ensures { read_as result ≡ record { answer = refusal_as refusal; sheet = blank_sheet } }
-{
-    Reading {
-        checked: Checked::Refused(refusal),
-        sheet: Sheet::BLANK,
-    }
 }
 
 // The four bodies of a file, read in order.
@@ -90,20 +72,15 @@ fn bodies_of(file: &[u8], contents: Contents) -> SheetAt
     }
 }
 
-// The reading of a file whose body 4 starts at `third`: its fields and ranges are right, its route is judged.
-fn judged_route(third: u32, sheet: Sheet) -> Reading
+// Judges the route of a file whose body 4 starts at `third`: its fields and ranges are right.
+fn judged_route(third: u32, sheet: Sheet) -> Result<Sheet, Refusal>
     ensures { read_as result ≡ judged_route third sheet }
 {
     let transition = sheet.transition;
     let route = sheet.route;
-    let link = links_of(transition, route, sheet.moves);
-    if link.ok {
-        Reading {
-            checked: Checked::Fine,
-            sheet,
-        }
-    } else {
-        refused(Refusal::Route((third as usize) + 1 + (link.index as usize)))
+    match links_of(transition, route, sheet.moves) {
+        Ok(_) => Ok(sheet),
+        Err(index) => Err(Refusal::Route((third as usize) + 1 + (index as usize))),
     }
 }
 
@@ -115,43 +92,41 @@ pub fn few_valuations(b: Ranges) -> bool
     counting::count(b, &none, 0) <= 262144
 }
 
-// The reading of a file whose body 4 starts at `third`: its fields are right, its ranges and then its route are judged.
-fn judged_widths(third: u32, sheet: Sheet) -> Reading
+// Judges the ranges and then the route of a file whose body 4 starts at `third`: its fields are right.
+fn judged_widths(third: u32, sheet: Sheet) -> Result<Sheet, Refusal>
     ensures { read_as result ≡ judged_widths third sheet }
 {
-    let ranges = sheet.ranges;
-    if few_valuations(ranges) {
+    if few_valuations(sheet.ranges) {
         judged_route(third, sheet)
     } else {
-        refused(Refusal::Valuations)
+        Err(Refusal::Valuations)
     }
 }
 
-// The reading of a file whose body 4 starts at `third`: its bodies have been read.
-fn judged_bodies(third: u32, bodies: SheetAt) -> Reading
+// Judges a file whose body 4 starts at `third`: its bodies have been read.
+fn judged_bodies(third: u32, bodies: SheetAt) -> Result<Sheet, Refusal>
     ensures { read_as result ≡ judged_bodies third bodies }
 {
     let cursor = bodies.cursor;
     if cursor.ok {
         judged_widths(third, bodies.sheet)
     } else {
-        refused(Refusal::Body(cursor.at))
+        Err(Refusal::Body(cursor.at))
     }
 }
 
 // The sheet of a file, or why it is refused.
-pub fn read(file: &[u8]) -> Reading
+pub fn read(file: &[u8]) -> Result<Sheet, Refusal>
     ensures { read_as result ≡ read_of file.now }
 {
+    if !sized(file) {
+        return Err(Refusal::Size);
+    }
     let contents = contents_of(file);
     let cursor = contents.cursor;
-    if sized(file) {
-        if cursor.ok {
-            judged_bodies(contents.third, bodies_of(file, contents))
-        } else {
-            refused(Refusal::Contents(cursor.at))
-        }
+    if cursor.ok {
+        judged_bodies(contents.third, bodies_of(file, contents))
     } else {
-        refused(Refusal::Size)
+        Err(Refusal::Contents(cursor.at))
     }
 }

@@ -1,21 +1,23 @@
 -- Body 4: what was read of it, if reading has not stopped, is right; and a route that was followed to its end links. From the
 -- definitions of `Route`.
 use Prim.Native.Nat.{ℕ, zero, suc, ◌≤◌, ◌<◌}
-use Rattle.std.specs.Prelude.{◌≡◌, List, Bool, get_or, ltb, eqb}
+use Rattle.std.specs.Prelude.{◌≡◌, List, Bool, get_or, ltb, eqb, is_ok, ⊤}
+use Rattle.std.specs.declared.result.Result.{Result}
+use Rattle.std.specs.declared.result.Result.TheVariants.{Ok, Err}
 use Rattle.std.proofs.Math.Path.{refl}
-use Rattle.std.proofs.Common.{ap, ◌∙◌, arith}
+use Rattle.std.proofs.Common.{ap, sym, ◌∙◌, arith}
 use Rattle.std.proofs.Math.Bool.{true, false, cond}
 use Rattle.std.proofs.Math.ListN.{set, replicate}
 use borrow.Author.Tests.{ltb-true, ltb-false, eqb-true, eqb-false}
 use Rattle.cursor.specs.declared.Cursor.{Cursor}
 use Rattle.cursor.specs.Cursor.{byte_field, below_field, iterate}
 use Rattle.cursor_laws.specs.Laws.{no, finished_ok, byte_field_right, below_field_right}
+use Rattle.cursor_laws.specs.Counted.{rests}
 use Rattle.cursor_laws.specs.FilledLaws.{step, filled}
 use Rattle.cursor_laws.specs.Right.{Filled}
 use Rattle.automaton.specs.declared.Transition.{Transition}
 use Rattle.automaton.specs.Automaton.{no_transition}
 use Rattle.route.specs.declared.RouteAt.{RouteAt}
-use Rattle.route.specs.declared.Link.{Link}
 use Rattle.route.specs.Route.{route_step, route_read, route_at, ends_at, link_step, links_of, arrived_at}
 
 module _ (s : List ℕ) (end : ℕ) where
@@ -62,48 +64,61 @@ module _ (transition : List Transition) (route : List ℕ) (moves : ℕ) where
   to_at k = (get_or transition (get_or route k 0) no_transition).to
 
   -- after i moves that link
-  record Linked (i : ℕ) (link : Link) : Type 0 where
+  record Linked (i location : ℕ) : Type 0 where
     each : (k : ℕ) → k < i → k < moves → source_at k ≡ arrived_at transition route k
-    here : i ≤ moves → link.location ≡ arrived_at transition route i
+    here : i ≤ moves → location ≡ arrived_at transition route i
 
-  abbrev link_by : Bool → Bool → Bool → ℕ → Link → Link
-  link_by b c t i link =
-      cond b
-      (cond c (cond t (record { ok = true; index = i; location = to_at i }) (record { ok = false; index = i; location = 0 })) link)
-      link
+  abbrev LinkedBy : ℕ → Result ℕ ℕ → Type 0
+  LinkedBy i (Ok location) = Linked i location
+  LinkedBy i (Err index) = ⊤
+
+  abbrev link_by : Bool → Bool → ℕ → ℕ → Result ℕ ℕ
+  link_by b t i location = cond b (cond t (Ok (to_at i)) (Err i)) (Ok location)
 
   link_cases :
-      (b c t : Bool) (i : ℕ) (link : Link) → ltb i moves ≡ b → link.ok ≡ c → eqb (source_at i) link.location ≡ t →
-      (link.ok ≡ true → Linked i link) → (link_by b c t i link).ok ≡ true → Linked (suc i) (link_by b c t i link)
+      (b t : Bool) (i location : ℕ) → ltb i moves ≡ b → eqb (source_at i) location ≡ t → Linked i location →
+      LinkedBy (suc i) (link_by b t i location)
   unfolding arrived_at
-  link_cases true true true i link e f g l h =
+  link_cases true true i location e g w =
       let m = ltb-true i moves e in
-      let w = l f in
-      let here : source_at i ≡ arrived_at transition route i = eqb-true (source_at i) link.location g ∙ w.here (omega arith) in
+      let here : source_at i ≡ arrived_at transition route i = eqb-true (source_at i) location g ∙ w.here (omega arith) in
       record {
         each =
             λ k ki km. below_suc (λ k. source_at k ≡ arrived_at transition route k) i k (eqb k i) refl ki here (λ lt. w.each k lt km);
         here = λ n. refl;
       }
-  link_cases true true false i link e f g l h = no h
-  link_cases true false t i link e f g l h =
-      let z : false ≡ true = cc in
-      no z
-  link_cases false c t i link e f g l h =
+  link_cases true false i location e g w = tt
+  link_cases false t i location e g w =
       let m = ltb-false i moves e in
-      let w = l h in
       record { each = λ k ki km. w.each k (omega arith) km; here = λ n. absurd (omega arith) }
 
-  linked :
-      (i : ℕ) → (iterate (link_step transition route moves) (record { ok = true; index = 0; location = 0 }) i).ok ≡ true →
-      Linked i (iterate (link_step transition route moves) (record { ok = true; index = 0; location = 0 }) i)
-  unfolding iterate link_step ends_at arrived_at
-  linked zero h = record { each = λ k k0 km. absurd (omega arith); here = λ n. refl }
-  linked (suc i) h =
-      let link = iterate (link_step transition route moves) (record { ok = true; index = 0; location = 0 }) i in
-      link_cases (ltb i moves) link.ok (eqb (source_at i) link.location) i link refl refl refl (linked i) h
+  link_more : (i : ℕ) (link : Result ℕ ℕ) → LinkedBy i link → LinkedBy (suc i) (link_step transition route moves i link)
+  unfolding link_step ends_at
+  link_more i (Ok location) w = link_cases (ltb i moves) (eqb (source_at i) location) i location refl refl w
+  link_more i (Err index) w = tt
+
+  linked : (i : ℕ) → LinkedBy i (iterate (link_step transition route moves) (Ok 0) i)
+  unfolding iterate arrived_at
+  linked zero = record { each = λ k k0 km. absurd (omega arith); here = λ n. refl }
+  linked (suc i) = link_more i (iterate (link_step transition route moves) (Ok 0) i) (linked i)
+
+  -- a route that links before its move i and not there
+  pub links_broken :
+      (i location index : ℕ) → i < 32 → Ok location ≡ iterate (link_step transition route moves) (Ok 0) i →
+      Err index ≡ link_step transition route moves i (Ok location) → Err index ≡ links_of transition route moves
+  unfolding iterate link_step links_of
+  links_broken i location index l e f =
+      sym
+      (rests (link_step transition route moves) (Ok 0) (suc i) 32 (Err index) (omega arith)
+      (sym (f ∙ ap (link_step transition route moves i) e)) (λ j h. refl))
+
+  right_by :
+      (link : Result ℕ ℕ) → LinkedBy 32 link → is_ok link ≡ true → moves ≤ 32 → (k : ℕ) → k < moves →
+      source_at k ≡ arrived_at transition route k
+  right_by (Ok location) w h few k km = w.each k (omega arith) km
+  right_by (Err index) w h few k km = no h
 
   pub links_right :
-      (links_of transition route moves).ok ≡ true → moves ≤ 32 → (k : ℕ) → k < moves → source_at k ≡ arrived_at transition route k
+      is_ok (links_of transition route moves) ≡ true → moves ≤ 32 → (k : ℕ) → k < moves → source_at k ≡ arrived_at transition route k
   unfolding links_of
-  links_right h few k km = (linked 32 h).each k (omega arith) km
+  links_right h few k km = right_by (links_of transition route moves) (linked 32) h few k km

@@ -5,6 +5,7 @@
 #![tactic(auto)]
 
 ghost use Rattle.std.specs.Prelude.{◌≡◌, ◌<◌};
+ghost use Rattle.std.specs.declared.result.Result.TheVariants.{Ok};
 ghost use Rattle.route.specs.Route.{route_read, route_at, ends_at, link_step, links_of};
 
 use automaton::Transition;
@@ -25,29 +26,18 @@ pub struct Ends {
     pub to: usize,
 }
 
-// Following a route: where it has arrived if `ok`; otherwise the index of the first move that does
-// not start where the last arrived.
-#[derive(Clone, Copy)]
-pub struct Link {
-    pub ok: bool,
-    pub index: u8,
-    pub location: usize,
-}
-
 // The fields of body 4.
 fn route_read(file: &[u8], end: usize, transitions: u8, cursor: Cursor) -> RouteAt
     ensures { result ≡ route_read file.now end transitions cursor }
 {
     let count = byte_field(file, end, 0, 32, cursor);
-    let n = numbers::at_most(count.byte as usize, 32);
+    let n = usize::from(count.byte).min(32);
     let mut list = [0u8; 32];
     let mut here = count;
-    let mut i: usize = 0;
-    while i < n {
+    for i in 0..n {
         let number = below_field(file, end, transitions, here);
         list[i] = number.byte;
         here = number;
-        i += 1;
     }
     RouteAt {
         cursor: here,
@@ -81,49 +71,39 @@ fn ends_at(transition: [Transition; 32], number: u8) -> Ends
     }
 }
 
-// One more move, if the count says so.
-fn link_step(transition: [Transition; 32], route: [u8; 32], moves: usize, i: u8, link: Link) -> Link
+// One more move, if the count says so: where the route has arrived then, or the move's index where it does not start where the last
+// arrived.
+fn link_step(
+    transition: [Transition; 32],
+    route: [u8; 32],
+    moves: usize,
+    i: u8,
+    location: usize,
+) -> Result<usize, u8>
     requires { i < 32 }
-    ensures { result ≡ link_step transition route moves i link }
+    ensures { result ≡ link_step transition route moves i (Ok location) }
 {
     let k = i as usize;
     let ends = ends_at(transition, route[k]);
     if k < moves {
-        if link.ok {
-            if ends.from == link.location {
-                Link {
-                    ok: true,
-                    index: i,
-                    location: ends.to,
-                }
-            } else {
-                Link {
-                    ok: false,
-                    index: i,
-                    location: 0,
-                }
-            }
+        if ends.from == location {
+            Ok(ends.to)
         } else {
-            link
+            Err(i)
         }
     } else {
-        link
+        Ok(location)
     }
 }
 
-// The whole route followed from location 0.
-pub fn links_of(transition: [Transition; 32], route: [u8; 32], moves: usize) -> Link
+// The whole route followed from location 0: where it has arrived, or the index of the first move that does not start where the last
+// arrived.
+pub fn links_of(transition: [Transition; 32], route: [u8; 32], moves: usize) -> Result<usize, u8>
     ensures { result ≡ links_of transition route moves }
 {
-    let mut link = Link {
-        ok: true,
-        index: 0,
-        location: 0,
-    };
-    let mut i: u8 = 0;
-    while i < 32 {
-        link = link_step(transition, route, moves, i, link);
-        i += 1;
+    let mut location = 0;
+    for i in 0..32 {
+        location = link_step(transition, route, moves, i, location)?;
     }
-    link
+    Ok(location)
 }

@@ -31,11 +31,9 @@ pub(crate) fn all_put_in(v: Valuation, flat: &[i32], n: usize) -> Constants
     ensures { (k : ℕ) → k < n → ValueOf (expr_at flat.now k) v.numbers (get_or result.numbers k (pos 0)) }
 {
     let mut l = Constants::ZERO;
-    let mut k = 0;
-    while k < n {
+    for k in 0..n {
         let x = inequalities::value_at(v, inequalities::inequality(flat, k));
         l.numbers[k] = x;
-        k += 1;
     }
     l
 }
@@ -61,7 +59,7 @@ fn held(q: Line, x: i16, r: Range) -> Range
             return r;
         }
     }
-    intervals::interval(r, c, numbers::wide(a))
+    intervals::interval(r, c, i64::from(a))
 }
 
 // The part of s where the first n inequalities of a flat list hold at x, their constants having all but the parameters at w and t put in.
@@ -80,8 +78,7 @@ pub(crate) fn row(
     ensures { result ≡ row_from (line_at constants.now flat.now w t) 0 n x s }
 {
     let mut r = s;
-    let mut k = 0;
-    while k < n {
+    for k in 0..n {
         let constant = constants[k];
         let first = flat[5 * k + 1 + w];
         let second = flat[5 * k + 1 + t];
@@ -91,7 +88,6 @@ pub(crate) fn row(
             second,
         };
         r = held(q, x, r);
-        k += 1;
     }
     r
 }

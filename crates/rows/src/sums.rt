@@ -23,11 +23,9 @@ fn along(b: Ranges, flat: &[i32], n: usize, w: usize, t: usize) -> usize
     let s = b.list[t];
     let m = widths::width(range);
     let mut total = 0;
-    let mut i = 0;
-    while i < m {
+    for i in 0..m {
         let p = widths::point(range, i);
         total += widths::width(lines::row(&l.numbers, flat, n, w, t, p.low, s));
-        i += 1;
     }
     total
 }

@@ -7,6 +7,7 @@ use Rattle.parts.specs.Parts.{after_c}
 use Rattle.parts.specs.declared.part.Part.{Part}
 use Rattle.running.specs.declared.task.Guarding.{Guarding}
 use Rattle.running.specs.declared.task.Task.{Task}
+use Rattle.zones.specs.declared.told.Told.{Told}
 use Rattle.zones.specs.declared.zone.Zone.{Zone}
 
 -- the part of a task and a zone
@@ -26,6 +27,6 @@ abbrev pub guarding_c : ℕ → Guard → Guarding
 guarding_c w g = record { clocks = w; left = g.left; right = g.right; bound = g.bound }
 
 -- a task after the answer to its test
-unfoldable pub answered_t : Task → ℕ → Task
+unfoldable pub answered_t : Task → Told → Task
 answered_t t kind =
     record { phase = (after_c t.phase kind).phase; halt = (after_c t.phase kind).halt; tests = t.tests; test = t.test }

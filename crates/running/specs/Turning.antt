@@ -1,7 +1,7 @@
 -- One turn of a part that stands in cells.
 use Rattle.std.specs.Prelude.{◌≡◌, Bool, true, false, cond, ℕ, ◌+◌, ◌≤◌, ◌<◌, min, ℤ, get_or, set}
 use Rattle.std.proofs.Math.Path.{refl, sym, ap}
-use Rattle.std.proofs.Common.{subst, ◌∙◌, arith, le-ltb}
+use Rattle.std.proofs.Common.{subst, ◌∙◌, arith}
 use mathlib.Core.List.{List}
 use Rattle.std.proofs.lemmas.List.{set-get_or}
 use Rattle.cells.specs.Cells.{Cell, cells_in}
@@ -11,14 +11,15 @@ use Rattle.constrain.specs.declared.rule.Rule.{Rule}
 use Rattle.expr.specs.Records.{no_bound}
 use Rattle.expr.specs.declared.bound.Bound.{Bound}
 use Rattle.expr.specs.declared.range.Ranges.{Ranges}
-use Rattle.parts.specs.Parts.{enters_c, turn_c, after_c, tests_in}
+use Rattle.parts.specs.Parts.{goes_on, enters_c, turn_c, after_c, tests_in}
 use Rattle.parts.specs.declared.part.Next.{Next}
 use Rattle.parts.specs.declared.part.Part.{Part}
 use Rattle.parts.specs.declared.part.Turn.{Turn}
 use Rattle.split.specs.Turns.{Way, turned, way_turn, way_less, part_of}
 use Rattle.split.specs.Runs.{left}
-use Rattle.zones.specs.Settled.{settled_f}
+use Rattle.zones.specs.Settled.{told_settled, settled_f}
 use Rattle.zones.specs.System.{SameRows}
+use Rattle.zones.specs.declared.told.Told.{Told}
 use Rattle.zones.specs.declared.zone.Zone.{Zone}
 use Rattle.running.specs.Asks.{asking_c}
 use Rattle.running.specs.Tasks.{rule_at}
@@ -31,8 +32,8 @@ put_or_not : (s : Bool) (m : List Bound) (x : ℕ) (v : Bound) → set m x (cond
 put_or_not true m x v = refl
 put_or_not false m x v = set-get_or m x no_bound
 
-module _ (r : Rule) (z : Zone) (c : Ranges) (n : ℕ) (p : Part) (flat : List ℤ) (q : Part) (w : Way r z c n p flat q) (h : q.halt < 1)
-    (a : Asking) (ha : a ≡ asking_c r q.phase) (kind : ℕ) (hk : kind ≡ settled_f c flat n a.test) (u : Bound) (x : Turn)
+module _ (r : Rule) (z : Zone) (c : Ranges) (n : ℕ) (p : Part) (flat : List ℤ) (q : Part) (w : Way r z c n p flat q) (h : goes_on q.halt ≡ true)
+    (a : Asking) (ha : a ≡ asking_c r q.phase) (kind : Told) (hk : kind ≡ settled_f c flat n a.test) (u : Bound) (x : Turn)
     (hx : x ≡ turn_c q.phase q.tests q.test u a.test a.via kind) (new : List Bound)
     (hn : new ≡ cond (enters_c q.phase kind) (set q.zone.bounds a.into a.via) q.zone.bounds) where
   asked : a.test ≡ ask_c r q.phase
@@ -68,8 +69,8 @@ module _ (r : Rule) (z : Zone) (c : Ranges) (n : ℕ) (p : Part) (flat : List �
   cell_less = subst (λ (y : Part). left y < left q) made_is (way_less r z c n p flat q w h a.test asked kind hk a.via via_is)
 
 -- the same where the verdict is yes or no: the question stays what it was
-module _ (r : Rule) (z : Zone) (c : Ranges) (n : ℕ) (p : Part) (flat : List ℤ) (q : Part) (w : Way r z c n p flat q) (h : q.halt < 1)
-    (a : Asking) (ha : a ≡ asking_c r q.phase) (kind : ℕ) (hk : kind ≡ settled_f c flat n a.test) (few : kind < 2) (tests : ℕ)
+module _ (r : Rule) (z : Zone) (c : Ranges) (n : ℕ) (p : Part) (flat : List ℤ) (q : Part) (w : Way r z c n p flat q) (h : goes_on q.halt ≡ true)
+    (a : Asking) (ha : a ≡ asking_c r q.phase) (kind : Told) (hk : kind ≡ settled_f c flat n a.test) (few : told_settled kind ≡ true) (tests : ℕ)
     (ht : tests ≡ min q.tests 26 + tests_in a.test) (y : Next) (hy : y ≡ after_c q.phase kind) (new : List Bound)
     (hn : new ≡ cond (enters_c q.phase kind) (set q.zone.bounds a.into a.via) q.zone.bounds) where
   abbrev all : Turn
@@ -80,7 +81,7 @@ module _ (r : Rule) (z : Zone) (c : Ranges) (n : ℕ) (p : Part) (flat : List �
 
   quick_is : part_of q.zone new all.test all.tests all.phase all.halt ≡ quick
   unfolding turn_c
-  quick_is = rw (le-ltb 1 kind (omega arith), ht, hy) refl
+  quick_is = rw (few, ht, hy) refl
 
   pub quick_turn : (m : List ℤ) → SameRows n flat m → Way r z c n p m quick
   quick_turn m hm = subst (Way r z c n p m) quick_is (cell_turn r z c n p flat q w h a ha kind hk a.via all refl new hn m hm)

@@ -4,13 +4,15 @@ ghost use Rattle.running.specs.Tasks.{answered_t, guarding_c};
 
 use expr::{Bound, Expr};
 use guards::Guard;
+use parts::Halt;
+use zones::Told;
 
-// A part but for its zone: the test that comes next (27: none); whether it goes on (0), is cut (1), is kept (2), splits by the test (3), or
-// is refused (8); how many tests were asked on its way; and the test that it splits by.
+// A part but for its zone: the test that comes next (27: none); where it stops; how many tests were asked on its way; and the test that it
+// splits by.
 #[derive(Clone, Copy)]
 pub struct Task {
     pub phase: usize,
-    pub halt: usize,
+    pub halt: Halt,
     pub tests: usize,
     pub test: Expr,
 }
@@ -28,7 +30,7 @@ impl Task {
     // Before the first test.
     pub const START: Task = Task {
         phase: 0,
-        halt: 0,
+        halt: Halt::No,
         tests: 0,
         test: Expr::ZERO,
     };
@@ -36,7 +38,7 @@ impl Task {
     // Kept as it is.
     pub const KEPT: Task = Task {
         phase: 27,
-        halt: 2,
+        halt: Halt::Kept,
         tests: 0,
         test: Expr::ZERO,
     };
@@ -55,8 +57,8 @@ pub fn of_guard(clocks: usize, g: Guard) -> Guarding
     }
 }
 
-// A part after the answer to its test, no (0) or yes (1).
-pub fn answered(t: Task, kind: usize) -> Task
+// A part after the verdict on its test.
+pub fn answered(t: Task, kind: Told) -> Task
     ensures { result ≡ answered_t t kind }
 {
     let next = parts::after(t.phase, kind);

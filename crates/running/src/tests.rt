@@ -4,6 +4,7 @@ ghost use Rattle.parts.specs.Parts.{enters_c, tests_in};
 ghost use Rattle.cells.specs.Cells.{cells_in, no_cell, with_matrix, put_bound, zone_of};
 ghost use Rattle.expr.specs.declared.range.Ranges.{Ranges};
 ghost use Rattle.zones.specs.Hinted.{Hinted, Trusted, found_c, noted_c};
+ghost use Rattle.zones.specs.Settled.{told_settled};
 ghost use Rattle.split.specs.Trees.{Live, Ran};
 ghost use Rattle.running.specs.Asks.{asking_c};
 ghost use Rattle.running.specs.Tasks.{part_at, rule_at};
@@ -11,7 +12,7 @@ ghost use Rattle.running.specs.Tasks.{part_at, rule_at};
 use crate::task::{Guarding, Task};
 use expr::{Bound, Test};
 use settling::Verdict;
-use zones::Hint;
+use zones::{Hint, Told};
 
 // Where a part stops, and what is known of its zone then: where it splits, the guess may lie in one of the two parts and the other
 // valuation in the other.
@@ -48,17 +49,17 @@ fn asked_at(cells: &[i32], marks: &[u8], old: usize, g: Guarding, phase: usize) 
 }
 
 // Whether a verdict on the test of a phase puts an entry in.
-fn enters(phase: usize, kind: usize) -> bool
+fn enters(phase: usize, kind: Told) -> bool
     ensures { result ≡ enters_c phase kind }
 {
     if 1 < phase {
-        return kind == 1;
+        return kind.is_yes();
     }
     false
 }
 
 // Puts what was compared at a phase into the matrix at place p, where the verdict says so.
-fn entered(cells: &mut [i32], marks: &mut [u8], p: usize, a: Asking, phase: usize, kind: usize)
+fn entered(cells: &mut [i32], marks: &mut [u8], p: usize, a: Asking, phase: usize, kind: Told)
     requires { (length cells.old ≡ 22500) × ((length marks.old ≡ 2250) × ((p < 90) × (a.into < 25))) }
     ensures { cells_in cells.new marks.new
         ≡ cond (enters_c phase kind) (put_bound (cells_in cells.old marks.old) p a.into a.via)
@@ -72,12 +73,12 @@ fn entered(cells: &mut [i32], marks: &mut [u8], p: usize, a: Asking, phase: usiz
 
 // Whether a verdict is yes or no and there is nothing to remember of it: it was told without a search.
 fn at_once(v: Verdict) -> bool
-    ensures { result ≡ true → v.kind < 2 }
+    ensures { result ≡ true → told_settled v.kind ≡ true }
 {
     if v.searched {
         return false;
     }
-    v.kind < 2
+    v.kind.is_settled()
 }
 
 // With what a verdict on a test says where a search told so, else with the valuation that it names.
@@ -95,7 +96,7 @@ fn learned(h: Hint, v: Verdict, t: Test) -> Hint
 fn counted(tests: usize, t: Test) -> usize
     ensures { result ≡ min tests 26 + tests_in t }
 {
-    numbers::at_most(tests, 26) + parts::tests_in(t)
+    tests.min(26) + parts::tests_in(t)
 }
 
 // The part at place p, with n inequalities, worked on where it stands, until it stops, whatever the ranges are that the hint was made of;
@@ -123,7 +124,7 @@ pub fn run(
     ensures known { (b : Ranges) → Hinted b (zone_of n (get_or (cells_in cells.old marks.old) p no_cell)) hint
         → Hinted b (zone_of n (get_or (cells_in cells.old marks.old) p no_cell)) result.hint }
 {
-    if 0 < task.halt {
+    if !task.halt.goes_on() {
         return Stop { task, hint };
     }
     let mut known = hint;
@@ -133,9 +134,9 @@ pub fn run(
     let mut tests = task.tests;
     let mut phase = task.phase;
     let mut halt = task.halt;
-    while halt < 1 {
+    while halt.goes_on() {
         if constrain::outside(g.clocks, phase) {
-            let next = parts::after(phase, 0);
+            let next = parts::after(phase, Told::No);
             phase = next.phase;
             halt = next.halt;
         } else {

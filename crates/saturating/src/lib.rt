@@ -5,17 +5,14 @@ ghost use Rattle.std.specs.Prelude.{◌≡◌, ◌+ℤ◌, ◌-ℤ◌, ◌*ℤ�
 ghost use Rattle.weight.specs.Upper.{saturate};
 ghost use Rattle.saturating.specs.Largest.{LARGEST};
 
-// x, or the nearer end of -(2^30 - 1) to 2^30 - 1.
+// Numbers count up to ±(2^30 - 1).
+const HIGHEST: i32 = 1073741823;
+
+// x, or the nearer end of -HIGHEST to HIGHEST.
 fn clamped(x: i32) -> i32
     ensures { result ≡ saturate LARGEST x }
 {
-    if x <= 1073741823 {
-        if -1073741823 <= x {
-            return x;
-        }
-        return -1073741823;
-    }
-    1073741823
+    x.clamp(-HIGHEST, HIGHEST)
 }
 
 // x + y, each clamped.
@@ -36,5 +33,5 @@ pub fn difference(x: i32, y: i32) -> i32
 pub fn product(x: i32, y: i16) -> i64
     ensures { result ≡ x *ℤ y }
 {
-    numbers::wide(x) * numbers::wide16(y)
+    i64::from(x) * i64::from(y)
 }

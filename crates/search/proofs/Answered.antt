@@ -1,11 +1,9 @@
 -- The answers of the public calls: over the ranges of the record, and with inequalities past the end of the list.
 use mathlib.Core.Path.{◌≡◌, refl, sym, ap, ◌∙◌}
-use mathlib.Core.Bool.{Bool, true, false}
+use mathlib.Core.Bool.{true, false}
 use mathlib.Core.List.{List}
 use mathlib.Core.Option.{Option, none, some}
-use Prim.Native.Nat.{ℕ, zero, suc, ◌<◌, min}
-use native.Mathlib.Omega.{arith}
-use lib.Dec.{eqb}
+use Prim.Native.Nat.{ℕ, min}
 use lib.IntN.{ℤ}
 use lib.ListN.{length}
 use Rattle.integer.specs.Apart.{apart}
@@ -16,26 +14,34 @@ use Rattle.expr.specs.declared.range.Range.{Range}
 use Rattle.systems.specs.BoxLaws.{first_listed}
 use Rattle.valuations.specs.SearchLaws.{first_none}
 use Rattle.inequalities.specs.Flat.{exprs_in}
-use Rattle.halving.specs.Halved.{Some}
-use Rattle.search.specs.Answers.{is_some, Glanced}
+use Rattle.halving.specs.Halved.{Found}
+use Rattle.search.specs.Answers.{is_some}
 use Rattle.valuations.specs.Valuations.{satisfies, first}
-use Rattle.first_met.specs.declared.search.Solution.{Solution}
+use Rattle.first_met.specs.Solutions.{Solution}
+use Rattle.std.specs.Prelude.{Some, None, IfSome}
+use Rattle.std.specs.Prelude as code
+use Rattle.expr.specs.declared.number.Valuation.{Valuation}
 
 -- what was found, or not
-pub some_is : (rs : List Range) (es : List Affine) (s : Solution) → Some rs es s → s.found ≡ is_some (first rs es)
-some_is rs es s h = by s.found refl (first rs es) refl
+pub some_is : (rs : List Range) (es : List Affine) (s : Solution) → Found rs es s → code.is_some s ≡ is_some (first rs es)
+some_is rs es s h = by s refl (first rs es) refl
   where
-    by : (b : Bool) → s.found ≡ b → (o : Option (List ℤ)) → first rs es ≡ o → b ≡ is_some o
-    by true e none f =
-        let a = h.yes e in
-        let c = first_none rs es f s.valuation.numbers a.0 in
+    by : (t : Solution) → s ≡ t → (o : Option (List ℤ)) → first rs es ≡ o → code.is_some t ≡ is_some o
+    by (Some v) e none f =
+        let a = h.yes v e in
+        let c = first_none rs es f v.numbers a.0 in
         let d = a.1 in
         apart cc
-    by true e (some v) f = refl
-    by false e none f = refl
-    by false e (some v) f =
+    by (Some v) e (some u) f = refl
+    by None e none f = refl
+    by None e (some u) f =
         let a = h.no e in
         apart cc
+
+pub found_meets : (rs : List Range) (es : List Affine) (s : Solution) → Found rs es s
+    → IfSome s (λ (v : Valuation). Inside v.numbers rs × (satisfies es v.numbers ≡ true))
+found_meets rs es None h = tt
+found_meets rs es (Some v) h = h.yes v refl
 
 module _ (rs : List Range) (l : List ℤ) (n m : ℕ) (e : m ≡ min n (length l)) (h : length rs ≡ PARAMETERS) where
   -- a valuation inside the ranges that meets the inequalities
@@ -52,18 +58,3 @@ module _ (rs : List Range) (l : List ℤ) (n m : ℕ) (e : m ≡ min n (length l
   -- nothing is there
   pub some_none : first rs (exprs_in l m) ≡ none → false ≡ is_some (first (places_from blank_range rs 0 PARAMETERS) (exprs_in l n))
   some_none q = ap is_some (sym q ∙ first_listed rs l n m e h)
-
--- ---- what is seen at a glance
-pub seen_yes : (s : Bool) → s ≡ true → Glanced s 1
-seen_yes s h = record { no = λ e. absurd (omega arith); yes = λ e. h }
-
-pub seen_no : (s : Bool) → s ≡ false → Glanced s 0
-seen_no s h = record { no = λ e. h; yes = λ e. absurd (omega arith) }
-
-pub seen_not : (s : Bool) → Glanced s 2
-seen_not s = record { no = λ e. absurd (omega arith); yes = λ e. absurd (omega arith) }
-
-pub glance_is : (s : Bool) (r : ℕ) → Glanced s r → r < 2 → eqb r 1 ≡ s
-glance_is s zero g h = sym (g.no refl)
-glance_is s (suc zero) g h = sym (g.yes refl)
-glance_is s (suc (suc r)) g h = absurd (omega arith)

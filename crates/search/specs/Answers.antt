@@ -1,5 +1,6 @@
 -- What the search answers of a first valuation.
-use Rattle.std.specs.Prelude.{◌≡◌, Bool, true, false, List, ℤ, ℕ}
+use Rattle.std.specs.Prelude.{◌≡◌, Bool, true, false, List, ℤ, IfSome}
+use Rattle.std.specs.Prelude as code
 use Rattle.std.proofs.Math.Option.{Option, none, some}
 
 -- whether something was found
@@ -7,7 +8,6 @@ abbrev pub is_some : Option (List ℤ) → Bool
 is_some none = false
 is_some (some v) = true
 
--- what is seen of an answer: no, yes, or nothing
-pub record Glanced (answer : Bool) (r : ℕ) : Type 0 where
-  pub no : r ≡ 0 → answer ≡ false
-  pub yes : r ≡ 1 → answer ≡ true
+-- what is seen of an answer, where it is seen: the answer
+abbrev pub Glanced : Bool → code.Option Bool → Type 0
+Glanced answer r = IfSome r (λ seen. seen ≡ answer)

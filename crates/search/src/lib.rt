@@ -3,7 +3,8 @@
 // Inequalities stand in a flat list, 1 + PARAMETERS numbers each: the constant, then the coefficients; past the end every number is 0.
 #![tactic(auto)]
 
-ghost use Rattle.std.specs.Prelude.{◌≡◌, true};
+ghost use Rattle.std.specs.Prelude.{◌≡◌, true, IfSome};
+ghost use Rattle.std.specs.Prelude as code;
 ghost use Rattle.std.proofs.Math.Option.{none};
 ghost use Rattle.expr.specs.Ranges.{Inside};
 ghost use Rattle.expr.specs.Records.{range_list};
@@ -12,7 +13,7 @@ ghost use Rattle.search.specs.Answers.{is_some, Glanced};
 ghost use Rattle.valuations.specs.Valuations.{satisfies, first};
 
 use expr::{Ranges, Valuation};
-pub use first_met::{Solution, first};
+pub use first_met::first;
 pub use systems::{meets, narrowed};
 
 // Whether the last of n inequalities is below 0 throughout b.
@@ -30,7 +31,7 @@ fn guessed(b: Ranges, guess: Valuation, flat: &[i32], n: usize) -> bool
     ensures { result ≡ true → Inside guess.numbers b.list
         × (satisfies (exprs_in flat.now n) guess.numbers ≡ true) }
 {
-    let last = inequalities::inequality(flat, numbers::less(n, 1));
+    let last = inequalities::inequality(flat, n.saturating_sub(1));
     if inequalities::value_at(guess, last) < 0 {
         return false;
     }
@@ -40,30 +41,29 @@ fn guessed(b: Ranges, guess: Valuation, flat: &[i32], n: usize) -> bool
     false
 }
 
-// Whether some valuation of b meets them, as far as it is seen without a search: no (0), yes (1), or not seen (2). The guess is tried, and
-// the last inequality by itself.
-pub fn glance(b: Ranges, guess: Valuation, flat: &[i32], n: usize) -> usize
+// Whether some valuation of b meets them, where it is seen without a search: the guess is tried, and the last inequality by itself.
+pub fn glance(b: Ranges, guess: Valuation, flat: &[i32], n: usize) -> Option<bool>
     ensures { Glanced (is_some (first (range_list b) (exprs_in flat.now n))) result }
 {
-    let m = numbers::at_most(n, flat.len());
+    let m = n.min(flat.len());
     if guessed(b, guess, flat, m) {
-        return 1;
+        return Some(true);
     }
     if fails(b, flat, m) {
-        return 0;
+        return Some(false);
     }
-    2
+    None
 }
 
-// Whether some valuation of b meets them, and one that does, where it is not likely that there is one: the last inequality is held against
-// the others before a search by halves.
-pub fn hunt(b: Ranges, flat: &[i32], n: usize) -> Solution
-    ensures found_value { result.found ≡ is_some (first (range_list b) (exprs_in flat.now n)) }
-    ensures one { result.found ≡ true → Inside result.valuation.numbers (range_list b)
-        × (satisfies (exprs_in flat.now n) result.valuation.numbers ≡ true) }
+// A valuation of b that meets them, if there is one, where it is not likely that there is: the last inequality is held against the others
+// before a search by halves.
+pub fn hunt(b: Ranges, flat: &[i32], n: usize) -> Option<Valuation>
+    ensures found_value { code.is_some result ≡ is_some (first (range_list b) (exprs_in flat.now n)) }
+    ensures one { IfSome result (λ v. Inside v.numbers (range_list b)
+        × (satisfies (exprs_in flat.now n) v.numbers ≡ true)) }
 {
-    if clashes::clashes(b, flat, numbers::at_most(n, flat.len())) {
-        return Solution::NOTHING;
+    if clashes::clashes(b, flat, n.min(flat.len())) {
+        return None;
     }
     halving::some(b, flat, n)
 }
@@ -72,10 +72,8 @@ pub fn hunt(b: Ranges, flat: &[i32], n: usize) -> Solution
 pub fn some_meets(b: Ranges, guess: Valuation, flat: &[i32], n: usize) -> bool
     ensures { result ≡ is_some (first (range_list b) (exprs_in flat.now n)) }
 {
-    let seen = glance(b, guess, flat, n);
-    if seen < 2 {
-        return seen == 1;
+    if let Some(seen) = glance(b, guess, flat, n) {
+        return seen;
     }
-    let s = hunt(b, flat, n);
-    s.found
+    hunt(b, flat, n).is_some()
 }

@@ -1,18 +1,15 @@
--- A list that a loop fills place by place, and the records of the input and of the answer.
+-- A list that a loop fills place by place, and the records of the input.
 use mathlib.Core.Path.{◌≡◌, refl, ap, ◌∙◌}
-use mathlib.Core.Bool.{true, false}
 use mathlib.Core.List.{List, [], ◌∷◌}
 use native.Mathlib.Numerals.{add-one}
 use native.Mathlib.Omega.{arith}
 use Prim.Native.Nat.{ℕ, zero, suc, ◌+◌, ◌*◌, ◌≤◌, ◌<◌}
-use lib.IntN.{ℤ, pos}
-use lib.ListN.{get_or, set, replicate}
+use lib.IntN.{ℤ}
+use lib.ListN.{set, replicate}
 use Rattle.expr.specs.Records.{PARAMETERS}
 use Rattle.expr.specs.declared.number.Valuation.{Valuation}
 use Rattle.expr.specs.declared.range.Range.{Range}
 use Rattle.expr.specs.declared.range.Ranges.{Ranges}
-use Rattle.first_met.specs.declared.search.Solution.{Solution}
-use Rattle.search_c.specs.Answer.{number_of}
 use Rattle.search_c.specs.Input.{number_at, range_at}
 
 -- blanks, with the first i places filled by what f says of each
@@ -46,11 +43,3 @@ ranges_are l m e = λ i. record { list = e i }
 
 pub valuation_is : (l m : List ℤ) → l ≡ m → ◌≡◌ {A = Valuation} (record { numbers = l }) (record { numbers = m })
 valuation_is l m e = λ i. record { numbers = e i }
-
--- ---- the cases of `number_of`
-module _ (s : Solution) (k : ℕ) where
-  pub number_found : (x : ℤ) → x ≡ get_or s.valuation.numbers k (pos 0) → s.found ≡ true → x ≡ number_of s k
-  number_found x e h = rw h e
-
-  pub number_none : s.found ≡ false → pos 65536 ≡ number_of s k
-  number_none h = rw h refl

@@ -12,16 +12,12 @@ ghost use Rattle.search_c.specs.Input.{number_at, range_at, ranges_of, exprs_of}
 ghost use Rattle.search_c.specs.Answer.{number_of};
 
 use expr::{PARAMETERS, Range, Ranges, Valuation};
-use search::Solution;
 
 // The number at i, or 0 past the end.
 fn number(s: &[i16], i: usize) -> i16
     ensures { result ≡ number_at s.now i }
 {
-    if i < s.len() {
-        return s[i];
-    }
-    0
+    s.get(i).copied().unwrap_or(0)
 }
 
 // The range at i.
@@ -40,10 +36,8 @@ fn ranges_of(s: &[i16]) -> Ranges
     ensures { result ≡ ranges_of s.now }
 {
     let mut b = Ranges::ZERO;
-    let mut i = 0;
-    while i < PARAMETERS {
+    for i in 0..PARAMETERS {
         b.list[i] = range(s, i);
-        i += 1;
     }
     b
 }
@@ -53,10 +47,8 @@ fn valuation_of(s: &[i16]) -> Valuation
     ensures { result ≡ valuation_of s.now }
 {
     let mut v = Valuation::ZERO;
-    let mut i = 0;
-    while i < PARAMETERS {
+    for i in 0..PARAMETERS {
         v.numbers[i] = number(s, i);
-        i += 1;
     }
     v
 }
@@ -65,20 +57,17 @@ fn valuation_of(s: &[i16]) -> Valuation
 fn number_in(v: Valuation, k: usize) -> i64
     ensures { result ≡ number_at v.numbers k }
 {
-    if k < PARAMETERS {
-        return numbers::wide16(v.numbers[k]);
-    }
-    0
+    i64::from(number(&v.numbers, k))
 }
 
 // The number of parameter k in a solution; or 65,536, which is no number of 16 bits, for nothing.
-fn number_of(s: Solution, k: usize) -> i64
+fn number_of(s: Option<Valuation>, k: usize) -> i64
     ensures { result ≡ number_of s k }
 {
-    if s.found {
-        return number_in(s.valuation, k);
+    match s {
+        Some(v) => number_in(v, k),
+        None => 65536,
     }
-    65536
 }
 
 // The number of parameter k in the first valuation, in lexicographic order, that meets the inequalities; or 65,536.

@@ -1,17 +1,13 @@
 -- The cases of a segment, by its number.
 use mathlib.Core.Path.{◌≡◌, subst}
-use mathlib.Core.List.{List, []}
-use Prim.Native.Nat.{ℕ, suc, ◌+◌, ◌-◌, ◌≤◌, ◌<◌, min}
+use mathlib.Core.List.{[]}
+use Prim.Native.Nat.{ℕ, suc, ◌+◌, ◌-◌, ◌≤◌, ◌<◌}
 use native.Mathlib.Omega.{arith}
-use lib.ListN.{length, take, length-take}
 use Rattle.automaton.specs.declared.Location.{Location}
 use Rattle.segments.specs.Lists.{Lists, invariant_steps, stay_steps, lists_more}
 use Rattle.segments.specs.Segments.{size, Moved, Segmented}
 use Rattle.segments.specs.declared.segment.Segment.{Segment}
 use Rattle.sheet.specs.declared.Sheet.{Sheet}
-
-pub size_is : {A : Type 0} (n k most : ℕ) (xs : List A) → n ≡ min k most → length xs ≡ most → n ≡ length (take k xs)
-size_is n k most xs e l = rw (length-take k xs, l) e
 
 module _ (s : Sheet) (k : ℕ) (here : Location) (r : Segment) where
   pub segment_starts : k ≡ 0 → r.there ≡ here → Lists 6 (invariant_steps here) r.steps → Segmented s k here r

@@ -5,7 +5,6 @@ ghost use Rattle.segments.specs.Lists.{Lists, invariant_steps, stay_steps, move_
 ghost use Rattle.segments.specs.Segments.{Moved, Segmented};
 
 use automaton::{Location, Transition};
-use guards::Guard;
 use index::Index;
 use steps::{Step, Steps};
 
@@ -28,7 +27,7 @@ fn start_steps(here: Location) -> Steps
 fn stay_steps(here: Location) -> Steps
     ensures { Lists 7 (stay_steps here) result }
 {
-    let waits = steps::with_step(Steps::NONE, Step::DELAY);
+    let waits = steps::with_step(Steps::NONE, Step::Delay);
     let invariants = here.guards;
     steps::with_guards(waits, here.count, invariants)
 }
@@ -43,11 +42,9 @@ fn move_steps(here: Location, visit: usize, t: Transition, there: Location) -> S
     let limited = steps::with_guards(stay_steps(here), t.count, guards);
     let made = steps::with_step(
         limited,
-        Step {
-            kind: 2,
+        Step::Resets {
             bits: t.resets,
             visit: visit + 1,
-            guard: Guard::BLANK,
         },
     );
     let invariants = there.guards;
@@ -59,7 +56,7 @@ pub fn moves(ix: Index) -> usize
     ensures value { result ≡ length (take ix.moves ix.route) }
     ensures few { result ≤ 32 }
 {
-    numbers::at_most(ix.moves as usize, 32)
+    usize::from(ix.moves).min(32)
 }
 
 // A stay in a location and move k.
@@ -67,7 +64,7 @@ fn moved(file: &[u8], ix: Index, k: usize, here: Location) -> Segment
     requires { k < 32 }
     ensures { Moved (sheet_in file.now ix) k here result }
 {
-    let t = index::transition_at(file, ix, numbers::index(ix.route[k]));
+    let t = index::transition_at(file, ix, usize::from(ix.route[k]));
     let there = index::location_at(file, ix, t.to);
     Segment {
         steps: move_steps(here, k, t, there),

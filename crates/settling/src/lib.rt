@@ -1,17 +1,17 @@
 // A test on a zone (paper: piece): settled if all or none of its valuations (paper: settings) satisfy it; otherwise it splits the zone.
 #![tactic(auto)]
 
-ghost use Rattle.std.specs.Prelude.{◌≡◌, true, cond, ltb, pos, ◌<ℤ◌};
+ghost use Rattle.std.specs.Prelude.{◌≡◌, true, pos, ◌<ℤ◌};
 ghost use Rattle.std.specs.Int.Signed.{le_z};
 ghost use Rattle.expr.specs.Affine.{value};
 ghost use Rattle.expr.specs.Records.{affine, range_list};
 ghost use Rattle.narrowing.specs.Best.{best_of};
 ghost use Rattle.zones.specs.Fits.{Fit};
 ghost use Rattle.zones.specs.System.{SameRows};
-ghost use Rattle.zones.specs.Settled.{never_f, on_f, settled_f};
+ghost use Rattle.zones.specs.Settled.{never_f, not_no_f, on_f, settled_f, split_c};
 
-use expr::{Asked, Expr, Test, Valuation};
-use zones::Hint;
+use expr::{Expr, Test, Valuation};
+use zones::{Hint, Told};
 
 // Whether a search found nothing, or it was known before; whether there was a search; and the valuation that was found, else the guess.
 #[derive(Clone, Copy)]
@@ -21,11 +21,11 @@ struct Seen {
     witness: Valuation,
 }
 
-// A verdict: no (0), yes (1), a split by the test (3), a 25th inequality (8); whether a search told so of 0 or 1; and a valuation: where
-// the test splits, the guess is on one side of it and this one may be on the other.
+// A verdict; whether a search told so of no or yes; and a valuation: where the test splits, the guess is on one side of it and this one
+// may be on the other.
 #[derive(Clone, Copy)]
 pub struct Verdict {
-    pub kind: usize,
+    pub kind: Told,
     pub searched: bool,
     pub witness: Valuation,
 }
@@ -70,45 +70,43 @@ fn never(h: Hint, flat: &mut [i32], n: usize, e: Expr) -> Seen
         };
     }
     zones::put(flat, n, e);
-    let m = numbers::at_most(n, 24) + 1;
-    let seen = search::glance(h.ranges, other, flat, m);
-    if seen < 2 {
+    let m = n.min(24) + 1;
+    if let Some(seen) = search::glance(h.ranges, other, flat, m) {
         return Seen {
-            never: seen == 0,
+            never: !seen,
             searched: false,
             witness: other,
         };
     }
     let s = search::hunt(h.ranges, flat, m);
-    let witness = s.valuation;
     Seen {
-        never: !s.found,
+        never: s.is_none(),
         searched: true,
-        witness,
+        witness: s.unwrap_or(Valuation::ZERO),
     }
 }
 
 // What becomes of n inequalities that a test splits: one more, or a 25th.
-fn split_at(n: usize) -> usize
-    ensures { result ≡ cond (ltb n 24) 3 8 }
+fn split_at(n: usize) -> Told
+    ensures { result ≡ split_c n }
 {
     if n < 24 {
-        return 3;
+        return Told::Split;
     }
-    8
+    Told::Full
 }
 
 // The verdict on a test that is not no, x being its opposite: yes, or a split.
 fn not_no(h: Hint, flat: &mut [i32], n: usize, x: Expr) -> Verdict
     requires { Fit h n flat.old }
-    ensures kind_value { result.kind ≡ cond (never_f h.ranges flat.old n x) 1 (cond (ltb n 24) 3 8) }
+    ensures kind_value { result.kind ≡ not_no_f h.ranges flat.old n x }
     ensures leaves { SameRows n flat.old flat.new }
 {
     let asked = never(h, flat, n, x);
     let witness = asked.witness;
     if asked.never {
         return Verdict {
-            kind: 1,
+            kind: Told::Yes,
             searched: asked.searched,
             witness,
         };
@@ -133,7 +131,7 @@ fn on(h: Hint, flat: &mut [i32], n: usize, e: Expr) -> Verdict
     let witness = first.witness;
     if first.never {
         return Verdict {
-            kind: 0,
+            kind: Told::No,
             searched: first.searched,
             witness,
         };
@@ -157,19 +155,18 @@ pub fn settled(h: Hint, flat: &mut [i32], n: usize, test: Test) -> Verdict
     ensures kind_value { result.kind ≡ settled_f h.ranges flat.old n test }
     ensures leaves { SameRows n flat.old flat.new }
 {
-    let asked = test.asked;
     let witness = h.other;
-    match asked {
-        Asked::Yes => Verdict {
-            kind: 1,
+    match test {
+        Test::Yes => Verdict {
+            kind: Told::Yes,
             searched: false,
             witness,
         },
-        Asked::No => Verdict {
-            kind: 0,
+        Test::No => Verdict {
+            kind: Told::No,
             searched: false,
             witness,
         },
-        Asked::Ask => on(h, flat, n, test.expr),
+        Test::Ask(e) => on(h, flat, n, e),
     }
 }

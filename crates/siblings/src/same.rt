@@ -7,17 +7,5 @@ pub(crate) fn same(cells: &[i32], a: usize, b: usize, n: usize) -> bool
     ensures { result ≡ true → (i : ℕ) → i < n
         → get_or cells.now (a + i) (pos 0) ≡ get_or cells.now (b + i) (pos 0) }
 {
-    let mut i = 0;
-    while i < n {
-        let x = cells[a + i];
-        let y = cells[b + i];
-        if x < y {
-            return false;
-        }
-        if y < x {
-            return false;
-        }
-        i += 1;
-    }
-    true
+    cells[a..a + n] == cells[b..b + n]
 }

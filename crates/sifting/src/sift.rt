@@ -1,25 +1,18 @@
 // The inequalities that do not hold throughout a box, copied into a list of their own.
 ghost use Rattle.std.specs.Prelude.{◌≡◌, ◌≤◌, length};
-ghost use Rattle.sifting.specs.Sifting.{stored_in, Sifted};
-ghost use Rattle.inequalities.specs.Flat.{exprs_in};
+ghost use Rattle.inequalities.specs.Flat.{exprs_in, put_in};
+ghost use Rattle.sifting.specs.Sifting.{Sifted};
 
-use expr::{Expr, PARAMETERS, Ranges};
+use expr::{Expr, Ranges};
 
 // Writes e into the list as inequality k, where it has room for 25 and k is one of them.
 fn store(list: &mut [i32], k: usize, e: Expr)
-    ensures { list.new ≡ stored_in list.old k e }
+    ensures { list.new ≡ put_in list.old k e }
 {
     if k < 25 {
         if 125 <= list.len() {
             let at = 5 * k;
-            let constant = e.constant;
-            list[at] = constant;
-            let mut i = 0;
-            while i < PARAMETERS {
-                let x = e.coefs[i];
-                list[at + 1 + i] = x;
-                i += 1;
-            }
+            inequalities::put(list, at, e);
         }
     }
 }
@@ -31,14 +24,12 @@ pub fn sifted(kept: &mut [i32], b: Ranges, flat: &[i32], n: usize) -> usize
 {
     let worst = corners::turned(b);
     let mut m = 0;
-    let mut k = 0;
-    while k < n {
+    for k in 0..n {
         let e = inequalities::inequality(flat, k);
         if narrowing::best(worst, e) < 0 {
             store(kept, m, e);
             m += 1;
         }
-        k += 1;
     }
     m
 }

@@ -6,9 +6,7 @@ use native.Mathlib.Omega.{arith}
 use borrow.Author.Tests.{lt-ltb, le-ltb, eq-eqb, ne_eqb}
 use lib.ListN.{set}
 use Rattle.split.specs.Listed.{nothing_at, refused_c, list_c}
-use Rattle.split.specs.Trees.{ended_c}
 use Rattle.split.specs.declared.list.Counted.{Counted}
-use Rattle.parts.specs.declared.part.Part.{Part}
 use Rattle.zones.specs.declared.zone.Zone.{Zone}
 use Rattle.zones.specs.declared.zone.Zones.{Zones}
 
@@ -42,23 +40,3 @@ module _ (z : Zone) (k : ℕ) (out : Counted) where
   pub listed_refused : 0 < was.refusal → out ≡ list_c z k out
   unfolding list_c refused_c
   listed_refused h = rw (ne_eqb was.refusal 0 (λ e. omega arith)) refl
-
--- ---- the end of a part
-module _ (p : Part) (out : Counted) where
-  pub ended_cut : p.halt < 2 → out ≡ ended_c p out
-  unfolding ended_c
-  ended_cut h = rw (lt-ltb p.halt 2 h) refl
-
-  module _ (h : 2 ≤ p.halt) where
-    pub ended_kept : p.halt < 3 → list_c p.zone p.tests out ≡ ended_c p out
-    unfolding ended_c
-    ended_kept k = rw (le-ltb p.halt 2 h, lt-ltb p.halt 3 k) refl
-
-    module _ (k : 3 ≤ p.halt) where
-      pub ended_split : p.halt < 4 → out ≡ ended_c p out
-      unfolding ended_c
-      ended_split l = rw (le-ltb p.halt 2 h, le-ltb p.halt 3 k, lt-ltb p.halt 4 l) refl
-
-      pub ended_refused : 4 ≤ p.halt → refused_c p.halt out ≡ ended_c p out
-      unfolding ended_c
-      ended_refused l = rw (le-ltb p.halt 2 h, le-ltb p.halt 3 k, le-ltb p.halt 4 l) refl

@@ -1,30 +1,41 @@
 -- What a part comes to does not change along its tests.
-use Rattle.std.specs.Prelude.{◌≡◌, List, Bool, eqb, set}
+use Rattle.std.specs.Prelude.{◌≡◌, List, Bool, set}
 use Rattle.std.proofs.Math.Path.{refl, sym, ap, subst}
-use Rattle.std.proofs.Common.{◌∙◌, add-one}
+use Rattle.std.proofs.Common.{◌∙◌, add-one, true≢false}
 use Rattle.std.proofs.Math.Bool.{true, false, cond}
 use Prim.Native.Nat.{ℕ, zero, suc, ◌+◌, ◌-◌, ◌≤◌, ◌<◌, min}
 use native.Mathlib.Omega.{arith}
-use borrow.Author.Tests.{lt-ltb, le-ltb, eq-eqb, ne_eqb, ltb-true, ltb-false}
+use borrow.Author.Tests.{lt-ltb, le-ltb, ltb-true, ltb-false}
 use Rattle.std.proofs.Math.Dec.{ltb}
 use Rattle.expr.specs.declared.bound.Bound.{Bound}
-use Rattle.expr.specs.declared.bound.Asked.{Asked}
-use Rattle.expr.specs.declared.bound.Asked.TheVariants.{Yes, No, Ask}
 use Rattle.expr.specs.declared.bound.Test.{Test}
+use Rattle.expr.specs.declared.bound.Test.TheVariants.{Yes, No, Ask}
 use Rattle.expr.specs.declared.number.Expr.{Expr}
 use Rattle.expr.specs.declared.range.Ranges.{Ranges}
 use Rattle.split.specs.Listed.{refused_c, list_c}
 use Rattle.zones.specs.Zone.{plus_c, more_c}
-use Rattle.parts.specs.Parts.{with_bounds, standing, put_c, pushed_c, answered_c, halted_c}
+use Rattle.parts.specs.Parts.{goes_on, is_split, is_whole, with_bounds, standing, put_c, pushed_c, answered_c, halted_c, told_c}
 use Rattle.parts.specs.Parts.{tests_in, counted_c, forward_c, with_more, yes_c, no_c}
-use Rattle.split.specs.Trees.{TreeC, cut_t, keep_t, ask_t, tested_c, push_c, tight_c, tree_at, worked_c, ended_c, meant, meant_end}
+use Rattle.split.specs.Trees.{TreeC, cut_t, keep_t, ask_t, tested_c, push_c, tight_c, tree_at, worked_c, ended_by, ended_c, meant, meant_end}
 use Rattle.split.specs.Trees.{Live, Ran}
 use Rattle.constrain.specs.Rules.{via_c, ask_c}
 use Rattle.zones.specs.Settled.{Verdict, opposite_c, never_c, on_c, settled_c}
+use Rattle.parts.specs.declared.part.Halt.{Halt}
+use Rattle.parts.specs.declared.part.Halt.TheVariants as stops
 use Rattle.parts.specs.declared.part.Part.{Part}
 use Rattle.constrain.specs.declared.rule.Rule.{Rule}
+use Rattle.zones.specs.declared.told.Told.{Told}
+use Rattle.zones.specs.declared.told.Told.TheVariants as kinds
 use Rattle.zones.specs.declared.zone.Zone.{Zone}
 use Rattle.split.specs.declared.list.Counted.{Counted}
+
+-- a part that goes on, is cut or is kept does not split
+whole_splits_not : (h : Halt) → is_whole h ≡ true → is_split h ≡ false
+whole_splits_not stops.No e = refl
+whole_splits_not stops.Cut e = refl
+whole_splits_not stops.Kept e = refl
+whole_splits_not stops.Split e = sym e
+whole_splits_not stops.Full e = refl
 
 -- a tree looks at a zone's inequalities only
 worked_bounds : (b : Ranges) (t : TreeC) (k : ℕ) (z : Zone) (m : List Bound) (out : Counted)
@@ -58,8 +69,8 @@ tree_at_lem r (suc (suc x)) new h =
 
 -- ---- a part after an answer
 record Answered (b : Ranges) (r : Rule) (q : Part) (t : Bool) (a : Part) : Type 0 where
-  below : a.halt < 3
-  early : a.halt < 1 → a.phase < 27
+  below : is_whole a.halt ≡ true
+  early : goes_on a.halt ≡ true → a.phase < 27
   tests : a.tests ≡ q.tests
   later : q.phase < a.phase
   count : a.zone.count ≡ q.zone.count
@@ -70,16 +81,16 @@ answered_live : {b : Ranges} {r : Rule} {q : Part} {t : Bool} {a : Part} → Ans
 answered_live a k = record { below = a.below; early = a.early; counted = omega (arith, a.tests, a.later) }
 
 module _ (b : Ranges) (r : Rule) where
-  meant_cut : (p : Part) (out : Counted) → meant b r (standing p 27 1) out ≡ out
+  meant_cut : (p : Part) (out : Counted) → meant b r (standing p 27 stops.Cut) out ≡ out
   unfolding meant ended_c
   meant_cut p out = refl
 
-  meant_kept : (p : Part) (out : Counted) → meant b r (standing p 27 2) out ≡ list_c p.zone p.tests out
+  meant_kept : (p : Part) (out : Counted) → meant b r (standing p 27 stops.Kept) out ≡ list_c p.zone p.tests out
   unfolding meant ended_c
   meant_kept p out = refl
 
   meant_on : (p : Part) (k : ℕ) (out : Counted)
-      → meant b r (standing p k 0) out ≡ worked_c b (tree_at r k p.zone.bounds) p.tests p.zone out
+      → meant b r (standing p k stops.No) out ≡ worked_c b (tree_at r k p.zone.bounds) p.tests p.zone out
   unfolding meant
   meant_on p k out = refl
 
@@ -143,11 +154,12 @@ module _ (b : Ranges) (r : Rule) where
   unfolding pushed_c
   pushed_answered q x t e h = by (ltb x 24) refl
     where
-      by : (s : Bool) → ltb x 24 ≡ s → Answered b r q t (cond s (standing (entered q x t) (x + 3) 0) (standing (entered q x t) 27 2))
+      by : (s : Bool) → ltb x 24 ≡ s → Answered b r q t (cond s (standing (entered q x t) (x + 3) stops.No)
+          (standing (entered q x t) 27 stops.Kept))
       by true k =
           let l = ltb-true x 24 k in
           record {
-            below = omega arith;
+            below = refl;
             early = λ _. omega arith;
             tests = entered_tests q x t;
             later = omega arith;
@@ -157,8 +169,8 @@ module _ (b : Ranges) (r : Rule) where
       by false k =
           let l = ltb-false x 24 k in
           record {
-            below = omega arith;
-            early = λ z. absurd (omega arith);
+            below = refl;
+            early = λ z. absurd (true≢false (sym z));
             tests = entered_tests q x t;
             later = omega arith;
             count = entered_count q x t;
@@ -187,11 +199,11 @@ module _ (b : Ranges) (r : Rule) where
   unfolding cont worked_c
   not_tight_worth q e out = rw e refl
 
-  first_answer : (q : Part) (t : Bool) → q.phase ≡ 0 → Answered b r q t (cond t (standing q 27 1) (standing q 1 0))
+  first_answer : (q : Part) (t : Bool) → q.phase ≡ 0 → Answered b r q t (cond t (standing q 27 stops.Cut) (standing q 1 stops.No))
   first_answer q true e =
       record {
-        below = omega arith;
-        early = λ z. absurd (omega arith);
+        below = refl;
+        early = λ z. absurd (true≢false (sym z));
         tests = refl;
         later = omega arith;
         count = refl;
@@ -199,7 +211,7 @@ module _ (b : Ranges) (r : Rule) where
       }
   first_answer q false e =
       record {
-        below = omega arith;
+        below = refl;
         early = λ _. omega arith;
         tests = refl;
         later = omega arith;
@@ -207,10 +219,10 @@ module _ (b : Ranges) (r : Rule) where
         worth = λ out. meant_on q 1 out ∙ not_void_worth q e out;
       }
 
-  second_answer : (q : Part) (t : Bool) → q.phase ≡ 1 → Answered b r q t (cond t (standing q 2 0) (standing q 27 2))
+  second_answer : (q : Part) (t : Bool) → q.phase ≡ 1 → Answered b r q t (cond t (standing q 2 stops.No) (standing q 27 stops.Kept))
   second_answer q true e =
       record {
-        below = omega arith;
+        below = refl;
         early = λ _. omega arith;
         tests = refl;
         later = omega arith;
@@ -219,8 +231,8 @@ module _ (b : Ranges) (r : Rule) where
       }
   second_answer q false e =
       record {
-        below = omega arith;
-        early = λ z. absurd (omega arith);
+        below = refl;
+        early = λ z. absurd (true≢false (sym z));
         tests = refl;
         later = omega arith;
         count = refl;
@@ -244,7 +256,7 @@ with_tests q k = record { phase = q.phase; halt = q.halt; tests = k; test = q.te
 
 -- ---- the two parts of a split have one inequality more
 abbrev plus_part : Part → Expr → Part
-plus_part p e = record { phase = p.phase; halt = 0; tests = p.tests; test = p.test; zone = plus_c p.zone e }
+plus_part p e = record { phase = p.phase; halt = stops.No; tests = p.tests; test = p.test; zone = plus_c p.zone e }
 
 module _ (r : Rule) (p : Part) (l : p.zone.count < 24) where
   yes_is : yes_c r p ≡ answered_c r (plus_part p p.test) true
@@ -284,31 +296,31 @@ module _ (b : Ranges) (e : Expr) (f : Bool → TreeC) (k : ℕ) (z : Zone) (out 
 -- ---- a part on its way
 -- what a part comes to, on its way or stopped
 unfoldable pub reached : Ranges → Rule → Part → Counted → Counted
-reached b r q out = cond (ltb q.halt 1) (worked_c b (tree_at r q.phase q.zone.bounds) q.tests q.zone out) (meant_end b r q out)
+reached b r q out = cond (goes_on q.halt) (worked_c b (tree_at r q.phase q.zone.bounds) q.tests q.zone out) (meant_end b r q out)
 
 pub record Going (b : Ranges) (r : Rule) (p q : Part) : Type 0 where
   pub same : (out : Counted) → reached b r q out ≡ meant b r p out
   pub later : p.phase ≤ q.phase
   pub count : q.zone.count ≡ p.zone.count
-  pub early : q.halt < 1 → q.phase < 27
-  pub counted : q.halt < 1 → q.tests ≤ q.phase
-  pub splits : q.halt ≡ 3 → (q.phase < 27) × (q.zone.count < 24) × (q.tests ≤ suc q.phase)
+  pub early : goes_on q.halt ≡ true → q.phase < 27
+  pub counted : goes_on q.halt ≡ true → q.tests ≤ q.phase
+  pub splits : is_split q.halt ≡ true → (q.phase < 27) × (q.zone.count < 24) × (q.tests ≤ suc q.phase)
 
 -- what is left of the way
 abbrev pub left : Part → ℕ
-left q = cond (ltb q.halt 1) (28 - q.phase) 0
+left q = cond (goes_on q.halt) (28 - q.phase) 0
 
 module _ (b : Ranges) (r : Rule) where
   live_reached : (a : Part) → Live a → (out : Counted) → reached b r a out ≡ meant b r a out
   unfolding reached meant meant_end
-  live_reached a l out = by (ltb a.halt 1) refl
+  live_reached a l out = by (goes_on a.halt) refl
     where
-      by : (t : Bool) → ltb a.halt 1 ≡ t
+      by : (t : Bool) → goes_on a.halt ≡ t
           → cond t (worked_c b (tree_at r a.phase a.zone.bounds) a.tests a.zone out)
-          (cond (eqb a.halt 3) (meant b r (no_c r a) (meant b r (yes_c r a) out)) (ended_c a out))
+          (cond (is_split a.halt) (meant b r (no_c r a) (meant b r (yes_c r a) out)) (ended_c a out))
           ≡ cond t (worked_c b (tree_at r a.phase a.zone.bounds) a.tests a.zone out) (ended_c a out)
       by true h = refl
-      by false h = rw (ne_eqb a.halt 3 (λ e. absurd (omega (arith, l.below)))) refl
+      by false h = rw (whole_splits_not a.halt l.below) refl
 
   pub going_starts : (p : Part) → Live p → Going b r p p
   going_starts p l =
@@ -318,10 +330,10 @@ module _ (b : Ranges) (r : Rule) where
         count = refl;
         early = l.early;
         counted = λ _. l.counted;
-        splits = λ e. absurd (omega (arith, l.below));
+        splits = λ e. absurd (true≢false (sym e ∙ whole_splits_not p.halt l.below));
       }
 
-  pub going_ends : (p q : Part) → Going b r p q → 1 ≤ q.halt → Ran b r p q
+  pub going_ends : (p q : Part) → Going b r p q → goes_on q.halt ≡ false → Ran b r p q
   unfolding reached
   going_ends p q g h =
       record {
@@ -331,13 +343,13 @@ module _ (b : Ranges) (r : Rule) where
             subst
             (λ (t : Bool).
             cond t (worked_c b (tree_at r q.phase q.zone.bounds) q.tests q.zone out) (meant_end b r q out) ≡ meant b r p out)
-            (le-ltb q.halt 1 h) (g.same out);
+            h (g.same out);
         later = g.later;
         count = g.count;
         splits = g.splits;
       }
 
-  module _ (p q : Part) (g : Going b r p q) (h : q.halt < 1) where
+  module _ (p q : Part) (g : Going b r p q) (h : goes_on q.halt ≡ true) where
     -- what follows its test
     f : Bool → TreeC
     f = cont r q.phase q.zone.bounds
@@ -353,7 +365,7 @@ module _ (b : Ranges) (r : Rule) where
         (subst
         (λ (t : Bool).
         cond t (worked_c b (tree_at r q.phase q.zone.bounds) q.tests q.zone out) (meant_end b r q out) ≡ meant b r p out)
-        (lt-ltb q.halt 1 h) (g.same out))
+        h (g.same out))
 
     -- with k tests asked
     abbrev at : ℕ → Part
@@ -372,15 +384,15 @@ module _ (b : Ranges) (r : Rule) where
             count = a.count ∙ g.count;
             early = a.early;
             counted = λ _. live.counted;
-            splits = λ e. absurd (omega (arith, a.below));
+            splits = λ e. absurd (true≢false (sym e ∙ whole_splits_not (answered_c r (at k) t).halt a.below));
           }
 
       split_same : (e : Expr) → q.zone.count < 24 → (out : Counted)
           → worked_c b (f false) k (plus_c q.zone (opposite_c e)) (worked_c b (f true) k (plus_c q.zone e) out) ≡ meant b r p out
-          → reached b r (halted_c (at k) (record { kind = 3; test = e })) out ≡ meant b r p out
+          → reached b r (halted_c (at k) stops.Split e) out ≡ meant b r p out
       unfolding reached meant_end plus_c f
       split_same e l out w =
-          let s = halted_c (at k) (record { kind = 3; test = e }) in
+          let s = halted_c (at k) stops.Split e in
           let y = answer b r (plus_part s e) true (g.early h) in
           let n = answer b r (plus_part s (opposite_c e)) false (g.early h) in
           ap (λ (a : Part). meant b r (no_c r s) (meant b r a out)) (yes_is r s l)
@@ -388,34 +400,26 @@ module _ (b : Ranges) (r : Rule) where
           ∙ n.worth (meant b r (answered_c r (plus_part s e) true) out)
           ∙ ap (worked_c b (cont r q.phase q.zone.bounds false) k (plus_c q.zone (opposite_c e))) (y.worth out) ∙ w
 
-      halted_going : (v : Verdict) → 1 ≤ v.kind → (v.kind ≡ 3 → q.zone.count < 24)
-          → ((out : Counted) → reached b r (halted_c (at k) v) out ≡ meant b r p out) → Going b r p (halted_c (at k) v)
-      halted_going v i l w =
+      halted_going : (halt : Halt) (e : Expr) → goes_on halt ≡ false → (is_split halt ≡ true → q.zone.count < 24)
+          → ((out : Counted) → reached b r (halted_c (at k) halt e) out ≡ meant b r p out) → Going b r p (halted_c (at k) halt e)
+      halted_going halt e i l w =
           record {
             same = w;
             later = g.later;
             count = g.count;
-            early = λ z. absurd (omega arith);
-            counted = λ z. absurd (omega arith);
+            early = λ z. absurd (true≢false (sym z ∙ i));
+            counted = λ z. absurd (true≢false (sym z ∙ i));
             splits = λ z. (g.early h, l z, few);
           }
 
-      refused_same : (v : Verdict) → 4 ≤ v.kind → (out : Counted) → refused_c v.kind out ≡ meant b r p out
-          → reached b r (halted_c (at k) v) out ≡ meant b r p out
+      refused_same : (e : Expr) (out : Counted) → refused_c 8 out ≡ meant b r p out
+          → reached b r (halted_c (at k) stops.Full e) out ≡ meant b r p out
       unfolding reached meant_end ended_c
-      refused_same v i out w =
-          rw (
-            le-ltb v.kind 1 (omega arith),
-            ne_eqb v.kind 3 (λ z. omega arith),
-            le-ltb v.kind 2 (omega arith),
-            le-ltb v.kind 3 (omega arith),
-            le-ltb v.kind 4 i,
-          )
-          w
+      refused_same e out w = w
 
       -- the verdicts
       by_kind : Verdict → Part
-      by_kind v = cond (ltb v.kind 1) (answered_c r (at k) false) (cond (ltb v.kind 2) (answered_c r (at k) true) (halted_c (at k) v))
+      by_kind v = told_c r (at k) v.test v.kind
 
     few_now : q.tests ≤ suc q.phase
     few_now = omega (arith, g.counted h)
@@ -423,7 +427,7 @@ module _ (b : Ranges) (r : Rule) where
     few_next : suc q.tests ≤ suc q.phase
     few_next = omega (arith, g.counted h)
 
-    by_ask : (e : Expr) → ask_c r q.phase ≡ record { asked = Ask; expr = e }
+    by_ask : (e : Expr) → ask_c r q.phase ≡ Ask e
         → Going b r p (by_kind (suc q.tests) few_next (on_c b q.zone e))
     unfolding by_kind on_c tested_c
     by_ask e a = first (never_c b q.zone e) refl
@@ -435,30 +439,30 @@ module _ (b : Ranges) (r : Rule) where
         worth out = subst (λ (t : Test). worked_c b (tested_c t f) q.tests q.zone out ≡ meant b r p out) a (here out)
 
         third : (t : Bool) → ltb q.zone.count 24 ≡ t → never_c b q.zone e ≡ false → never_c b q.zone (opposite_c e) ≡ false
-            → Going b r p (by_kind k few_next (cond t (record { kind = 3; test = e }) (record { kind = 8; test = e })))
+            → Going b r p (by_kind k few_next (cond t (record { kind = kinds.Split; test = e }) (record { kind = kinds.Full; test = e })))
         third true l n o =
-            halted_going k few_next (record { kind = 3; test = e }) (omega arith) (λ _. ltb-true q.zone.count 24 l)
+            halted_going k few_next stops.Split e refl (λ _. ltb-true q.zone.count 24 l)
             (λ out. split_same k few_next e (ltb-true q.zone.count 24 l) out
             (ask_split b e f q.tests q.zone out n o l ∙ worth out))
         third false l n o =
-            halted_going k few_next (record { kind = 8; test = e }) (omega arith) (λ z. absurd (omega arith))
-            (λ out. refused_same k few_next (record { kind = 8; test = e }) (omega arith) out
+            halted_going k few_next stops.Full e refl (λ z. absurd (true≢false (sym z)))
+            (λ out. refused_same k few_next e out
             (ask_full b e f q.tests q.zone out n o l ∙ worth out))
 
         second : (t : Bool) → never_c b q.zone (opposite_c e) ≡ t → never_c b q.zone e ≡ false
             → Going b r p
             (by_kind k few_next
-            (cond t (record { kind = 1; test = e })
-            (cond (ltb q.zone.count 24) (record { kind = 3; test = e }) (record { kind = 8; test = e }))))
+            (cond t (record { kind = kinds.Yes; test = e })
+            (cond (ltb q.zone.count 24) (record { kind = kinds.Split; test = e }) (record { kind = kinds.Full; test = e }))))
         second true o n = answered_going k few_next true (λ out. ask_yes b e f q.tests q.zone out n o ∙ worth out)
         second false o n = third (ltb q.zone.count 24) refl n o
 
         first : (t : Bool) → never_c b q.zone e ≡ t
             → Going b r p
             (by_kind k few_next
-            (cond t (record { kind = 0; test = e })
-            (cond (never_c b q.zone (opposite_c e)) (record { kind = 1; test = e })
-            (cond (ltb q.zone.count 24) (record { kind = 3; test = e }) (record { kind = 8; test = e })))))
+            (cond t (record { kind = kinds.No; test = e })
+            (cond (never_c b q.zone (opposite_c e)) (record { kind = kinds.Yes; test = e })
+            (cond (ltb q.zone.count 24) (record { kind = kinds.Split; test = e }) (record { kind = kinds.Full; test = e })))))
         first true n = answered_going k few_next false (λ out. ask_no b e f q.tests q.zone out n ∙ worth out)
         first false n = second (never_c b q.zone (opposite_c e)) refl n
 
@@ -477,50 +481,44 @@ module _ (b : Ranges) (r : Rule) where
     abbrev after : Test → Part → Part
     after t c =
         let v = settled_c b q.zone t in
-        cond (ltb v.kind 1) (answered_c r c false) (cond (ltb v.kind 2) (answered_c r c true) (halted_c c v))
+        told_c r c v.test v.kind
 
     -- no test more
     as_before : (P : ℕ → Type 0) → P q.tests → P (q.tests + 0)
     as_before P h = let none : q.tests + 0 ≡ q.tests = omega arith in rw none h
 
-    abbrev test_of : Asked → Expr → Test
-    test_of x e = record { asked = x; expr = e }
-
-    by_test : (x : Asked) (e : Expr) → ask_c r q.phase ≡ test_of x e
-        → Going b r p (after (test_of x e) (at (q.tests + tests_in (test_of x e))))
+    by_test : (t : Test) → ask_c r q.phase ≡ t → Going b r p (after t (at (q.tests + tests_in t)))
     unfolding by_kind tested_c worked_c
-    by_test Yes e a =
-        as_before (λ k. Going b r p (after (test_of Yes e) (at k))) (answered_going q.tests few_now true (told (test_of Yes e) a))
-    by_test No e a =
-        as_before (λ k. Going b r p (after (test_of No e) (at k))) (answered_going q.tests few_now false (told (test_of No e) a))
-    by_test Ask e a = rw (add-one q.tests) (by_ask e a)
+    by_test Yes a = as_before (λ k. Going b r p (after Yes (at k))) (answered_going q.tests few_now true (told Yes a))
+    by_test No a = as_before (λ k. Going b r p (after No (at k))) (answered_going q.tests few_now false (told No a))
+    by_test (Ask e) a = rw (add-one q.tests) (by_ask e a)
 
-    pub goes_on : Going b r p (forward_c b r q)
+    pub forward_going : Going b r p (forward_c b r q)
     unfolding forward_c
-    goes_on =
+    forward_going =
         subst (λ (c : Part). Going b r p (after (ask_c r q.phase) c)) (sym (counted_is (ask_c r q.phase)))
-        (by_test (ask_c r q.phase).asked (ask_c r q.phase).expr refl)
+        (by_test (ask_c r q.phase) refl)
 
 -- ---- the way gets shorter
-module _ (b : Ranges) (r : Rule) (p q : Part) (g : Going b r p q) (h : q.halt < 1) where
+module _ (b : Ranges) (r : Rule) (p q : Part) (g : Going b r p q) (h : goes_on q.halt ≡ true) where
   left_now : left q ≡ 28 - q.phase
-  left_now = rw (lt-ltb q.halt 1 h) refl
+  left_now = rw h refl
 
   answered_less : (c : Part) (t : Bool) → c.phase ≡ q.phase → left (answered_c r c t) < left q
   answered_less c t e =
       let a = answer b r c t (omega (arith, g.early h)) in
-      rw left_now (by (ltb (answered_c r c t).halt 1) (omega (arith, a.later)))
+      rw left_now (by (goes_on (answered_c r c t).halt) (omega (arith, a.later)))
     where
       by : (s : Bool) → q.phase < (answered_c r c t).phase → cond s (28 - (answered_c r c t).phase) 0 < 28 - q.phase
       by true l = omega (arith, g.early h)
       by false l = omega (arith, g.early h)
 
-  halted_less : (c : Part) (v : Verdict) → 1 ≤ v.kind → left (halted_c c v) < left q
-  halted_less c v k = rw (left_now, le-ltb v.kind 1 k) (omega (arith, g.early h))
+  halted_less : (c : Part) (halt : Halt) (e : Expr) → goes_on halt ≡ false → left (halted_c c halt e) < left q
+  halted_less c halt e k = rw (left_now, k) (omega (arith, g.early h))
 
   pub left_less : left (forward_c b r q) < left q
   unfolding forward_c counted_c
-  left_less = by (ltb v.kind 1) refl
+  left_less = by v.kind
     where
       v : Verdict
       v = settled_c b q.zone (ask_c r q.phase)
@@ -528,14 +526,11 @@ module _ (b : Ranges) (r : Rule) (p q : Part) (g : Going b r p q) (h : q.halt < 
       c : Part
       c = counted_c q (ask_c r q.phase)
 
-      second : (t : Bool) → ltb v.kind 2 ≡ t → 1 ≤ v.kind → left (cond t (answered_c r c true) (halted_c c v)) < left q
-      second true e k = answered_less c true refl
-      second false e k = halted_less c v k
-
-      by : (t : Bool) → ltb v.kind 1 ≡ t
-          → left (cond t (answered_c r c false) (cond (ltb v.kind 2) (answered_c r c true) (halted_c c v))) < left q
-      by true e = answered_less c false refl
-      by false e = second (ltb v.kind 2) refl (ltb-false v.kind 1 e)
+      by : (k : Told) → left (told_c r c v.test k) < left q
+      by kinds.No = answered_less c false refl
+      by kinds.Yes = answered_less c true refl
+      by kinds.Split = halted_less c stops.Split v.test refl
+      by kinds.Full = halted_less c stops.Full v.test refl
 
 -- ---- the two parts of a split, and a part that has stopped
 module _ (b : Ranges) (r : Rule) (q : Part) (h : q.phase < 27) where
@@ -564,20 +559,27 @@ module _ (b : Ranges) (r : Rule) (q : Part) (h : q.phase < 27) where
   no_count l = (answer b r (with_more q (opposite_c q.test)) false h).count ∙ more_count q.zone (opposite_c q.test) l
 
 module _ (b : Ranges) (r : Rule) (p q : Part) (g : Ran b r p q) (out : Counted) where
-  pub ran_ended : (q.halt ≡ 3 → ⊥) → meant b r p out ≡ ended_c q out
+  pub ran_ended : is_split q.halt ≡ false → meant b r p out ≡ ended_c q out
   unfolding meant_end
   ran_ended h =
       sym
       (subst (λ (t : Bool). cond t (meant b r (no_c r q) (meant b r (yes_c r q) out)) (ended_c q out) ≡ meant b r p out)
-      (ne_eqb q.halt 3 h) (g.same out))
+      h (g.same out))
 
-  pub ran_split : q.halt ≡ 3 → meant b r p out ≡ meant b r (no_c r q) (meant b r (yes_c r q) out)
+  pub ran_split : is_split q.halt ≡ true → meant b r p out ≡ meant b r (no_c r q) (meant b r (yes_c r q) out)
   unfolding meant_end
   ran_split h =
       sym
       (subst (λ (t : Bool). cond t (meant b r (no_c r q) (meant b r (yes_c r q) out)) (ended_c q out) ≡ meant b r p out)
-      (eq-eqb q.halt 3 h) (g.same out))
+      h (g.same out))
 
-pub split_leaves : (q : Part) (out : Counted) → q.halt ≡ 3 → ended_c q out ≡ out
+pub split_leaves : (q : Part) (out : Counted) → is_split q.halt ≡ true → ended_c q out ≡ out
 unfolding ended_c
-split_leaves q out h = rw h refl
+split_leaves q out h = by q.halt h
+  where
+    by : (k : Halt) → is_split k ≡ true → ended_by k q out ≡ out
+    by stops.No h = refl
+    by stops.Cut h = refl
+    by stops.Kept h = absurd (true≢false (sym h))
+    by stops.Split h = refl
+    by stops.Full h = absurd (true≢false (sym h))

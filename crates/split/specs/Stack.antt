@@ -1,18 +1,19 @@
 -- The stack of parts that are still to be worked on, the next one on top.
-use Rattle.std.specs.Prelude.{◌≡◌, refl, List, [], Bool, true, false, cond, ℕ, zero, suc, ◌+◌, ◌-◌, ◌≤◌, ◌<◌, ltb, eqb, length, get_or}
+use Rattle.std.specs.Prelude.{◌≡◌, refl, List, [], Bool, true, false, cond, ℕ, zero, suc, ◌+◌, ◌-◌, ◌≤◌, ◌<◌, ltb, length, get_or}
 use Rattle.std.specs.Prelude.{set, replicate}
 use Rattle.std.proofs.Math.Path.{sym, ap}
-use Rattle.std.proofs.Common.{subst, ◌∙◌, arith, ne_eqb, eqb-true, length-set, add-one, get_or-set_same, get_or-set_other}
-use Rattle.std.proofs.lemmas.Bool.{eqb-false}
+use Rattle.std.proofs.Common.{subst, ◌∙◌, arith, ne_eqb, length-set, add-one, get_or-set_same, get_or-set_other}
 use Rattle.expr.specs.declared.range.Ranges.{Ranges}
 use Rattle.split.specs.Runs.{yes_live, yes_later, yes_count, no_live, no_later, no_count, ran_ended, ran_split, split_leaves}
 use Rattle.split.specs.Guarded.{cut_c}
 use Rattle.split.specs.Listed.{refused_c, list_c}
 use Rattle.expr.specs.Records.{no_expr}
 use Rattle.zones.specs.Zone.{plus_c}
-use Rattle.parts.specs.Parts.{yes_c, no_c}
-use Rattle.split.specs.Trees.{TreeC, cut_t, keep_t, ask_t, tree_at, worked_c, start_c, ended_c, meant, Live, Ran}
+use Rattle.parts.specs.Parts.{goes_on, is_split, yes_c, no_c}
+use Rattle.split.specs.Trees.{TreeC, cut_t, keep_t, ask_t, tree_at, worked_c, start_c, ended_by, ended_c, meant, Live, Ran}
 use Rattle.zones.specs.Settled.{opposite_c, never_c}
+use Rattle.parts.specs.declared.part.Halt.{Halt}
+use Rattle.parts.specs.declared.part.Halt.TheVariants as stops
 use Rattle.parts.specs.declared.part.Part.{Part}
 use Rattle.constrain.specs.declared.rule.Rule.{Rule}
 use Rattle.zones.specs.declared.zone.Zone.{Zone}
@@ -20,7 +21,7 @@ use Rattle.split.specs.declared.list.Counted.{Counted}
 
 -- what is read past the stack's end
 abbrev pub no_part : Part
-no_part = record { phase = 0; halt = 0; tests = 0; test = no_expr; zone = record { count = 0; ineqs = []; bounds = [] } }
+no_part = record { phase = 0; halt = stops.No; tests = 0; test = no_expr; zone = record { count = 0; ineqs = []; bounds = [] } }
 
 -- the first n parts worked, from the top down
 unfoldable pub drained : Ranges → Rule → List Part → ℕ → Counted → Counted
@@ -59,15 +60,19 @@ worked_sticks b (ask_t e f) k z out h =
 
 ended_sticks : (p : Part) (out : Counted) → 0 < out.zones.refusal → ended_c p out ≡ out
 unfolding ended_c
-ended_sticks p out h =
-    same_pick (ltb p.halt 2) _ _ out refl
-    (same_pick (ltb p.halt 3) _ _ out (list_sticks p.zone p.tests out h)
-    (same_pick (ltb p.halt 4) _ _ out refl (refused_sticks p.halt out h)))
+ended_sticks p out h = by p.halt
+  where
+    by : (k : Halt) → ended_by k p out ≡ out
+    by stops.No = refl
+    by stops.Cut = refl
+    by stops.Kept = list_sticks p.zone p.tests out h
+    by stops.Split = refl
+    by stops.Full = refused_sticks 8 out h
 
 pub meant_sticks : (b : Ranges) (r : Rule) (p : Part) (out : Counted) → 0 < out.zones.refusal → meant b r p out ≡ out
 unfolding meant
 meant_sticks b r p out h =
-    same_pick (ltb p.halt 1) _ _ out (worked_sticks b (tree_at r p.phase p.zone.bounds) p.tests p.zone out h)
+    same_pick (goes_on p.halt) _ _ out (worked_sticks b (tree_at r p.phase p.zone.bounds) p.tests p.zone out h)
     (ended_sticks p out h)
 
 drained_sticks : (b : Ranges) (r : Rule) (st : List Part) (k : ℕ) (out : Counted) → 0 < out.zones.refusal → drained b r st k out ≡ out
@@ -134,19 +139,19 @@ module _ (b : Ranges) (r : Rule) (st : List Part) (k : ℕ) (now next whole : Co
   top = get_or st k no_part
 
   module _ (ran : Ran b r top q) (e : next ≡ ended_c q now) (d : drained b r st (suc k) now ≡ whole) where
-    pub turn_ends : (q.halt ≡ 3 → ⊥) → drained b r st k next ≡ whole
+    pub turn_ends : is_split q.halt ≡ false → drained b r st k next ≡ whole
     unfolding drained
     turn_ends h = ap (drained b r st k) (e ∙ sym (ran_ended b r top q ran now h)) ∙ d
 
     pub turn_refused : 0 < next.zones.refusal → next ≡ whole
-    turn_refused h = by (eqb q.halt 3) refl
+    turn_refused h = by (is_split q.halt) refl
       where
-        by : (t : Bool) → eqb q.halt 3 ≡ t → next ≡ whole
+        by : (t : Bool) → is_split q.halt ≡ t → next ≡ whole
         by true s =
-            let same = e ∙ split_leaves q now (eqb-true q.halt 3 s) in
+            let same = e ∙ split_leaves q now s in
             let h' : 0 < now.zones.refusal = subst (λ (z : Counted). 0 < z.zones.refusal) same h in
             same ∙ sym (drained_sticks b r st (suc k) now h') ∙ d
-        by false s = sym (drained_sticks b r st k next h) ∙ turn_ends (eqb-false q.halt 3 s)
+        by false s = sym (drained_sticks b r st k next h) ∙ turn_ends s
 
   module _ (room : suc k < length st) where
     -- the two parts of a split put in
@@ -163,7 +168,7 @@ module _ (b : Ranges) (r : Rule) (st : List Part) (k : ℕ) (now next whole : Co
         get_or-set_other (set st k (no_c r q)) (suc k) k (yes_c r q) no_part (λ e. omega arith)
         ∙ get_or-set_same st k (no_c r q) no_part (omega arith)
 
-    pub turn_splits : Ran b r top q → next ≡ ended_c q now → drained b r st (suc k) now ≡ whole → q.halt ≡ 3
+    pub turn_splits : Ran b r top q → next ≡ ended_c q now → drained b r st (suc k) now ≡ whole → is_split q.halt ≡ true
         → drained b r more (suc (suc k)) next ≡ whole
     unfolding drained
     turn_splits ran e d h =
@@ -171,7 +176,7 @@ module _ (b : Ranges) (r : Rule) (st : List Part) (k : ℕ) (now next whole : Co
         (drained_set b r (set st k (no_c r q)) (suc k) k (yes_c r q) _ (omega arith) ∙ drained_set b r st k k (no_c r q) _ (omega arith)
         ∙ ap (drained b r st k) (sym (ran_split b r top q ran now h)) ∙ d)
 
-    pub waiting_splits : Ran b r top q → Waiting st (suc k) → q.halt ≡ 3 → Waiting more (suc (suc k))
+    pub waiting_splits : Ran b r top q → Waiting st (suc k) → is_split q.halt ≡ true → Waiting more (suc (suc k))
     waiting_splits ran w h =
         let s = ran.splits h in
         let yes_enough : suc k ≤ (yes_c r q).zone.count = omega (arith, w.0, ran.count, yes_count b r q s.0 s.1) in
@@ -186,7 +191,7 @@ module _ (b : Ranges) (r : Rule) (st : List Part) (k : ℕ) (now next whole : Co
           ),
         )
 
-    pub load_splits : Ran b r top q → q.halt ≡ 3 → load more (suc (suc k)) < load st (suc k)
+    pub load_splits : Ran b r top q → is_split q.halt ≡ true → load more (suc (suc k)) < load st (suc k)
     unfolding load
     load_splits ran h =
         let s = ran.splits h in
@@ -201,7 +206,7 @@ load_ends st k = let s = size_some (27 - (get_or st k no_part).phase) in omega a
 
 -- a split finds room: a part that splits has fewer than 24 inequalities
 pub room_splits : (b : Ranges) (r : Rule) (st : List Part) (k : ℕ) (q : Part) → Ran b r (get_or st k no_part) q → Waiting st (suc k)
-    → q.halt ≡ 3 → k < 24
+    → is_split q.halt ≡ true → k < 24
 room_splits b r st k q ran w h = omega (arith, w.0, ran.count, (ran.splits h).1)
 
 pub start_drained : (b : Ranges) (r : Rule) (z : Zone) (out : Counted) → meant b r (start_c z) out ≡ cut_c b r z out
@@ -209,7 +214,7 @@ unfolding meant cut_c
 start_drained b r z out = refl
 
 pub start_live : (z : Zone) → Live (start_c z)
-start_live z = record { below = omega arith; early = λ _. omega arith; counted = omega arith }
+start_live z = record { below = refl; early = λ _. omega arith; counted = omega arith }
 
 pub cut_sticks : (b : Ranges) (r : Rule) (z : Zone) (out : Counted) → 0 < out.zones.refusal → out ≡ cut_c b r z out
 unfolding cut_c
@@ -239,7 +244,7 @@ module _ {b : Ranges} {r : Rule} {st : List Part} {n : ℕ} {now next whole : Co
   is_same : drained b r st (suc k) now ≡ whole
   is_same = subst (λ (m : ℕ). drained b r st m now ≡ whole) t.top t.turned.same
 
-  pub ends_turned : (p.halt ≡ 3 → ⊥) → Turned b r st k next whole
+  pub ends_turned : is_split p.halt ≡ false → Turned b r st k next whole
   ends_turned h =
       record {
         few = omega (arith, t.turned.few);
@@ -251,10 +256,10 @@ module _ {b : Ranges} {r : Rule} {st : List Part} {n : ℕ} {now next whole : Co
   pub refused_turned : 0 < next.zones.refusal → next ≡ whole
   refused_turned h = turn_refused b r st k now next whole p t.ran t.ended is_same h
 
-  pub room_turned : p.halt ≡ 3 → n < 25
+  pub room_turned : is_split p.halt ≡ true → n < 25
   room_turned h = let e = t.top in omega (arith, room_splits b r st k p t.ran is_waiting h)
 
-  module _ (h : p.halt ≡ 3) where
+  module _ (h : is_split p.halt ≡ true) where
     room : suc k < length st
     room = omega (arith, room_splits b r st k p t.ran is_waiting h, t.turned.long)
 

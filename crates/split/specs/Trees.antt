@@ -1,14 +1,15 @@
 -- The tests of a guard as a tree, worked on a zone; and what a part on its way comes to: the tests that are left, worked on its zone.
-use Rattle.std.specs.Prelude.{◌≡◌, List, Bool, true, false, cond, ℕ, zero, suc, ◌-◌, ◌≤◌, ◌<◌, ltb, eqb, set}
+use Rattle.std.specs.Prelude.{◌≡◌, List, Bool, true, false, cond, ℕ, zero, suc, ◌-◌, ◌≤◌, ◌<◌, ltb, set}
 use Rattle.constrain.specs.Rules.{via_c, void_test, tight_test, push_test}
 use Rattle.constrain.specs.declared.rule.Rule.{Rule}
 use Rattle.expr.specs.declared.bound.Bound.{Bound}
-use Rattle.expr.specs.declared.bound.Asked.{Asked}
-use Rattle.expr.specs.declared.bound.Asked.TheVariants.{Yes, No, Ask}
 use Rattle.expr.specs.declared.bound.Test.{Test}
+use Rattle.expr.specs.declared.bound.Test.TheVariants.{Yes, No, Ask}
 use Rattle.expr.specs.declared.number.Expr.{Expr}
 use Rattle.expr.specs.declared.range.Ranges.{Ranges}
-use Rattle.parts.specs.Parts.{with_bounds, yes_c, no_c}
+use Rattle.parts.specs.Parts.{goes_on, is_split, is_whole, with_bounds, yes_c, no_c}
+use Rattle.parts.specs.declared.part.Halt.{Halt}
+use Rattle.parts.specs.declared.part.Halt.TheVariants as stops
 use Rattle.parts.specs.declared.part.Part.{Part}
 use Rattle.split.specs.Listed.{refused_c, list_c}
 use Rattle.zones.specs.Settled.{opposite_c, never_c}
@@ -23,13 +24,10 @@ pub data TreeC : Type 0 where
   keep_t : List Bound → TreeC
   ask_t : Expr → (Bool → TreeC) → TreeC
 
-abbrev pub tested_by : Asked → Expr → (Bool → TreeC) → TreeC
-tested_by Yes e f = f true
-tested_by No e f = f false
-tested_by Ask e f = ask_t e f
-
 unfoldable pub tested_c : Test → (Bool → TreeC) → TreeC
-tested_c t f = tested_by t.asked t.expr f
+tested_c Yes f = f true
+tested_c No f = f false
+tested_c (Ask e) f = ask_t e f
 
 -- rule (3): k entries are left, the next one is x
 unfoldable pub push_c : Rule → ℕ → ℕ → List Bound → TreeC
@@ -61,33 +59,38 @@ worked_c b (ask_t e f) k z out =
 -- ---- the code's steps
 -- the zone before the first test
 abbrev pub start_c : Zone → Part
-start_c z = record { phase = 0; halt = 0; tests = 0; test = zero_expr; zone = z }
+start_c z = record { phase = 0; halt = stops.No; tests = 0; test = zero_expr; zone = z }
 
--- what was listed, after a part that is cut (1), kept (2) or refused (8); a split leaves it
+-- what was listed, after a part that is cut, kept or refused; a split leaves it
+abbrev pub ended_by : Halt → Part → Counted → Counted
+ended_by stops.No p out = out
+ended_by stops.Cut p out = out
+ended_by stops.Kept p out = list_c p.zone p.tests out
+ended_by stops.Split p out = out
+ended_by stops.Full p out = refused_c 8 out
+
 unfoldable pub ended_c : Part → Counted → Counted
-ended_c p out =
-    cond (ltb p.halt 2) out
-    (cond (ltb p.halt 3) (list_c p.zone p.tests out) (cond (ltb p.halt 4) out (refused_c p.halt out)))
+ended_c p out = ended_by p.halt p out
 
 -- ---- what a part comes to
 -- one that waits for its turn: it goes on, is cut or is kept
 unfoldable pub meant : Ranges → Rule → Part → Counted → Counted
-meant b r p out = cond (ltb p.halt 1) (worked_c b (tree_at r p.phase p.zone.bounds) p.tests p.zone out) (ended_c p out)
+meant b r p out = cond (goes_on p.halt) (worked_c b (tree_at r p.phase p.zone.bounds) p.tests p.zone out) (ended_c p out)
 
 -- one that has stopped: it may also split, the yes part first
 unfoldable pub meant_end : Ranges → Rule → Part → Counted → Counted
-meant_end b r p out = cond (eqb p.halt 3) (meant b r (no_c r p) (meant b r (yes_c r p) out)) (ended_c p out)
+meant_end b r p out = cond (is_split p.halt) (meant b r (no_c r p) (meant b r (yes_c r p) out)) (ended_c p out)
 
 -- a part that waits for its turn
 pub record Live (p : Part) : Type 0 where
-  pub below : p.halt < 3
-  pub early : p.halt < 1 → p.phase < 27
+  pub below : is_whole p.halt ≡ true
+  pub early : goes_on p.halt ≡ true → p.phase < 27
   pub counted : p.tests ≤ p.phase
 
 -- the part q is where p stops
 pub record Ran (b : Ranges) (r : Rule) (p q : Part) : Type 0 where
-  pub stopped : 1 ≤ q.halt
+  pub stopped : goes_on q.halt ≡ false
   pub same : (out : Counted) → meant_end b r q out ≡ meant b r p out
   pub later : p.phase ≤ q.phase
   pub count : q.zone.count ≡ p.zone.count
-  pub splits : q.halt ≡ 3 → (q.phase < 27) × (q.zone.count < 24) × (q.tests ≤ suc q.phase)
+  pub splits : is_split q.halt ≡ true → (q.phase < 27) × (q.zone.count < 24) × (q.tests ≤ suc q.phase)

@@ -5,40 +5,43 @@ use Rattle.std.proofs.Common.{sym, subst, ◌∙◌, true≢false}
 use Rattle.std.proofs.Math.Bool.{true, false, cond}
 use Prim.Native.Nat.{ℕ, zero, suc, ◌+◌, ◌-◌, ◌/◌, ◌%◌, ◌≤◌, ◌<◌, min}
 use native.Mathlib.Omega.{arith}
-use borrow.Author.Tests.{lt-ltb, le-ltb, ne_eqb, ltb-true, ltb-false}
+use borrow.Author.Tests.{lt-ltb, le-ltb, ltb-true, ltb-false}
 use Rattle.std.proofs.lemmas.List.{set-get_or}
 use Rattle.constrain.specs.RuleLaws.{Few, places_few, read_c, read_framed, via_of, asked_is, via_is}
 use Rattle.constrain.specs.Rules.{tighter_c, via_c, push_test, ask_c, places_at, framed_c, via_at, outside_c}
 use Rattle.constrain.specs.declared.rule.Reads.{Reads}
 use Rattle.constrain.specs.declared.rule.Rule.{Rule}
 use Rattle.expr.specs.Records.{no_bound, no_test, range_list}
-use Rattle.expr.specs.declared.bound.Asked.{Asked}
-use Rattle.expr.specs.declared.bound.Asked.TheVariants.{Yes, No, Ask}
 use Rattle.expr.specs.declared.bound.Bound.{Bound}
 use Rattle.expr.specs.declared.bound.Test.{Test}
+use Rattle.expr.specs.declared.bound.Test.TheVariants.{Yes, No, Ask}
 use Rattle.expr.specs.declared.number.Expr.{Expr}
 use Rattle.expr.specs.declared.number.Valuation.{Valuation}
 use Rattle.expr.specs.declared.range.Ranges.{Ranges}
-use Rattle.parts.specs.Parts.{with_bounds, standing, put_c, pushed_c, answered_c, halted_c, counted_c, forward_c, next, after_c, enters_c}
-use Rattle.parts.specs.Parts.{turn_c}
+use Rattle.parts.specs.Parts.{goes_on, with_bounds, standing, put_c, pushed_c, answered_c, halted_c, told_c, counted_c, forward_c, next}
+use Rattle.parts.specs.Parts.{after_c, enters_c, question_c, turn_c}
+use Rattle.parts.specs.declared.part.Halt.{Halt}
+use Rattle.parts.specs.declared.part.Halt.TheVariants as stops
 use Rattle.parts.specs.declared.part.Next.{Next}
 use Rattle.parts.specs.declared.part.Part.{Part}
 use Rattle.parts.specs.declared.part.Turn.{Turn}
 use Rattle.systems.specs.Boxes.{Narrows}
 use Rattle.systems.specs.BoxLaws.{narrows_refl}
 use Rattle.inequalities.specs.Flat.{exprs_in}
-use Rattle.split.specs.Runs.{Going, left, going_starts, goes_on, left_less}
+use Rattle.split.specs.Runs.{Going, left, going_starts, forward_going, left_less}
 use Rattle.split.specs.Trees.{Live}
 use Rattle.zones.specs.Fits.{Fit, noted_trusted, noted_ranges, found_trusted}
 use Rattle.zones.specs.FlatLaws.{Listing, listing_same, settled_same}
 use Rattle.zones.specs.Hinted.{exprs_of, Hinted, Trusted, found_c, noted_c}
-use Rattle.zones.specs.Settled.{Verdict, never_c, opposite_c, on_c, settled_c, settled_f}
+use Rattle.zones.specs.Settled.{Verdict, told_settled, told_yes, never_c, opposite_c, on_c, settled_c, settled_f}
 use Rattle.zones.specs.System.{SameRows}
 use Rattle.zones.specs.declared.hint.Hint.{Hint}
+use Rattle.zones.specs.declared.told.Told.{Told}
+use Rattle.zones.specs.declared.told.Told.TheVariants as kinds
 use Rattle.zones.specs.declared.zone.Zone.{Zone}
 
 -- the part after a verdict on its test t, via being what was compared and x the place of the entry
-unfoldable pub turned : ℕ → Part → Test → Bound → ℕ → Part
+unfoldable pub turned : ℕ → Part → Test → Bound → Told → Part
 turned x q t via kind =
     let n = turn_c q.phase q.tests q.test (get_or q.zone.bounds x no_bound) t via kind in
     record {
@@ -49,18 +52,17 @@ turned x q t via kind =
       zone = with_bounds q.zone (set q.zone.bounds x n.entry);
     }
 
--- a verdict of 2 or more is on a question, and has it
-asked_by : (b : Ranges) (z : Zone) (a : Asked) (e : Expr)
-    → 2 ≤ (settled_c b z (record { asked = a; expr = e })).kind → (settled_c b z (record { asked = a; expr = e })).test ≡ e
+-- a verdict that is not settled is on a question, and has it
+asked_by : (b : Ranges) (z : Zone) (t : Test) → told_settled (settled_c b z t).kind ≡ false → (settled_c b z t).test ≡ question_c t
 unfolding on_c
-asked_by b z Yes e h = absurd (omega arith)
-asked_by b z No e h = absurd (omega arith)
-asked_by b z Ask e h = by (never_c b z e) (never_c b z (opposite_c e)) (ltb z.count 24)
+asked_by b z Yes h = absurd (true≢false h)
+asked_by b z No h = absurd (true≢false h)
+asked_by b z (Ask e) h = by (never_c b z e) (never_c b z (opposite_c e)) (ltb z.count 24)
   where
-    of : ℕ → Verdict
+    of : Told → Verdict
     of k = record { kind = k; test = e }
 
-    by : (r s t : Bool) → (cond {A = Verdict} r (of 0) (cond s (of 1) (cond t (of 3) (of 8)))).test ≡ e
+    by : (r s t : Bool) → (cond {A = Verdict} r (of kinds.No) (cond s (of kinds.Yes) (cond t (of kinds.Split) (of kinds.Full)))).test ≡ e
     by true s t = refl
     by false true t = refl
     by false false true = refl
@@ -83,11 +85,11 @@ same_zone q x =
     (set-get_or q.zone.bounds x no_bound)
 
 -- the last entry, or one more
-last_entry : (x : ℕ) → cond (ltb (suc (suc x)) 26) (next (suc (suc x) + 1) 0) (next 27 2) ≡ cond (ltb x 24) (next (x + 3) 0) (next 27 2)
+last_entry : (x : ℕ) → cond (ltb (suc (suc x)) 26) (next (suc (suc x) + 1) stops.No) (next 27 stops.Kept) ≡ cond (ltb x 24) (next (x + 3) stops.No) (next 27 stops.Kept)
 last_entry x = by (ltb x 24) refl
   where
-    by : (s : Bool) → ltb x 24 ≡ s → cond (ltb (suc (suc x)) 26) (next (suc (suc x) + 1) 0) (next 27 2) ≡ cond s (next (x + 3) 0)
-        (next 27 2)
+    by : (s : Bool) → ltb x 24 ≡ s → cond (ltb (suc (suc x)) 26) (next (suc (suc x) + 1) stops.No) (next 27 stops.Kept) ≡ cond s (next (x + 3) stops.No)
+        (next 27 stops.Kept)
     by true s =
         let h = ltb-true x 24 s in
         let same : suc (suc x) + 1 ≡ x + 3 = omega arith in
@@ -107,22 +109,22 @@ module _ (r : Rule) (long : length r.old ≡ 25) (q : Part) (t : Test) where
   into x = (places_at r.left r.right x).into
 
   -- no: it stands where the answer leaves it
-  no_at : (x : ℕ) → q.phase ≡ x → turned (into x) q t (via_of r long x) 0 ≡ answered_c r (counted_c q t) false
+  no_at : (x : ℕ) → q.phase ≡ x → turned (into x) q t (via_of r long x) kinds.No ≡ answered_c r (counted_c q t) false
   unfolding turned turn_c after_c enters_c answered_c pushed_c counted_c stands
-  no_at zero e = rw e (λ i. standing (same_zone (counted_c q t) (into 0) i) 1 0)
-  no_at (suc zero) e = rw e (λ i. standing (same_zone (counted_c q t) (into 1) i) 27 2)
+  no_at zero e = rw e (λ i. standing (same_zone (counted_c q t) (into 0) i) 1 stops.No)
+  no_at (suc zero) e = rw e (λ i. standing (same_zone (counted_c q t) (into 1) i) 27 stops.Kept)
   no_at (suc (suc x)) e =
       let two : suc (suc x) - 2 ≡ x = omega arith in
       rw (e, le-ltb (suc (suc x)) 1 (omega arith), le-ltb (suc (suc x)) 2 (omega arith), lt-ltb 1 (suc (suc x)) (omega arith), two)
       ((λ i. stands (same_zone (counted_c q t) (into (suc (suc x))) i) (last_entry x i))
-      ∙ stands_by (counted_c q t) (ltb x 24) (next (x + 3) 0) (next 27 2))
+      ∙ stands_by (counted_c q t) (ltb x 24) (next (x + 3) stops.No) (next 27 stops.Kept))
 
   -- yes: the same, and from the third phase on the entry is put in
   yes_at : (x : ℕ) → q.phase ≡ x → x < 27 → (ask_c r x ≡ no_test → ⊥)
-      → turned (into x) q t (via_of r long x) 1 ≡ answered_c r (counted_c q t) true
+      → turned (into x) q t (via_of r long x) kinds.Yes ≡ answered_c r (counted_c q t) true
   unfolding turned turn_c after_c enters_c answered_c pushed_c counted_c stands places_at
-  yes_at zero e h k = rw e (λ i. standing (same_zone (counted_c q t) (into 0) i) 27 1)
-  yes_at (suc zero) e h k = rw e (λ i. standing (same_zone (counted_c q t) (into 1) i) 2 0)
+  yes_at zero e h k = rw e (λ i. standing (same_zone (counted_c q t) (into 0) i) 27 stops.Cut)
+  yes_at (suc zero) e h k = rw e (λ i. standing (same_zone (counted_c q t) (into 1) i) 2 stops.No)
   yes_at (suc (suc x)) e h k =
       let two : suc (suc x) - 2 ≡ x = omega arith in
       let few : min x 24 ≡ x = omega arith in
@@ -136,27 +138,27 @@ module _ (r : Rule) (long : length r.old ≡ 25) (q : Part) (t : Test) where
         via_is r long x k,
       )
       ((λ i. stands (put_c (counted_c q t) x (via_c r x)) (last_entry x i))
-      ∙ stands_by (put_c (counted_c q t) x (via_c r x)) (ltb x 24) (next (x + 3) 0) (next 27 2))
+      ∙ stands_by (put_c (counted_c q t) x (via_c r x)) (ltb x 24) (next (x + 3) stops.No) (next 27 stops.Kept))
 
   -- it stops at a test that is not settled
-  halted_at : (x kind : ℕ) → 2 ≤ kind → (v : Verdict) → v.kind ≡ kind → v.test ≡ t.expr
-      → turned (into x) q t (via_of r long x) kind ≡ halted_c (counted_c q t) v
-  unfolding turned turn_c after_c enters_c counted_c
-  halted_at x kind h v hk ht =
-      rw (lt-ltb 1 kind (omega arith), ne_eqb kind 1 (λ e. omega arith), hk, ht) (by (ltb 1 q.phase))
+  halted_at : (x : ℕ) (kind : Told) (halt : Halt) → told_settled kind ≡ false → told_yes kind ≡ false → after_c q.phase kind ≡ next q.phase halt
+      → (e : Expr) → e ≡ question_c t → turned (into x) q t (via_of r long x) kind ≡ halted_c (counted_c q t) halt e
+  unfolding turned turn_c enters_c counted_c
+  halted_at x kind halt h y a e he =
+      rw (h, y, a, he) (by (ltb 1 q.phase))
     where
       by : (s : Bool)
           → record {
             phase = q.phase;
-            halt = kind;
+            halt = halt;
             tests = (counted_c q t).tests;
-            test = t.expr;
+            test = question_c t;
             zone = with_bounds q.zone
                 (set q.zone.bounds (into x) (cond (s && false) (via_of r long x) (get_or q.zone.bounds (into x) no_bound)));
           }
-          ≡ halted_c (counted_c q t) (record { kind = kind; test = t.expr })
-      by true = λ i. halted_c (same_zone (counted_c q t) (into x) i) (record { kind = kind; test = t.expr })
-      by false = λ i. halted_c (same_zone (counted_c q t) (into x) i) (record { kind = kind; test = t.expr })
+          ≡ halted_c (counted_c q t) halt (question_c t)
+      by true = λ i. halted_c (same_zone (counted_c q t) (into x) i) halt (question_c t)
+      by false = λ i. halted_c (same_zone (counted_c q t) (into x) i) halt (question_c t)
 
 -- one turn is `forward_c`
 module _ (b : Ranges) (r : Rule) (long : length r.old ≡ 25) (q : Part) (early : q.phase < 27) where
@@ -166,45 +168,27 @@ module _ (b : Ranges) (r : Rule) (long : length r.old ≡ 25) (q : Part) (early 
   abbrev v : Verdict
   v = settled_c b q.zone t
 
-  abbrev moved : ℕ → Part
+  abbrev moved : Told → Part
   moved kind = turned (places_at r.left r.right q.phase).into q t (via_of r long q.phase) kind
 
-  no_question : t ≡ no_test → v.kind ≡ 0
+  no_question : t ≡ no_test → v.kind ≡ kinds.No
   no_question e = ap (λ (x : Test). (settled_c b q.zone x).kind) e
 
-  one_not_none : v.kind ≡ 1 → t ≡ no_test → ⊥
-  one_not_none h e = absurd (omega (arith, no_question e))
-
-  moved_no : v.kind < 1 → moved v.kind ≡ forward_c b r q
-  unfolding forward_c
-  moved_no h =
-      let zero_is : v.kind ≡ 0 = omega arith in
-      ap moved zero_is ∙ no_at r long q t q.phase refl
-      ∙ rw (lt-ltb v.kind 1 h) refl
-
-  moved_yes : 1 ≤ v.kind → v.kind < 2 → moved v.kind ≡ forward_c b r q
-  unfolding forward_c
-  moved_yes h g =
-      let one_is : v.kind ≡ 1 = omega arith in
-      ap moved one_is ∙ yes_at r long q t q.phase refl early (one_not_none one_is)
-      ∙ rw (le-ltb v.kind 1 h, lt-ltb v.kind 2 g) refl
-
-  moved_halts : 2 ≤ v.kind → moved v.kind ≡ forward_c b r q
-  unfolding forward_c
-  moved_halts h =
-      halted_at r long q t q.phase v.kind h v refl (asked_by b q.zone t.asked t.expr h)
-      ∙ rw (le-ltb v.kind 1 (omega arith), le-ltb v.kind 2 h) refl
+  yes_not_none : v.kind ≡ kinds.Yes → t ≡ no_test → ⊥
+  yes_not_none h e = true≢false (sym (ap told_yes h) ∙ ap told_yes (no_question e))
 
   moved_is : moved v.kind ≡ forward_c b r q
-  moved_is = first (ltb v.kind 1) refl
+  unfolding forward_c after_c
+  moved_is = by v.kind refl
     where
-      second : (s : Bool) → ltb v.kind 2 ≡ s → 1 ≤ v.kind → moved v.kind ≡ forward_c b r q
-      second true e h = moved_yes h (ltb-true v.kind 2 e)
-      second false e h = moved_halts (ltb-false v.kind 2 e)
+      asks : told_settled v.kind ≡ false → v.test ≡ question_c t
+      asks h = asked_by b q.zone t h
 
-      first : (s : Bool) → ltb v.kind 1 ≡ s → moved v.kind ≡ forward_c b r q
-      first true e = moved_no (ltb-true v.kind 1 e)
-      first false e = second (ltb v.kind 2) refl (ltb-false v.kind 1 e)
+      by : (k : Told) → v.kind ≡ k → moved k ≡ told_c r (counted_c q t) v.test k
+      by kinds.No e = no_at r long q t q.phase refl
+      by kinds.Yes e = yes_at r long q t q.phase refl early (yes_not_none e)
+      by kinds.Split e = halted_at r long q t q.phase kinds.Split stops.Split refl refl refl v.test (asks (ap told_settled e))
+      by kinds.Full e = halted_at r long q t q.phase kinds.Full stops.Full refl refl refl v.test (asks (ap told_settled e))
 
 -- ---- a part on its way, with the list of its zone's inequalities; c are the ranges that these leave
 pub record Way (r : Rule) (z : Zone) (c : Ranges) (n : ℕ) (p : Part) (flat : List ℤ) (q : Part) : Type 0 where
@@ -216,7 +200,7 @@ pub record Way (r : Rule) (z : Zone) (c : Ranges) (n : ℕ) (p : Part) (flat : L
   pub all : Ranges
   pub narrows : Narrows (exprs_of z) (range_list all) (range_list c)
   pub going : (b : Ranges) → Narrows (exprs_of z) (range_list b) (range_list c) → Going b r p q
-  pub early : q.halt < 1 → q.phase < 27
+  pub early : goes_on q.halt ≡ true → q.phase < 27
 
 pub way_starts : (r : Rule) (c : Ranges) (n : ℕ) (p : Part) (flat : List ℤ) → Live p → length r.old ≡ 25
     → n ≡ min p.zone.count 24 → length flat ≡ 125 → exprs_in flat n ≡ exprs_of p.zone → Way r p.zone c n p flat p
@@ -263,10 +247,10 @@ module _ (r : Rule) (z : Zone) (first now : Hint) (n : ℕ) (p : Part) (flat : L
   knowing_fits = record { zone = z; listing = own; trusted = k.trusted }
 
   -- the verdict is one over the first ranges
-  pub knowing_settled : (t : Test) (kind : ℕ) → kind ≡ settled_f now.ranges flat n t → kind ≡ settled_f first.ranges flat n t
+  pub knowing_settled : (t : Test) (kind : Told) → kind ≡ settled_f now.ranges flat n t → kind ≡ settled_f first.ranges flat n t
   knowing_settled t kind e = e ∙ ap (λ (c : Ranges). settled_f c flat n t) k.ranges
 
-  pub knowing_learned : (t : Test) (kind : ℕ) → kind ≡ settled_f now.ranges flat n t → (v : Valuation) (s : Bool) (h : Hint)
+  pub knowing_learned : (t : Test) (kind : Told) → kind ≡ settled_f now.ranges flat n t → (v : Valuation) (s : Bool) (h : Hint)
       → h ≡ cond s (noted_c now t kind) (found_c now v) → Knowing z first h
   knowing_learned t kind e v s h g = subst (Knowing z first) (sym g) (by s)
     where
@@ -278,13 +262,13 @@ module _ (r : Rule) (z : Zone) (first now : Hint) (n : ℕ) (p : Part) (flat : L
           }
       by false = record { ranges = k.ranges; trusted = found_trusted z now v k.trusted }
 
-module _ (r : Rule) (z : Zone) (c : Ranges) (n : ℕ) (p : Part) (flat : List ℤ) (q : Part) (w : Way r z c n p flat q) (h : q.halt < 1)
+module _ (r : Rule) (z : Zone) (c : Ranges) (n : ℕ) (p : Part) (flat : List ℤ) (q : Part) (w : Way r z c n p flat q) (h : goes_on q.halt ≡ true)
   where
     -- a test on the list is one on the part's zone
     listing : (b : Ranges) → Narrows (exprs_of z) (range_list b) (range_list c) → Listing b c q.zone n flat
     listing b m = rw w.zone (record { counted = w.counted; long = w.long; same = w.same; narrows = m })
 
-    module _ (t : Test) (ht : t ≡ ask_c r q.phase) (kind : ℕ) (hk : kind ≡ settled_f c flat n t) (via : Bound)
+    module _ (t : Test) (ht : t ≡ ask_c r q.phase) (kind : Told) (hk : kind ≡ settled_f c flat n t) (via : Bound)
         (hv : via ≡ via_of r w.matrix q.phase) where
       abbrev after : Part
       after = turned (places_at r.left r.right q.phase).into q t via kind
@@ -297,7 +281,7 @@ module _ (r : Rule) (z : Zone) (c : Ranges) (n : ℕ) (p : Part) (flat : List �
 
       -- what it comes to stays the same
       after_going : (b : Ranges) → Narrows (exprs_of z) (range_list b) (range_list c) → Going b r p after
-      after_going b k = subst (Going b r p) (sym (after_is b k)) (goes_on b r p q (w.going b k) h)
+      after_going b k = subst (Going b r p) (sym (after_is b k)) (forward_going b r p q (w.going b k) h)
 
       pub way_turn : (m : List ℤ) → SameRows n flat m → Way r z c n p m after
       unfolding turned
@@ -332,8 +316,8 @@ outside_none r (suc (suc x)) o = by _ (ltb r.clocks (x / 5)) (ltb r.clocks (x % 
     by u false true h = refl
     by u false false h = absurd (true≢false (sym h))
 
-module _ (r : Rule) (z : Zone) (c : Ranges) (n : ℕ) (p : Part) (flat : List ℤ) (q : Part) (w : Way r z c n p flat q) (h : q.halt < 1)
-    (o : outside_c r.clocks q.phase ≡ true) (x : Next) (hx : x ≡ after_c q.phase 0) where
+module _ (r : Rule) (z : Zone) (c : Ranges) (n : ℕ) (p : Part) (flat : List ℤ) (q : Part) (w : Way r z c n p flat q) (h : goes_on q.halt ≡ true)
+    (o : outside_c r.clocks q.phase ≡ true) (x : Next) (hx : x ≡ after_c q.phase kinds.No) where
   abbrev skipped : Part
   skipped = record { phase = x.phase; halt = x.halt; tests = q.tests; test = q.test; zone = q.zone }
 
@@ -343,27 +327,27 @@ module _ (r : Rule) (z : Zone) (c : Ranges) (n : ℕ) (p : Part) (flat : List �
   abbrev into_now : ℕ
   into_now = (places_at r.left r.right q.phase).into
 
-  skipped_is : turned into_now q no_test (via_of r w.matrix q.phase) 0 ≡ skipped
+  skipped_is : turned into_now q no_test (via_of r w.matrix q.phase) kinds.No ≡ skipped
   unfolding turned turn_c enters_c
   skipped_is =
       rw (few_tests, hx)
       (ap
       (λ (e : Bound).
       record {
-        phase = (after_c q.phase 0).phase;
-        halt = (after_c q.phase 0).halt;
+        phase = (after_c q.phase kinds.No).phase;
+        halt = (after_c q.phase kinds.No).halt;
         tests = q.tests;
         test = q.test;
         zone = with_bounds q.zone (set q.zone.bounds into_now e);
       })
       (never _ _ (ltb 1 q.phase))
-      ∙ ap (λ (y : Part). standing y (after_c q.phase 0).phase (after_c q.phase 0).halt) (same_zone q into_now))
+      ∙ ap (λ (y : Part). standing y (after_c q.phase kinds.No).phase (after_c q.phase kinds.No).halt) (same_zone q into_now))
     where
       never : (a e : Bound) (s : Bool) → cond (s && false) a e ≡ e
       never a e true = refl
       never a e false = refl
 
-  none_settled : 0 ≡ settled_f c flat n no_test
+  none_settled : kinds.No ≡ settled_f c flat n no_test
   unfolding settled_f
   none_settled = refl
 
@@ -376,22 +360,22 @@ module _ (r : Rule) (z : Zone) (c : Ranges) (n : ℕ) (p : Part) (flat : List �
   pub way_skips : Way r z c n p flat skipped
   way_skips =
       subst (Way r z c n p flat) skipped_is
-      (way_turn r z c n p flat q w h no_test asked 0 none_settled (via_of r w.matrix q.phase) refl flat none_left)
+      (way_turn r z c n p flat q w h no_test asked kinds.No none_settled (via_of r w.matrix q.phase) refl flat none_left)
 
   pub skip_less : left skipped < left q
   skip_less =
       subst (λ (y : Part). left y < left q) skipped_is
-      (way_less r z c n p flat q w h no_test asked 0 none_settled (via_of r w.matrix q.phase) refl)
+      (way_less r z c n p flat q w h no_test asked kinds.No none_settled (via_of r w.matrix q.phase) refl)
 
 -- ---- the code's turn, call by call
 -- a part from the code's numbers
-abbrev pub part_of : Zone → List Bound → Expr → ℕ → ℕ → ℕ → Part
+abbrev pub part_of : Zone → List Bound → Expr → ℕ → ℕ → Halt → Part
 part_of z m e tests phase halt = record { phase = phase; halt = halt; tests = tests; test = e; zone = with_bounds z m }
 
 pub few_at : (i j k : ℕ) (at : Reads) → at ≡ places_at i j k → Few at
 few_at i j k at h = subst Few (sym h) (places_few i j k)
 
-module _ (r : Rule) (z : Zone) (c : Ranges) (n : ℕ) (p : Part) (flat : List ℤ) (q : Part) (w : Way r z c n p flat q) (h : q.halt < 1)
+module _ (r : Rule) (z : Zone) (c : Ranges) (n : ℕ) (p : Part) (flat : List ℤ) (q : Part) (w : Way r z c n p flat q) (h : goes_on q.halt ≡ true)
     (at : Reads) (ha : at ≡ places_at r.left r.right q.phase) (old : List Bound) (ho : old ≡ framed_c r.old)
   where
     -- what is read at a place
@@ -419,7 +403,7 @@ module _ (r : Rule) (z : Zone) (c : Ranges) (n : ℕ) (p : Part) (flat : List �
               (read at.was few.was ∙ ap (λ (x : Reads). read_c r.old x.was) ha)
               ∙ asked_is r w.matrix q.phase
 
-          module _ (kind : ℕ) (hk : kind ≡ settled_f c flat n t) (x : Turn)
+          module _ (kind : Told) (hk : kind ≡ settled_f c flat n t) (x : Turn)
               (hx : x ≡ turn_c q.phase q.tests q.test (get_or q.zone.bounds at.into no_bound) t via kind) where
             abbrev made : Part
             made = part_of q.zone (set q.zone.bounds at.into x.entry) x.test x.tests x.phase x.halt

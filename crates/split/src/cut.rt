@@ -9,24 +9,20 @@ use crate::tests::run;
 use constrain::Rule;
 use expr::{Expr, Ranges};
 use guards::Guard;
-use parts::Part;
+use parts::{Halt, Part};
 use zones::Zone;
 
 // The zones listed so far, after a part that is not split: cut, it leaves them; kept, it is listed; or refused.
 fn ended(out: Counted, p: Part) -> Counted
     ensures { result ≡ ended_c p out }
 {
-    if p.halt < 2 {
-        return out;
+    match p.halt {
+        Halt::No => out,
+        Halt::Cut => out,
+        Halt::Kept => list::listed(out, p.zone, p.tests),
+        Halt::Split => out,
+        Halt::Full => list::refused(out, 8),
     }
-    if p.halt < 3 {
-        let zone = p.zone;
-        return list::listed(out, zone, p.tests);
-    }
-    if p.halt < 4 {
-        return out;
-    }
-    list::refused(out, p.halt)
 }
 
 // The zone before the first test.
@@ -35,7 +31,7 @@ fn start(zone: Zone) -> Part
 {
     Part {
         phase: 0,
-        halt: 0,
+        halt: Halt::No,
         tests: 0,
         test: Expr::ZERO,
         zone,
@@ -52,6 +48,7 @@ fn cut_zone(b: Ranges, r: Rule, zone: Zone, out: Counted) -> Counted
     let mut stack = [start(zone); 25];
     let mut now = out;
     let mut n = 1;
+    // No `for`: a split puts one part more on the stack.
     while 0 < n {
         let top = n - 1;
         let popped = stack[top];
@@ -63,7 +60,7 @@ fn cut_zone(b: Ranges, r: Rule, zone: Zone, out: Counted) -> Counted
         if 0 < now.zones.refusal {
             return now;
         }
-        if p.halt == 3 {
+        if p.halt.is_split() {
             let no = parts::no_part(r, p);
             let yes = parts::yes_part(r, p);
             stack[top] = no;

@@ -5,14 +5,14 @@ ghost use Rattle.split.specs.Trees.{Live, Ran};
 
 use constrain::Rule;
 use parts::Part;
-use zones::{Hint, Zone};
+use zones::{Hint, Told, Zone};
 
 // The part where it stops, whatever the ranges are that the hint was made of; an entry past the clocks asks nothing.
 pub(crate) fn run(hint: Hint, r: Rule, p: Part) -> Part
     requires { Live p × Trusted p.zone hint }
     ensures { (b : Ranges) → Hinted b p.zone hint → Ran b r p result }
 {
-    if 0 < p.halt {
+    if !p.halt.goes_on() {
         return p;
     }
     let zone = p.zone;
@@ -26,9 +26,9 @@ pub(crate) fn run(hint: Hint, r: Rule, p: Part) -> Part
     let mut tests = p.tests;
     let mut phase = p.phase;
     let mut halt = p.halt;
-    while halt < 1 {
+    while halt.goes_on() {
         if constrain::outside(r.clocks, phase) {
-            let next = parts::after(phase, 0);
+            let next = parts::after(phase, Told::No);
             phase = next.phase;
             halt = next.halt;
         } else {

@@ -1,14 +1,14 @@
 -- What a step put to the zone at a place comes to, cs being the cells before it and ds those after it: where one zone is left, it stands
 -- there; else the zone is as it was. No other place but 89 has changed.
-use Rattle.std.specs.Prelude.{◌≡◌, refl, Bool, true, false, List, ℕ, ◌≤◌, ◌<◌, length, get_or, set}
+use Rattle.std.specs.Prelude.{◌≡◌, refl, true, false, List, ℕ, ◌<◌, length, get_or, set}
 use Rattle.std.proofs.Common.{sym, ap, subst, ◌∙◌, true≢false, arith, length-set, get_or-set_same, get_or-set_other}
 use Rattle.cells.specs.Cells.{Cell, no_cell, zone_of, with_matrix, on_matrix, PLACES}
-use Rattle.expr.specs.declared.bound.Bound.{Bound}
 use Rattle.expr.specs.declared.range.Ranges.{Ranges}
 use Rattle.idle.specs.Idle.{Leaves, Idle}
+use Rattle.parts.specs.Parts.{is_kept}
 use Rattle.parts.specs.declared.part.Part.{Part}
 use Rattle.passing.specs.Laws.{one_kept, is_start}
-use Rattle.passing.specs.Machine.{ended_kept}
+use Rattle.passing.specs.Machine.{kept_splits_not, ended_kept}
 use Rattle.running.specs.Tasks.{part_at, rule_at, guarding_c}
 use Rattle.running.specs.declared.task.Guarding.{Guarding}
 use Rattle.running.specs.declared.task.Task.{Task}
@@ -17,8 +17,7 @@ use Rattle.split.specs.Guarded.{rule_c}
 use Rattle.split.specs.Listed.{list_c}
 use Rattle.split.specs.Runs.{ran_ended}
 use Rattle.split.specs.Trees.{start_c, meant, Ran}
-use Rattle.split.specs.declared.list.Counted.{Counted}
-use Rattle.steps.specs.Steps.{asks_c}
+use Rattle.steps.specs.Steps.{asks_c, guard_of_c}
 use Rattle.steps.specs.Taken.{changed_b, changed_zone, start_task}
 use Rattle.steps.specs.declared.step.Step.{Step}
 use Rattle.zones.specs.Hinted.{Hinted}
@@ -93,7 +92,7 @@ module _ (cs : List Cell) (p w : ℕ) (st : Step) (n : ℕ) (h : Hint) where
 
     -- ---- a guard: the matrix is copied, and the part run where it stands
     module _ (asks : asks_c st ≡ true) (c₁ c₂ : List Cell) (e₁ : c₁ ≡ set cs 89 (get_or cs p no_cell)) (g : Guarding)
-        (hg : g ≡ guarding_c w st.guard) (t : Task) (h₂ : Hint)
+        (hg : g ≡ guarding_c w (guard_of_c st)) (t : Task) (h₂ : Hint)
         (ran : (b : Ranges) → Hinted b (zone_of n (get_or c₁ p no_cell)) h
         → Ran b (rule_at c₁ 89 g) (part_at c₁ p n start_task) (part_at c₂ p n t))
         (same : c₂ ≡ set c₁ p (with_matrix (get_or c₁ p no_cell) (get_or c₂ p no_cell).bounds))
@@ -129,13 +128,13 @@ module _ (cs : List Cell) (p w : ℕ) (st : Step) (n : ℕ) (h : Hint) where
       knows_here : (b : Ranges) → Hinted b (zone_of n (get_or cs p no_cell)) h → Hinted b (zone_of n (get_or cs p no_cell)) h₂
       knows_here b x = subst (λ (c : Cell). Hinted b (zone_of n c) h₂) first_here (knows b (at_first b h x))
 
-      rule_is : rule_at c₁ 89 g ≡ rule_c w st.guard (zone_of n (get_or cs p no_cell))
-      rule_is = ap (λ (y : Guarding). rule_at c₁ 89 y) hg ∙ ap (λ (c : Cell). rule_c w st.guard (zone_of n c)) first_copy
+      rule_is : rule_at c₁ 89 g ≡ rule_c w (guard_of_c st) (zone_of n (get_or cs p no_cell))
+      rule_is = ap (λ (y : Guarding). rule_at c₁ 89 y) hg ∙ ap (λ (c : Cell). rule_c w (guard_of_c st) (zone_of n c)) first_copy
 
       part_is : part_at c₁ p n start_task ≡ start_c (zone_of n (get_or cs p no_cell))
       part_is = ap (λ (c : Cell). start_c (zone_of n c)) first_here
 
-      leaves : t.halt ≡ 2 → (b : Ranges) → Hinted b (zone_of n (get_or cs p no_cell)) h
+      leaves : is_kept t.halt ≡ true → (b : Ranges) → Hinted b (zone_of n (get_or cs p no_cell)) h
           → Leaves b w st (zone_of n (get_or cs p no_cell)) (zone_of n (get_or c₂ p no_cell))
       leaves halts b x =
           record {
@@ -144,7 +143,7 @@ module _ (cs : List Cell) (p w : ℕ) (st : Step) (n : ℕ) (h : Hint) where
                 ap (λ (y : Part). meant b rule y out) (is_start b w st asks zone ∙ sym part_is)
                 ∙ ap (λ (y : Rule). meant b y (part_at c₁ p n start_task) out) (sym rule_is)
                 ∙ ran_ended b (rule_at c₁ 89 g) (part_at c₁ p n start_task) (part_at c₂ p n t) (ran b (at_first b h x)) out
-                (λ e. absurd (omega arith))
+                (kept_splits_not t.halt halts)
                 ∙ ended_kept (part_at c₂ p n t) out halts;
           }
         where
@@ -152,9 +151,9 @@ module _ (cs : List Cell) (p w : ℕ) (st : Step) (n : ℕ) (h : Hint) where
           zone = zone_of n (get_or cs p no_cell)
 
           rule : Rule
-          rule = rule_c w st.guard zone
+          rule = rule_c w (guard_of_c st) zone
 
-      pub stays_left : t.halt ≡ 2 → Stays cs c₂ p w st n h (record { kept = true; hint = h₂ })
+      pub stays_left : is_kept t.halt ≡ true → Stays cs c₂ p w st n h (record { kept = true; hint = h₂ })
       stays_left halts =
           record {
             others = then_far;

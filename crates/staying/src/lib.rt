@@ -7,11 +7,13 @@ ghost use Rattle.steps.specs.Steps.{asks_c};
 ghost use Rattle.zones.specs.Hinted.{Trusted};
 ghost use Rattle.staying.specs.Stays.{Stays};
 
+use guards::Guard;
 use running::Task;
 use steps::Step;
 use zones::Hint;
 
-// Whether one zone is left, which stands where the zone stood, and what is known of it; if not, the zone is as it was.
+// Whether one zone is left, which stands where the zone stood, and what is known of it; if not, the zone is as it was. The hint is told in
+// both cases, so that `kept` is no Option: what a search has learnt counts for the zone that is put back too.
 #[derive(Clone, Copy)]
 pub struct Stood {
     pub kept: bool,
@@ -24,14 +26,15 @@ fn guarded(
     marks: &mut [u8],
     p: usize,
     clocks: usize,
-    step: Step,
+    guard: Guard,
     n: usize,
     hint: Hint,
 ) -> Stood
-    requires cells_len { (length cells.old ≡ 22500) × ((length marks.old ≡ 2250) × ((p < 64) × ((n ≤ 24) × (asks_c step ≡ true)))) }
+    requires cells_len { (length cells.old ≡ 22500) × ((length marks.old ≡ 2250) × ((p < 64)
+        × ((n ≤ 24) × (asks_c (Step.Guard guard) ≡ true)))) }
     requires known { Trusted (zone_of n (get_or (cells_in cells.old marks.old) p no_cell)) hint }
     ensures { Stays (cells_in cells.old marks.old) (cells_in cells.new marks.new) p clocks
-        step n hint result }
+        (Step.Guard guard) n hint result }
 {
     cells::copy(cells, marks, p, 89);
     let stop = running::run(
@@ -41,12 +44,12 @@ fn guarded(
         89,
         n,
         hint,
-        running::of_guard(clocks, step.guard),
+        running::of_guard(clocks, guard),
         Task::START,
     );
     let hint = stop.hint;
     let task = stop.task;
-    if task.halt == 2 {
+    if task.halt.is_kept() {
         return Stood { kept: true, hint };
     }
     cells::copy(cells, marks, 89, p);
@@ -71,11 +74,11 @@ pub fn stay(
     ensures so { here ≡ false → result.kept ≡ false }
 {
     if here {
-        if steps::asks(step) {
+        if let Some(guard) = steps::asked(step) {
             if idle::idle(hint, step, cells, marks, p) {
                 return Stood { kept: true, hint };
             }
-            return guarded(cells, marks, p, clocks, step, n, hint);
+            return guarded(cells, marks, p, clocks, guard, n, hint);
         }
         steps::changed(cells, marks, p, clocks, step);
         return Stood { kept: true, hint };

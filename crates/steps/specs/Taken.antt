@@ -1,31 +1,35 @@
 -- A zone that is taken up, in cells: what a step makes of it before its tests.
-use Rattle.std.specs.Prelude.{◌≡◌, refl, Bool, true, false, cond, List, ℕ, ◌<◌, ltb, eqb, length, get_or, set}
-use Rattle.std.proofs.Common.{◌∙◌, arith, eqb-true}
+use Rattle.std.specs.Prelude.{◌≡◌, refl, Bool, true, false, cond, List, ℕ, ◌<◌, length, get_or, set}
+use Rattle.std.proofs.Common.{◌∙◌, arith}
 use Rattle.std.proofs.Math.Path.{ap}
 use Rattle.std.proofs.Math.ListN.{length-set}
 use Rattle.std.proofs.Math.Seq.{get_or-set_same, get_or-set_other}
 use Rattle.cells.specs.Cells.{Cell, no_cell, with_matrix, on_matrix, zone_of}
-use Rattle.delay.specs.Delayed.{delayed_b, resets_b, delayed_zone, resets_zone}
+use Rattle.delay.specs.Delayed.{delayed_b, resets_b}
 use Rattle.expr.specs.Records.{zero_expr}
 use Rattle.expr.specs.declared.bound.Bound.{Bound}
 use Rattle.integer.specs.Apart.{apart}
+use Rattle.parts.specs.declared.part.Halt.TheVariants as stops
 use Rattle.running.specs.Tasks.{part_with}
 use Rattle.running.specs.declared.task.Task.{Task}
 use Rattle.split.specs.Trees.{start_c}
 use Rattle.steps.specs.Steps.{changed_c, kept_c, asks_c, part_c}
 use Rattle.steps.specs.declared.step.Step.{Step}
+use Rattle.steps.specs.declared.step.Step.TheVariants as step
 use Rattle.zones.specs.declared.zone.Zone.{Zone}
 
 -- a matrix after a wait or resets
 unfoldable pub changed_b : Step → ℕ → List Bound → List Bound
-changed_b st w m = cond (ltb st.kind 1) (delayed_b w m) (cond (ltb st.kind 2) m (resets_b w st.bits m))
+changed_b step.Delay w m = delayed_b w m
+changed_b (step.Guard g) w m = m
+changed_b (step.Resets bits visit) w m = resets_b w bits m
 
 -- before the first test, or kept
 abbrev pub start_task : Task
-start_task = record { phase = 0; halt = 0; tests = 0; test = zero_expr }
+start_task = record { phase = 0; halt = stops.No; tests = 0; test = zero_expr }
 
 abbrev pub kept_task : Task
-kept_task = record { phase = 27; halt = 2; tests = 0; test = zero_expr }
+kept_task = record { phase = 27; halt = stops.Kept; tests = 0; test = zero_expr }
 
 abbrev pub task_c : Step → Task
 task_c st = cond (asks_c st) start_task kept_task
@@ -77,23 +81,15 @@ module _ (cs : List Cell) (p w : ℕ) (st : Step) (full : length cs ≡ 90) (few
 -- ---- the part that a step makes of a zone
 pub changed_zone : (st : Step) (w n : ℕ) (c : Cell) → zone_of n (with_matrix c (changed_b st w c.bounds)) ≡ changed_c st w (zone_of n c)
 unfolding changed_b changed_c
-changed_zone st w n c = by (ltb st.kind 1) (ltb st.kind 2)
-  where
-    by : (s t : Bool)
-        → zone_of n (with_matrix c (cond s (delayed_b w c.bounds) (cond t c.bounds (resets_b w st.bits c.bounds))))
-        ≡ cond s (delayed_zone w (zone_of n c)) (cond t (zone_of n c) (resets_zone w st.bits (zone_of n c)))
-    by true t = refl
-    by false true = refl
-    by false false = refl
+changed_zone step.Delay w n c = refl
+changed_zone (step.Guard g) w n c = refl
+changed_zone (step.Resets bits visit) w n c = refl
 
 asks_leaves : (st : Step) (w : ℕ) (z : Zone) → asks_c st ≡ true → changed_c st w z ≡ z
 unfolding asks_c changed_c
-asks_leaves st w z h = by (eqb st.kind 1) refl (cond (ltb st.guard.left 5) (ltb st.guard.right 5) false) h
-  where
-    by : (t : Bool) → eqb st.kind 1 ≡ t → (u : Bool) → cond t u false ≡ true
-        → cond (ltb st.kind 1) (delayed_zone w z) (cond (ltb st.kind 2) z (resets_zone w st.bits z)) ≡ z
-    by true e u k = let one : st.kind ≡ 1 = eqb-true st.kind 1 e in rw one refl
-    by false e u k = apart cc
+asks_leaves step.Delay w z h = apart cc
+asks_leaves (step.Guard g) w z h = refl
+asks_leaves (step.Resets bits visit) w z h = apart cc
 
 pub taken_part : (st : Step) (w n : ℕ) (c : Cell)
     → part_with (task_c st) (zone_of n (with_matrix c (changed_b st w c.bounds))) ≡ part_c st w (zone_of n c)

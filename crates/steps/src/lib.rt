@@ -4,4 +4,4 @@
 
 mod step;
 
-pub use step::{Step, Steps, asks, changed, taken, with_guards, with_step};
+pub use step::{Step, Steps, asked, changed, taken, with_guards, with_step};

@@ -1,19 +1,18 @@
 // A step, lists of steps, and what a step makes of one zone before its tests.
 ghost use Rattle.std.specs.Prelude.{◌≡◌, ◌<◌, length, take};
 ghost use Rattle.cells.specs.Cells.{cells_in, on_matrix};
-ghost use Rattle.steps.specs.Steps.{asks_c, with_step_c, with_guards_c};
+ghost use Rattle.steps.specs.Steps.{asked_c, with_step_c, with_guards_c};
 ghost use Rattle.steps.specs.Taken.{changed_b, task_c, taken_c};
 
 use guards::Guard;
 use running::Task;
 
-// A step: a wait (0), a guard (1), or the resets of a transition (2), with which its move is made: the visit is then the one given.
+// A step: a wait, a guard, or the resets of a transition, with which its move is made: the visit is then the one given.
 #[derive(Clone, Copy)]
-pub struct Step {
-    pub kind: usize,
-    pub bits: u8,
-    pub visit: usize,
-    pub guard: Guard,
+pub enum Step {
+    Delay,
+    Guard(Guard),
+    Resets { bits: u8, visit: usize },
 }
 
 // Steps in order, the first `count` of the list; what lies past them does not matter.
@@ -23,25 +22,16 @@ pub struct Steps {
     pub list: [Step; 20],
 }
 
-impl Step {
-    // A wait.
-    pub const DELAY: Step = Step {
-        kind: 0,
-        bits: 0,
-        visit: 0,
-        guard: Guard::BLANK,
-    };
-}
-
 impl Steps {
     // No steps.
     pub const NONE: Steps = Steps {
         count: 0,
-        list: [Step::DELAY; 20],
+        list: [Step::Delay; 20],
     };
 }
 
 // The steps and one more; a list of 20 stays as it is.
+#[tactic(auto, unfolding(crate::specs::Steps::with_step_c))]
 pub fn with_step(steps: Steps, step: Step) -> Steps
     ensures { result ≡ with_step_c steps step }
 {
@@ -59,54 +49,42 @@ pub fn with_step(steps: Steps, step: Step) -> Steps
 pub fn with_guards(steps: Steps, count: usize, guards: [Guard; 6]) -> Steps
     ensures { result ≡ with_guards_c steps (take count guards) }
 {
-    let n = numbers::at_most(count, 6);
+    let n = count.min(6);
     let mut more = steps;
-    let mut i = 0;
-    while i < n {
+    for guard in &guards[..n] {
         let at = more.count;
         if 20 <= at {
             return more;
         }
-        let guard = guards[i];
-        more.list[at] = Step {
-            kind: 1,
-            bits: 0,
-            visit: 0,
-            guard,
-        };
+        more.list[at] = Step::Guard(*guard);
         more.count = at + 1;
-        i += 1;
     }
     more
 }
 
 // Makes the matrix at place p that after a wait or resets; a guard is put to it later.
+#[tactic(auto, unfolding(crate::specs::Taken::changed_b))]
 pub fn changed(cells: &mut [i32], marks: &mut [u8], p: usize, clocks: usize, step: Step)
     requires { (length cells.old ≡ 22500) × ((length marks.old ≡ 2250) × (p < 90)) }
     ensures { cells_in cells.new marks.new
         ≡ on_matrix (cells_in cells.old marks.old) p (changed_b step clocks) }
 {
-    if step.kind < 1 {
-        delay::delayed(cells, marks, p, clocks);
-        return;
+    match step {
+        Step::Delay => delay::delayed(cells, marks, p, clocks),
+        Step::Guard(_) => {}
+        Step::Resets { bits, .. } => delay::resets(cells, marks, p, clocks, bits),
     }
-    if step.kind < 2 {
-        return;
-    }
-    delay::resets(cells, marks, p, clocks, step.bits);
 }
 
-// Whether a step is a guard of clocks that there can be.
-pub fn asks(step: Step) -> bool
-    ensures { result ≡ asks_c step }
+// The guard of a step, if it is a guard of clocks that there can be.
+#[tactic(auto, unfolding(crate::specs::Steps::asks_c))]
+pub fn asked(step: Step) -> Option<Guard>
+    ensures { result ≡ asked_c step }
 {
-    let guard = step.guard;
-    if step.kind == 1 {
-        if guard.left < 5 {
-            return guard.right < 5;
-        }
+    match step {
+        Step::Guard(guard) if guard.left < 5 && guard.right < 5 => Some(guard),
+        _ => None,
     }
-    false
 }
 
 // What a step makes of a zone, but for its numbers: for a guard the part before the first test, else one that is kept. A guard without
@@ -114,14 +92,14 @@ pub fn asks(step: Step) -> bool
 fn task_of(step: Step) -> Task
     ensures { result ≡ task_c step }
 {
-    if asks(step) {
-        return Task::START;
+    match asked(step) {
+        Some(_) => Task::START,
+        None => Task::KEPT,
     }
-    Task::KEPT
 }
 
-// Takes the zone at place p up: it is copied to place 89, where a guard finds its matrix, and to place 64, where it becomes the part that a
-// step makes of it.
+// Takes the zone at place p up: it is copied to place 89, where a guard finds its matrix, and to place 64, where it becomes the part that
+// a step makes of it.
 pub fn taken(cells: &mut [i32], marks: &mut [u8], p: usize, clocks: usize, step: Step) -> Task
     requires { (length cells.old ≡ 22500) × ((length marks.old ≡ 2250) × (p < 64)) }
     ensures value { result ≡ task_c step }

@@ -17,6 +17,7 @@ pub fn read_full<R: Read>(input: &mut R, buf: &mut [u8]) -> io::Result<usize>
     ensures none_lost { OnErr result ((n : ℕ) × (n ≤ length buf.new)
         × Consumes (R.remaining input.old) (R.remaining input.new) (take n buf.new)) }
 {
+    // By `read`: std's `read_exact` says little of the bytes that it read where it fails.
     let mut done = 0;
     while done < buf.len() {
         let n = input.read(&mut buf[done..])?;
@@ -33,17 +34,14 @@ pub fn two_bytes(low: u8, high: u8) -> usize
     ensures value { result ≡ low + 256 * high }
     ensures upper_bound { result < 65536 }
 {
-    (low as usize) + 256 * (high as usize)
+    usize::from(u16::from_le_bytes([low, high]))
 }
 
 // The number without its sign.
 pub fn magnitude(x: i64) -> u64
     ensures { result ≡ nat_abs x }
 {
-    if x < 0 {
-        return ((-1 - x) as u64) + 1;
-    }
-    x as u64
+    x.unsigned_abs()
 }
 
 // The digest with one more number.

@@ -8,55 +8,32 @@ use native.Mathlib.Numerals.{add-one}
 use Prim.Native.Nat.{ℕ, suc, ◌+◌, ◌-◌, ◌≤◌, ◌<◌}
 use lib.IntN.{ℤ, pos}
 use lib.ListN.{get_or, set}
-use lib.Signed.{le_z}
 use borrow.Author.Tests.{not-true, not-false}
-use mir.Syntax.{w16, w64}
+use mir.Syntax.{w64}
 use mir.Val.{SFits, to_z, of_z}
 use mir.ValLaws.{to_z-of_z}
 use Rattle.integer.specs.Apart.{apart}
-use Rattle.integer.specs.Bools.{and_left, and_right}
 use Rattle.expr.specs.declared.range.Range.{Range}
-use Rattle.answers.specs.Numbers.{numbered, checked_as, refusal_as}
-use Rattle.answers.specs.declared.file.Checked.{Checked}
-use Rattle.answers.specs.declared.file.Checked.TheVariants as checked
+use Rattle.std.specs.declared.result.Result.{Result}
+use Rattle.std.specs.declared.result.Result.TheVariants.{Ok, Err}
+use Rattle.answers.specs.Numbers.{refusal_as, refused_as}
+use Rattle.answers.specs.declared.sweep.Refused.{Refused}
+use Rattle.answers.specs.declared.sweep.Refused.TheVariants.{Outside}
 use Rattle.answers.specs.declared.file.Refusal.{Refusal}
 use Rattle.answers.specs.declared.file.Refusal.TheVariants.{Size, Contents, Body, Valuations, Route}
-use Rattle.expr.specs.Records.{PARAMETERS, places_from, four, blank_range, range_list, point, zero_valuation}
+use Rattle.expr.specs.Records.{PARAMETERS, places_from, four, blank_range, range_list, point, valuation_of, zero_valuation}
 use Rattle.expr.specs.RecordLaws.{filled_to, filled_none, filled_next, filled_all}
 use Rattle.expr.specs.declared.number.Valuation.{Valuation}
-use Rattle.integer.specs.Split.{split, split-all}
 use Rattle.sheet.specs.declared.Sheet.{Sheet}
+use Rattle.index.specs.declared.Index.{Index}
 use Rattle.index.specs.SheetIn.{sheet_in}
-use Rattle.indexing.specs.declared.Indexing.{Indexing}
 use Rattle.reading.specs.File.{Read, read_of}
 use Rattle.indexing.specs.Indexed.{indexed_as}
 use Rattle.indexing.specs.IndexedLaws.{indexing_well_formed}
 use Rattle.sweep.specs.Faithful.{sheet_faithful}
-use Rattle.sweep.specs.Reply.{SweepReply, blank_reply, in_range, outside, or_outside, sheet_reply, read_reply, reply_of}
+use Rattle.sweep.specs.Reply.{blank_reply, in_range, outside, or_outside, sheet_reply, read_reply, reply_of}
 use Rattle.sweep.specs.TableReply.{placed_by, placed_of, swept_table, sheet_table}
 use Rattle.walk.specs.Walked.{sweep_table}
-use Rattle.sweep.specs.declared.reply.Placed.{Placed}
-
--- a number in a range fits as the range's ends do
-between : (a x b : ℤ) → le_z a x ≡ true → le_z x b ≡ true → SFits w16 a → SFits w16 b → SFits w16 x
-between a x b = rw (split a, split x, split b) (simp split-all (omega arith))
-
-pub in_range_fits : (range : Range) (x : ℤ) → in_range range x ≡ true → SFits w16 range.low → SFits w16 range.high → SFits w16 x
-in_range_fits range x h =
-    between range.low x range.high (and_left (le_z range.low x) (le_z x range.high) h)
-    (and_right (le_z range.low x) (le_z x range.high) h)
-
--- the tests of a range, at locals that hold its ends and the number
-pub range_yes : (range : Range) (x lb xb hb : ℤ) → lb ≡ range.low → xb ≡ x → hb ≡ range.high → le_z lb xb ≡ true
-    → le_z xb hb ≡ in_range range x
-range_yes range x lb xb hb el ex eh t =
-    let t' : le_z range.low x ≡ true = rw (← el, ← ex) t in
-    rw (eh, ex, t') refl
-
-pub range_no : (range : Range) (x lb xb : ℤ) → lb ≡ range.low → xb ≡ x → le_z lb xb ≡ false → false ≡ in_range range x
-range_no range x lb xb el ex t =
-    let t' : le_z range.low x ≡ false = rw (← el, ← ex) t in
-    rw t' refl
 
 -- what `in_range` said of a number that was passed as its bits, with the branch's test
 pub told_inside : (range : Range) (x : ℤ) (b : Bool) → SFits w64 x → b ≡ in_range range (to_z w64 (of_z w64 x)) → not b ≡ false
@@ -66,9 +43,6 @@ told_inside range x b f e h = rw (to_z-of_z w64 x f) at (sym e ∙ not-false b h
 pub told_outside : (range : Range) (x : ℤ) (b : Bool) → SFits w64 x → b ≡ in_range range (to_z w64 (of_z w64 x)) → not b ≡ true
     → in_range range x ≡ false
 told_outside range x b f e h = rw (to_z-of_z w64 x f) at (sym e ∙ not-true b h)
-
-pub bits_inside : (range : Range) (x : ℤ) → SFits w64 x → in_range range x ≡ true → in_range range (to_z w64 (of_z w64 x)) ≡ true
-bits_inside range x f h = rw (to_z-of_z w64 x f) h
 
 -- ---- the numbers one after another
 module _ (l : List Range) (xs : List ℤ) where
@@ -115,64 +89,63 @@ module _ (l : List Range) (xs : List ℤ) where
 
   pub placing_out : (i : ℕ) (v : Valuation) → i < PARAMETERS → Placing i v
       → in_range (get_or l i blank_range) (get_or xs i (pos 0)) ≡ false
-      → record { inside = false; index = i; valuation = zero_valuation } ≡ placed_of (places_from blank_range l 0 PARAMETERS) (four xs)
+      → ◌≡◌ {A = Result Valuation Refused} (Err (Outside i)) (placed_of (places_from blank_range l 0 PARAMETERS) (four xs))
   unfolding placed_of
   placing_out i v h g r =
       sym (ap (placed_by (four xs)) (g.rest ∙ ap (left i) (one_left i h) ∙ left_out i (PARAMETERS - suc i) r))
 
   pub placing_all : (i : ℕ) (v : Valuation) → (i < PARAMETERS → ⊥) → Placing i v
-      → record { inside = true; index = 0; valuation = v } ≡ placed_of (places_from blank_range l 0 PARAMETERS) (four xs)
+      → ◌≡◌ {A = Result Valuation Refused} (Ok v) (placed_of (places_from blank_range l 0 PARAMETERS) (four xs))
   unfolding placed_of
   placing_all i v h g =
       let k : PARAMETERS ≡ i = omega (arith, g.few) in
       let none_left : left 0 PARAMETERS ≡ none = g.rest ∙ ap (λ (j : ℕ). left j (PARAMETERS - j)) (sym k) ∙ left_none PARAMETERS in
-      ap (λ (n : List ℤ). record { inside = true; index = 0; valuation = record { numbers = n } })
+      ap (λ (n : List ℤ). Ok (record { numbers = n }))
       (g.filled ∙ filled_all (λ j. get_or xs j (pos 0)) i g.few h)
       ∙ sym (ap (placed_by (four xs)) none_left)
 
 -- ---- the reply for a sheet
-module _ (s : Sheet) (xs : List ℤ) (x : Placed) (e : x ≡ placed_of (range_list s.ranges) (four xs)) (reply : SweepReply) where
-  pub inside_reply : x.inside ≡ true → reply ≡ swept_table (sweep_table s (point x.valuation)) → reply ≡ sheet_table s (four xs)
+module _ (s : Sheet) (xs : List ℤ) where
+  pub inside_reply : (v : Valuation) → ◌≡◌ {A = Result Valuation Refused} (Ok v) (placed_of (range_list s.ranges) (four xs))
+      → swept_table (sweep_table s (point v)) ≡ sheet_table s (four xs)
   unfolding placed_of sheet_table
-  inside_reply = by (outside 0 (range_list s.ranges) (four xs)) e
+  inside_reply v = by (outside 0 (range_list s.ranges) (four xs))
     where
-      by : (o : Option ℕ) → x ≡ placed_by (four xs) o → x.inside ≡ true → reply ≡ swept_table (sweep_table s (point x.valuation))
-          → reply ≡ or_outside (swept_table (sweep_table s (four xs))) o
-      by none f h g = g ∙ ap (λ (y : Placed). swept_table (sweep_table s (point y.valuation))) f
-      by (some k) f h g = let q = sym h ∙ ap (λ (y : Placed). y.inside) f in apart cc
+      by : (o : Option ℕ) → ◌≡◌ {A = Result Valuation Refused} (Ok v) (placed_by (four xs) o)
+          → swept_table (sweep_table s (point v)) ≡ or_outside (swept_table (sweep_table s (four xs))) o
+      by none f = let g : v ≡ valuation_of (four xs) = cc in ap (λ (y : Valuation). swept_table (sweep_table s (point y))) g
+      by (some k) f = apart cc
 
-  pub outside_reply : x.inside ≡ false → reply ≡ blank_reply (numbered 6 x.index) → reply ≡ sheet_table s (four xs)
+  pub outside_reply : (r : Refused) → ◌≡◌ {A = Result Valuation Refused} (Err r) (placed_of (range_list s.ranges) (four xs))
+      → blank_reply (refused_as r) ≡ sheet_table s (four xs)
   unfolding placed_of sheet_table
-  outside_reply = by (outside 0 (range_list s.ranges) (four xs)) e
+  outside_reply r = by (outside 0 (range_list s.ranges) (four xs))
     where
-      by : (o : Option ℕ) → x ≡ placed_by (four xs) o → x.inside ≡ false → reply ≡ blank_reply (numbered 6 x.index)
-          → reply ≡ or_outside (swept_table (sweep_table s (four xs))) o
-      by none f h g = let q = sym h ∙ ap (λ (y : Placed). y.inside) f in apart cc
-      by (some k) f h g = g ∙ ap (λ (y : Placed). blank_reply (numbered 6 y.index)) f
+      by : (o : Option ℕ) → ◌≡◌ {A = Result Valuation Refused} (Err r) (placed_by (four xs) o)
+          → blank_reply (refused_as r) ≡ or_outside (swept_table (sweep_table s (four xs))) o
+      by none f = apart cc
+      by (some k) f = let g : r ≡ Outside k = cc in ap (λ (y : Refused). blank_reply (refused_as y)) g
 
 -- ---- the whole reply
-pub fine_reply : (file : List ℕ) (v : List ℤ) (reading : Indexing) → indexed_as file reading ≡ read_of file → reading.checked ≡ checked.Fine
-    → sheet_table (sheet_in file reading.index) v ≡ reply_of file v
+pub fine_reply : (file : List ℕ) (v : List ℤ) (ix : Index) → indexed_as file (Ok ix) ≡ read_of file
+    → sheet_table (sheet_in file ix) v ≡ reply_of file v
 unfolding reply_of read_reply
-fine_reply file v reading e h =
-    let k : (checked_as reading.checked).number ≡ 0 = rw h refl in
-    let sheet = sheet_in file reading.index in
-    sheet_faithful sheet (indexing_well_formed file reading e k) v
-    ∙ subst (λ (x : Read). sheet_reply sheet v ≡ read_reply x v) e (rw k refl)
+fine_reply file v ix e =
+    let sheet = sheet_in file ix in
+    sheet_faithful sheet (indexing_well_formed file ix e) v
+    ∙ subst (λ (x : Read). sheet_reply sheet v ≡ read_reply x v) e refl
 
-refused_as : (sheet : Sheet) (v : List ℤ) (r : Refusal)
-    → blank_reply (refusal_as r) ≡ read_reply (record { answer = refusal_as r; sheet = sheet }) v
+-- a refusal has a number
+refused_number : (file : List ℕ) (v : List ℤ) (r : Refusal) (x : Read) → indexed_as file (Err r) ≡ x
+    → blank_reply (refusal_as r) ≡ read_reply x v
 unfolding read_reply
-refused_as sheet v Size = refl
-refused_as sheet v (Contents at) = refl
-refused_as sheet v (Body at) = refl
-refused_as sheet v Valuations = refl
-refused_as sheet v (Route at) = refl
+refused_number file v Size x e = rw (← e) refl
+refused_number file v (Contents at) x e = rw (← e) refl
+refused_number file v (Body at) x e = rw (← e) refl
+refused_number file v Valuations x e = rw (← e) refl
+refused_number file v (Route at) x e = rw (← e) refl
 
-pub refused_reply_lem : (file : List ℕ) (v : List ℤ) (reading : Indexing) → indexed_as file reading ≡ read_of file → (r : Refusal)
-    → reading.checked ≡ checked.Refused r → blank_reply (refusal_as r) ≡ reply_of file v
+pub refused_reply_lem : (file : List ℕ) (v : List ℤ) (r : Refusal) → indexed_as file (Err r) ≡ read_of file
+    → blank_reply (refusal_as r) ≡ reply_of file v
 unfolding reply_of
-refused_reply_lem file v reading e r h =
-    let sheet = sheet_in file reading.index in
-    refused_as sheet v r
-    ∙ ap (λ (x : Read). read_reply x v) (sym (ap (λ (c : Checked). record { answer = checked_as c; sheet = sheet }) h) ∙ e)
+refused_reply_lem file v r e = refused_number file v r (read_of file) e

@@ -22,16 +22,15 @@ pub record SweepReply : Type 0 where
   pub answer : Numbered
   pub rows : List Row
 
--- the code's record of it
-abbrev pub reply_as : Reply → SweepReply
-reply_as r = record { answer = sweep_as r.answer; rows = r.rows }
-
 abbrev pub row_record : List Weight → Row
 row_record entries = record { entries = entries }
 
 -- five rows of zero, not strict
 abbrev pub zero_rows : List Row
 zero_rows = replicate 5 (row_record zero_row)
+
+abbrev pub reply_as : Reply → SweepReply
+reply_as r = record { answer = sweep_as r.answer; rows = r.rows }
 
 -- an answer without a matrix
 unfoldable pub blank_reply : Numbered → SweepReply

@@ -1,21 +1,25 @@
 -- What the code replies, with its matrix as a table.
-use Rattle.std.specs.Prelude.{List, [], ◌∷◌, true, false, cond, ℕ, ℤ}
+use Rattle.std.specs.Prelude.{List, [], ◌∷◌, cond, ℕ, ℤ}
 use Rattle.std.proofs.Math.Option.{Option, none, some}
+use Rattle.std.specs.declared.result.Result.{Result}
+use Rattle.std.specs.declared.result.Result.TheVariants.{Ok, Err}
 use Rattle.answers.specs.Numbers.{numbered}
-use Rattle.expr.specs.Records.{range_list, valuation_of, zero_valuation}
+use Rattle.answers.specs.declared.sweep.Refused.{Refused}
+use Rattle.answers.specs.declared.sweep.Refused.TheVariants.{Outside}
+use Rattle.expr.specs.Records.{range_list, valuation_of}
+use Rattle.expr.specs.declared.number.Valuation.{Valuation}
 use Rattle.expr.specs.declared.range.Range.{Range}
 use Rattle.sheet.specs.declared.Sheet.{Sheet}
 use Rattle.sweep.specs.Reply.{SweepReply, row_record, blank_reply, outside, or_outside}
 use Rattle.weight_matrix.specs.Tables.{Table, row_of, is_void}
 use Rattle.walk.specs.Walked.{sweep_table}
-use Rattle.sweep.specs.declared.reply.Placed.{Placed}
 
 -- a valuation in the ranges, or the first parameter outside
-abbrev pub placed_by : List ℤ → Option ℕ → Placed
-placed_by v none = record { inside = true; index = 0; valuation = valuation_of v }
-placed_by v (some k) = record { inside = false; index = k; valuation = zero_valuation }
+abbrev pub placed_by : List ℤ → Option ℕ → Result Valuation Refused
+placed_by v none = Ok (valuation_of v)
+placed_by v (some k) = Err (Outside k)
 
-unfoldable pub placed_of : List Range → List ℤ → Placed
+unfoldable pub placed_of : List Range → List ℤ → Result Valuation Refused
 placed_of rs v = placed_by v (outside 0 rs v)
 
 -- void, or the matrix

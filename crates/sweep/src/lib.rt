@@ -10,19 +10,15 @@ ghost use Rattle.std.specs.Prelude.{◌≡◌};
 ghost use Rattle.expr.specs.Records.{four};
 ghost use Rattle.sweep.specs.Reply.{reply_as, reply_of};
 
-use answers::file::Checked;
-use answers::sweep::Answer;
+use answers::sweep::Refused;
 pub use reply::{Numbers, Reply, Row};
 
 // What Sweep replies to a sheet file and a number for each parameter.
 pub fn sweep(file: &[u8], numbers: Numbers) -> Reply
     ensures { reply_as result ≡ reply_of file.now (four numbers.list) }
 {
-    let reading = indexing::indexed(file);
-    let checked = reading.checked;
-    let ix = reading.index;
-    match checked {
-        Checked::Fine => reply::reply_for(file, ix, numbers),
-        Checked::Refused(refusal) => reply::blank(Answer::Refused(refusal)),
+    match indexing::indexed(file) {
+        Ok(ix) => reply::reply_for(file, ix, numbers),
+        Err(refusal) => reply::blank(Err(Refused::File(refusal))),
     }
 }

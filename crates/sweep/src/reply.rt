@@ -1,12 +1,12 @@
 // What Sweep replies for the sheet of an index and a number for each parameter.
-ghost use Rattle.std.specs.Prelude.{◌≡◌, ◌<◌, true};
-ghost use Rattle.answers.specs.Numbers.{sweep_as};
+ghost use Rattle.std.specs.Prelude.{◌≡◌, true};
 ghost use Rattle.expr.specs.Records.{four, range_list};
 ghost use Rattle.index.specs.SheetIn.{sheet_in};
+ghost use Rattle.answers.specs.Numbers.{sweep_as};
 ghost use Rattle.sweep.specs.Reply.{reply_as, blank_reply, in_range};
 ghost use Rattle.sweep.specs.TableReply.{placed_of, swept_table, sheet_table};
 
-use answers::sweep::Answer;
+use answers::sweep::{Found, Refused};
 use expr::{PARAMETERS, Range, Ranges, Valuation};
 use index::Index;
 use weight::Weight;
@@ -17,10 +17,11 @@ pub struct Row {
     pub entries: [Weight; 5],
 }
 
-// The answer, and with a run the matrix of tightest bounds; else every entry is zero, not strict.
+// The answer, and with a run the matrix of tightest bounds. The matrix is no part of the answer: with a refusal or void every entry of it is
+// zero, not strict (paper 01).
 #[derive(Clone, Copy)]
 pub struct Reply {
-    pub answer: Answer,
+    pub answer: Result<Found, Refused>,
     pub rows: [Row; 5],
 }
 
@@ -30,16 +31,8 @@ pub struct Numbers {
     pub list: [i64; PARAMETERS],
 }
 
-// Numbers that lie in the ranges, as a valuation, with index 0; or the index of the first one outside its range, with zeros.
-#[derive(Clone, Copy)]
-pub(crate) struct Placed {
-    pub inside: bool,
-    pub index: usize,
-    pub valuation: Valuation,
-}
-
 // An answer without a matrix.
-pub(crate) fn blank(answer: Answer) -> Reply
+pub(crate) fn blank(answer: Result<Found, Refused>) -> Reply
     ensures { reply_as result ≡ blank_reply (sweep_as answer) }
 {
     let row = Row {
@@ -56,10 +49,11 @@ fn swept(m: [[Weight; 5]; 5]) -> Reply
     ensures { reply_as result ≡ swept_table m }
 {
     if weight_matrix::is_void(m) {
-        return blank(Answer::Void);
+        return blank(Ok(Found::Void));
     }
+    // Row by row, as the definition has them: `map` says of its items only that the closure gave each.
     Reply {
-        answer: Answer::Run,
+        answer: Ok(Found::Run),
         rows: [
             Row { entries: m[0] },
             Row { entries: m[1] },
@@ -74,10 +68,7 @@ fn swept(m: [[Weight; 5]; 5]) -> Reply
 fn in_range(range: Range, x: i64) -> bool
     ensures { result ≡ in_range range x }
 {
-    if numbers::wide16(range.low) <= x {
-        return x <= numbers::wide16(range.high);
-    }
-    false
+    i64::from(range.low) <= x && x <= i64::from(range.high)
 }
 
 // x, which lies in the range, as a parameter's value.
@@ -88,40 +79,28 @@ fn value_in(range: Range, x: i64) -> i16
     x as i16
 }
 
-// Where numbers stand.
-fn in_ranges(b: Ranges, numbers: Numbers) -> Placed
+// Numbers that lie in the ranges, as a valuation; or the index of the first one outside its range.
+fn in_ranges(b: Ranges, numbers: Numbers) -> Result<Valuation, Refused>
     ensures { result ≡ placed_of (range_list b) (four numbers.list) }
 {
     let mut v = Valuation::ZERO;
-    let mut i = 0;
-    while i < PARAMETERS {
+    for i in 0..PARAMETERS {
         let range = b.list[i];
         let x = numbers.list[i];
         if !in_range(range, x) {
-            return Placed {
-                inside: false,
-                index: i,
-                valuation: Valuation::ZERO,
-            };
+            return Err(Refused::Outside(i));
         }
         v.numbers[i] = value_in(range, x);
-        i += 1;
     }
-    Placed {
-        inside: true,
-        index: 0,
-        valuation: v,
-    }
+    Ok(v)
 }
 
 // The reply for the sheet of an index: refusal 6, or the sweep.
 pub(crate) fn reply_for(file: &[u8], ix: Index, numbers: Numbers) -> Reply
     ensures { reply_as result ≡ sheet_table (sheet_in file.now ix) (four numbers.list) }
 {
-    let ranges = ix.ranges;
-    let placed = in_ranges(ranges, numbers);
-    if placed.inside {
-        return swept(walk::walk(file, ix, placed.valuation));
+    match in_ranges(ix.ranges, numbers) {
+        Ok(valuation) => swept(walk::walk(file, ix, valuation)),
+        Err(refused) => blank(Err(refused)),
     }
-    blank(Answer::Outside(placed.index))
 }

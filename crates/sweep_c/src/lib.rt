@@ -23,7 +23,5 @@ pub extern "C" fn sweep_sheet(sheet: &[u8], p1: i64, p2: i64, p3: i64, p4: i64) 
         list: [p1, p2, p3, p4],
     };
     let reply = sweep::sweep(sheet, numbers);
-    let answer = reply.answer;
-    let numbered = answers::sweep::numbered(answer);
-    signed(numbered.number)
+    signed(answers::sweep::numbered(reply.answer).number)
 }

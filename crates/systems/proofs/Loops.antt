@@ -40,8 +40,3 @@ module _ (l : List ℤ) (n k : ℕ) (v : List ℤ) (x : ℤ) (w : Bool) where
       let e : n - k ≡ 0 = omega arith in
       let t : satisfies (exprs_from l k (n - k)) v ≡ true = rw e refl in
       sym t ∙ q
-
-pub meet_start : (l : List ℤ) (n : ℕ) (v : List ℤ) → satisfies (exprs_from l 0 (n - 0)) v ≡ satisfies (exprs_from l 0 n) v
-meet_start l n v =
-    let e : n - 0 ≡ n = omega arith in
-    rw e refl

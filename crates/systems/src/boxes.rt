@@ -1,5 +1,5 @@
 // What inequalities leave of a box of ranges, and whether a valuation meets them.
-ghost use Rattle.std.specs.Prelude.{◌≡◌, ◌≤◌};
+ghost use Rattle.std.specs.Prelude.{◌≡◌, ◌<◌, ◌≤◌, IfSome};
 ghost use Rattle.inequalities.specs.Flat.{exprs_in};
 ghost use Rattle.valuations.specs.Valuations.{satisfies};
 ghost use Rattle.systems.specs.Boxes.{Narrows};
@@ -10,12 +10,10 @@ use expr::{Ranges, Valuation};
 pub fn meets(v: Valuation, flat: &[i32], n: usize) -> bool
     ensures { result ≡ satisfies (exprs_in flat.now n) v.numbers }
 {
-    let mut k = 0;
-    while k < n {
+    for k in 0..n {
         if inequalities::value_at(v, inequalities::inequality(flat, k)) < 0 {
             return false;
         }
-        k += 1;
     }
     true
 }
@@ -26,9 +24,7 @@ pub fn narrowed(b: Ranges, flat: &[i32], n: usize) -> Ranges
     ensures { Narrows (exprs_in flat.now n) b.list result.list }
 {
     let mut c = b;
-    let mut k = numbers::at_most(n, flat.len());
-    while 0 < k {
-        k -= 1;
+    for k in (0..n.min(flat.len())).rev() {
         c = narrowing::cut(c, inequalities::inequality(flat, k));
         let r = c.list[0];
         if r.high < r.low {
@@ -38,19 +34,11 @@ pub fn narrowed(b: Ranges, flat: &[i32], n: usize) -> Ranges
     c
 }
 
-// The first of n inequalities, from `start` on, that fails at v; n if none does, or `start` where that is more.
-fn failing(v: Valuation, flat: &[i32], n: usize, start: usize) -> usize
-    ensures { start ≤ result }
+// The first of n inequalities, from `start` on, that fails at v.
+fn failing(v: Valuation, flat: &[i32], n: usize, start: usize) -> Option<usize>
+    ensures { IfSome result (λ k. (start ≤ k) × (k < n)) }
 {
-    let mut k = start;
-    while k < n {
-        let e = inequalities::inequality(flat, k);
-        if inequalities::value_at(v, e) < 0 {
-            return k;
-        }
-        k += 1;
-    }
-    k
+    (start..n).find(|k| inequalities::value_at(v, inequalities::inequality(flat, *k)) < 0)
 }
 
 // What the first n inequalities leave of the box where only those cut it, from below, that fail at its lowest corner, the first being
@@ -60,11 +48,8 @@ pub fn trimmed(b: Ranges, flat: &[i32], n: usize) -> Ranges
 {
     let mut c = b;
     let mut k = 0;
-    while k < n {
-        let j = failing(corners::corner(c), flat, n, k);
-        if n <= j {
-            return c;
-        }
+    // No `for`: the next one that fails is sought in the box that this one has cut.
+    while let Some(j) = failing(corners::corner(c), flat, n, k) {
         c = narrowing::raise(c, inequalities::inequality(flat, j));
         let r = c.list[0];
         if r.high < r.low {

@@ -10,13 +10,12 @@ pub fn opposed(flat: &[i32], n: usize, start: usize) -> bool
     if 0 < start {
         return false;
     }
-    let last = inequalities::inequality(flat, numbers::less(n, 1));
-    let mut k = 1;
-    while k < n {
-        if opposites::apart(inequalities::inequality(flat, k - 1), last) {
+    let earlier = n.saturating_sub(1);
+    let last = inequalities::inequality(flat, earlier);
+    for k in 0..earlier {
+        if opposites::apart(inequalities::inequality(flat, k), last) {
             return true;
         }
-        k += 1;
     }
     false
 }

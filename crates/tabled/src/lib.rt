@@ -4,13 +4,13 @@
 ghost use Rattle.std.specs.Prelude.{◌≡◌, ◌≤◌, min};
 ghost use Rattle.tabled.specs.On.{tabled_as, windows_on};
 
-use answers::windows::Answer;
+use answers::windows::{Counts, Refused};
 use windows::Piece;
 
 // What Windows answers, and the table after it.
 #[derive(Clone, Copy)]
 pub struct Reply {
-    pub answer: Answer,
+    pub answer: Result<Counts, Refused>,
     pub table: [Piece; 40],
 }
 
@@ -31,5 +31,5 @@ fn on_first(file: &[u8], table: [Piece; 40], n: usize) -> Reply
 pub fn windows(file: &[u8], table: [Piece; 40], n: usize) -> Reply
     ensures { tabled_as result ≡ windows_on file.now table (min n 40) }
 {
-    on_first(file, table, numbers::at_most(n, 40))
+    on_first(file, table, n.min(40))
 }

@@ -15,11 +15,9 @@ use weight::Weight;
 fn expr_at(e: Expr, v: Valuation) -> i64
     ensures { result ≡ value (affine e) (point v) }
 {
-    let mut sum = numbers::wide(e.constant);
-    let mut i = 0;
-    while i < PARAMETERS {
+    let mut sum = i64::from(e.constant);
+    for i in 0..PARAMETERS {
         sum += product(e.coefs[i], v.numbers[i]);
-        i += 1;
     }
     sum
 }

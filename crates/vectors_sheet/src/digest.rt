@@ -6,7 +6,6 @@
 use automaton::{Location, Transition};
 use expr::{Expr, Range, Ranges};
 use guards::Guard;
-use numbers::{wide, wide16};
 use sheet::Sheet;
 use stored::{magnitude, with_number};
 
@@ -17,7 +16,7 @@ fn with_count(h: u64, x: usize) -> u64 {
 
 // The digest with a byte.
 fn with_byte(h: u64, x: u8) -> u64 {
-    with_number(h, (x as u64) + 2147483648)
+    with_number(h, u64::from(x) + 2147483648)
 }
 
 // The digest with a number that may be negative: modulo 1000000007, less by n is more by 1000000007 - n.
@@ -31,11 +30,12 @@ fn with_signed(h: u64, x: i64) -> u64 {
 
 // The digest with an expression: its constant and its coefficients.
 fn with_expr(h: u64, expr: Expr) -> u64 {
-    let constant = with_signed(h, wide(expr.constant));
-    let p = with_signed(constant, wide(expr.coefs[0]));
-    let q = with_signed(p, wide(expr.coefs[1]));
-    let r = with_signed(q, wide(expr.coefs[2]));
-    with_signed(r, wide(expr.coefs[3]))
+    let coefs = expr.coefs;
+    let mut mix = with_signed(h, i64::from(expr.constant));
+    for coef in coefs {
+        mix = with_signed(mix, i64::from(coef));
+    }
+    mix
 }
 
 // The relation of a bound: 0 at most, 1 below; 2 if there is none, which no guard has.
@@ -61,24 +61,26 @@ fn with_guard(h: u64, guard: Guard) -> u64 {
 // The digest with a count of guards and all six places.
 fn with_guards(h: u64, count: usize, guards: [Guard; 6]) -> u64 {
     let mut mix = with_count(h, count);
-    for i in 0..6 {
-        mix = with_guard(mix, guards[i]);
+    for guard in guards {
+        mix = with_guard(mix, guard);
     }
     mix
 }
 
 // The digest with a range.
 fn with_range(h: u64, range: Range) -> u64 {
-    let low = with_signed(h, wide16(range.low));
-    with_signed(low, wide16(range.high))
+    let low = with_signed(h, i64::from(range.low));
+    with_signed(low, i64::from(range.high))
 }
 
 // The digest with the four ranges.
 fn with_ranges(h: u64, ranges: Ranges) -> u64 {
-    let p = with_range(h, ranges.list[0]);
-    let q = with_range(p, ranges.list[1]);
-    let r = with_range(q, ranges.list[2]);
-    with_range(r, ranges.list[3])
+    let list = ranges.list;
+    let mut mix = h;
+    for range in list {
+        mix = with_range(mix, range);
+    }
+    mix
 }
 
 // The digest with a location.
@@ -90,8 +92,8 @@ fn with_location(h: u64, location: Location) -> u64 {
 // The digest with the locations.
 fn with_locations(h: u64, list: [Location; 16]) -> u64 {
     let mut mix = h;
-    for i in 0..16 {
-        mix = with_location(mix, list[i]);
+    for location in list {
+        mix = with_location(mix, location);
     }
     mix
 }
@@ -108,8 +110,8 @@ fn with_transition(h: u64, transition: Transition) -> u64 {
 // The digest with the transitions.
 fn with_transitions(h: u64, list: [Transition; 32]) -> u64 {
     let mut mix = h;
-    for i in 0..32 {
-        mix = with_transition(mix, list[i]);
+    for transition in list {
+        mix = with_transition(mix, transition);
     }
     mix
 }
@@ -117,8 +119,8 @@ fn with_transitions(h: u64, list: [Transition; 32]) -> u64 {
 // The digest with the route.
 fn with_route(h: u64, list: [u8; 32]) -> u64 {
     let mut mix = h;
-    for i in 0..32 {
-        mix = with_byte(mix, list[i]);
+    for byte in list {
+        mix = with_byte(mix, byte);
     }
     mix
 }
@@ -140,15 +142,13 @@ pub(crate) fn digest(sheet: Sheet) -> u64 {
 // The digest with a part of a file: its length and its bytes.
 fn with_part(h: u64, part: &[u8]) -> u64 {
     let mut mix = with_count(h, part.len());
-    let mut i = 0;
-    while i < part.len() {
-        mix = with_byte(mix, part[i]);
-        i += 1;
+    for byte in part {
+        mix = with_byte(mix, *byte);
     }
     mix
 }
 
-// The digest with the body of a kind: why it is refused, and its part.
+// The digest with the body of a kind, one that is refused too: why it is, and its part.
 fn with_body(h: u64, file: &[u8], kind: u8) -> u64 {
     let refusal = answers::file::numbered(body::body_refusal(file, kind));
     let number = with_count(h, refusal.number);

@@ -7,43 +7,27 @@
 
 mod digest;
 
-use reading::Reading;
+use answers::Numbered;
+use answers::file::Refusal;
 use sheet::Sheet;
 use std::io::Read;
 use std::{fs, io};
 
-// Writes a space and a number.
-fn print_number(rt: &impl Print, n: usize) -> io::Result<()> {
-    print!(rt; " {n}")
-}
-
 // Writes the counts and the digest of a sheet that was read.
 fn print_sheet(rt: &impl Print, sheet: Sheet) -> io::Result<()> {
-    print!(rt; "read")?;
-    print_number(rt, sheet.parameters)?;
-    print_number(rt, sheet.clocks)?;
-    print_number(rt, sheet.locations)?;
-    print_number(rt, sheet.transitions)?;
-    print_number(rt, sheet.moves)?;
-    print!(rt; " digest {}", digest::digest(sheet))
-}
-
-// Writes a refusal.
-fn print_refusal(rt: &impl Print, number: usize, place: usize) -> io::Result<()> {
-    print!(rt; "refused")?;
-    print_number(rt, number)?;
-    print!(rt; " place")?;
-    print_number(rt, place)
+    print!(rt; "read {} {}", sheet.parameters, sheet.clocks)?;
+    print!(rt; " {} {}", sheet.locations, sheet.transitions)?;
+    print!(rt; " {} digest {}", sheet.moves, digest::digest(sheet))
 }
 
 // Writes what reading a file gave.
-fn print_reading(rt: &impl Print, reading: Reading) -> io::Result<()> {
-    let checked = reading.checked;
-    let refusal = answers::file::numbered(checked);
-    if refusal.number == 0 {
-        print_sheet(rt, reading.sheet)
-    } else {
-        print_refusal(rt, refusal.number, refusal.place)
+fn print_reading(rt: &impl Print, reading: Result<Sheet, Refusal>) -> io::Result<()> {
+    match reading {
+        Ok(sheet) => print_sheet(rt, sheet),
+        Err(refusal) => {
+            let Numbered { number, place } = Numbered::from(refusal);
+            print!(rt; "refused {number} place {place}")
+        }
     }
 }
 
@@ -70,12 +54,13 @@ fn print_next<R: Read>(rt: &impl Print, input: &mut R) -> io::Result<bool> {
     Ok(true)
 }
 
-// Writes the lines of all stored files. The loop counts its turns down, from a number that no run
-// uses up, since a proved loop has to end.
+// Writes the lines of all stored files. A proved loop has to end, so its turns are a number that no
+// run uses up.
 fn print_all<R: Read>(rt: &impl Print, input: &mut R) -> io::Result<()> {
-    let mut turns = u64::MAX;
-    while turns > 0 && print_next(rt, input)? {
-        turns -= 1;
+    for _ in 0..u64::MAX {
+        if !print_next(rt, input)? {
+            break;
+        }
     }
     Ok(())
 }

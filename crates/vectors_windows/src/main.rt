@@ -10,12 +10,18 @@ mod tests;
 
 ghost use Rattle.std.specs.Prelude.{◌≤◌};
 
-use answers::windows::{Answer, Counts};
+use answers::windows::Counts;
 use expr::{Bound, Expr, Valuation};
-use numbers::{at_most, index};
 use std::io::Read;
 use std::{fs, io};
 use windows::Piece;
+
+// The counts of a refusal.
+const NO_COUNTS: Counts = Counts {
+    pieces: 0,
+    kept: 0,
+    cut: 0,
+};
 
 // A table with no blank place.
 fn filled() -> [Piece; 40] {
@@ -40,45 +46,10 @@ fn filled() -> [Piece; 40] {
     [z; 40]
 }
 
-// Writes a number.
-fn print_number(rt: &impl Print, n: usize) -> io::Result<()> {
-    print!(rt; "{n}")
-}
-
-// Writes a space and a number.
-fn print_next_number(rt: &impl Print, n: usize) -> io::Result<()> {
-    print!(rt; " ")?;
-    print_number(rt, n)
-}
-
 // Says that a record is not whole.
 fn not_whole(rt: &impl Print) -> io::Result<bool> {
     println!(rt; "the last record is not whole")?;
     Ok(false)
-}
-
-// How many zones, kept and cut; zeros where none are listed.
-fn counts_of(answer: Answer) -> Counts {
-    if let Answer::Listed(counts) = answer {
-        return counts;
-    }
-    Counts {
-        pieces: 0,
-        kept: 0,
-        cut: 0,
-    }
-}
-
-// Writes what Windows answers.
-fn print_answer(rt: &impl Print, answer: Answer) -> io::Result<()> {
-    let numbered = answers::windows::numbered(answer);
-    print_next_number(rt, numbered.number)?;
-    print!(rt; "/")?;
-    print_number(rt, numbered.place)?;
-    let counts = counts_of(answer);
-    print_next_number(rt, counts.pieces)?;
-    print_next_number(rt, counts.kept)?;
-    print_next_number(rt, counts.cut)
 }
 
 // Writes the line of a file where n places are lent.
@@ -86,25 +57,21 @@ fn print_line(rt: &impl Print, file: &[u8], n: usize) -> io::Result<()>
     requires { n ≤ 40 }
 {
     let reply = tabled::windows(file, filled(), n);
-    let answer = reply.answer;
-    let table = reply.table;
-    let reading = reading::read(file);
-    let counts = counts_of(answer);
-    print_number(rt, file.len())?;
-    print!(rt; " bytes")?;
-    print_answer(rt, answer)?;
-    print!(rt; " {}", digest::digest(table, n))?;
-    println!(rt; " {}", tests::digest(reading.sheet, table, counts.pieces))
-}
-
-// Writes the line of a file, whose number of places comes next, and answers whether the record was whole.
-fn print_record<R: Read>(rt: &impl Print, input: &mut R, file: &[u8]) -> io::Result<bool> {
-    let mut places = [0u8; 1];
-    if stored::read_full(input, &mut places)? < 1 {
-        return not_whole(rt);
-    }
-    print_line(rt, file, at_most(index(places[0]), 40))?;
-    Ok(true)
+    let numbered = answers::windows::numbered(reply.answer);
+    let counts = reply.answer.unwrap_or(NO_COUNTS);
+    let places = digest::digest(&reply.table[..n]);
+    let tests = match reading::read(file) {
+        Ok(sheet) => tests::digest(sheet, &reply.table[..counts.pieces.min(40)]),
+        Err(_) => 0,
+    };
+    print!(rt;
+        "{} bytes {}/{}",
+        file.len(),
+        numbered.number,
+        numbered.place
+    )?;
+    print!(rt; " {} {} {}", counts.pieces, counts.kept, counts.cut)?;
+    println!(rt; " {places} {tests}")
 }
 
 // Reads the next record and writes its line, and answers whether there was one.
@@ -113,21 +80,25 @@ fn print_next<R: Read>(rt: &impl Print, input: &mut R) -> io::Result<bool> {
     if stored::read_full(input, &mut length)? < 2 {
         return Ok(false);
     }
-    let n = stored::two_bytes(length[0], length[1]);
+    let n = usize::from(u16::from_le_bytes(length));
     let mut file = [0u8; 65536];
-    let got = stored::read_full(input, &mut file[..n])?;
-    if got < n {
+    if stored::read_full(input, &mut file[..n])? < n {
         return not_whole(rt);
     }
-    print_record(rt, input, &file[..n])
+    let mut places = [0u8; 1];
+    if stored::read_full(input, &mut places)? < 1 {
+        return not_whole(rt);
+    }
+    print_line(rt, &file[..n], usize::from(places[0]).min(40))?;
+    Ok(true)
 }
 
-// Writes the lines of all stored records. The loop counts its turns down, from a number that no run uses up, since a proved loop
-// has to end.
+// Writes the lines of all stored records. A proved loop has to end: its turns are more than any run uses up.
 fn print_all<R: Read>(rt: &impl Print, input: &mut R) -> io::Result<()> {
-    let mut turns = u64::MAX;
-    while turns > 0 && print_next(rt, input)? {
-        turns -= 1;
+    for _ in 0..u64::MAX {
+        if !print_next(rt, input)? {
+            return Ok(());
+        }
     }
     Ok(())
 }

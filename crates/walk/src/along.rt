@@ -21,20 +21,16 @@ fn guards_of(
 ) -> [[Weight; 5]; 5]
     ensures { result ≡ guards_table m clocks (point v) (take count guards) }
 {
-    let n = numbers::at_most(count, 6);
+    let n = count.min(6);
     let mut now = m;
-    let mut k = 0;
-    while k < n {
-        let g = guards[k];
-        let bound = g.bound;
-        let e = values::bound_at(bound, v);
-        let i = numbers::at_most(g.left as usize, 4);
-        let j = numbers::at_most(g.right as usize, 4);
+    for g in &guards[..n] {
+        let e = values::bound_at(g.bound, v);
+        let i = (g.left as usize).min(4);
+        let j = (g.right as usize).min(4);
         if weight_matrix::changes(now[0][0], now[j][i], now[i][j], e) {
             let next = weight_guard::guarded(now, clocks, g.left as usize, g.right as usize, e);
             now = next;
         }
-        k += 1;
     }
     now
 }
@@ -84,17 +80,15 @@ pub fn walk(file: &[u8], ix: Index, v: Valuation) -> [[Weight; 5]; 5]
     ensures { result ≡ sweep_table (sheet_in file.now ix) (point v) }
 {
     let clocks = ix.clocks as usize;
-    let n = numbers::at_most(ix.moves as usize, 32);
+    let n = (ix.moves as usize).min(32);
     let mut here = location_at(file, ix, 0);
     let mut m = start(clocks, v, here);
-    let mut k = 0;
-    while k < n {
-        let t = transition_at(file, ix, numbers::index(ix.route[k]));
+    for k in 0..n {
+        let t = transition_at(file, ix, usize::from(ix.route[k]));
         let there = location_at(file, ix, t.to);
         let next = moved(stay(m, clocks, v, here), clocks, v, t, there);
         m = next;
         here = there;
-        k += 1;
     }
     stay(m, clocks, v, here)
 }

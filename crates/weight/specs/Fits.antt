@@ -1,12 +1,14 @@
 -- Numbers that were saturated at ±M, at a width that has room for twice as much: their sums and differences fit, and so does one less, and
 -- one more again. Crate weight saturates 64 bits so, crate expr 32.
-use Rattle.std.specs.Prelude.{ℕ, ◌+◌, ◌*◌, ◌^◌, ◌≤◌, ◌<◌, ℤ, pos, ◌+ℤ◌, ◌-ℤ◌}
-use Rattle.std.proofs.Common.{subst, arith}
-use Rattle.std.specs.Int.{Width}
-use mir.Val.{SFits, hbits}
+use Rattle.std.specs.Prelude.{◌≡◌, ℕ, ◌+◌, ◌*◌, ◌^◌, ◌≤◌, ◌<◌, ℤ, pos, neg_ℤ, ◌+ℤ◌, ◌-ℤ◌, ◌≤ℤ◌}
+use Rattle.std.proofs.Common.{subst, ap, ◌∙◌, arith}
+use Rattle.std.specs.Int.{Width, int_min, int_max}
+use mir.Val.{SFits, hbits, to_z, of_z}
+use mir.ValLaws.{to_z-of_z}
+use Rattle.integer.specs.Bits.{held}
 use Rattle.integer.specs.Parts.{p, n, pos_parts}
 use Rattle.integer.specs.Product.{size_in, size_low, size_fits, sum_size, difference_size}
-use Rattle.weight.specs.Laws.{saturate_within}
+use Rattle.weight.specs.Laws.{saturate_within, clamp_saturates}
 use Rattle.weight.specs.TestBySum.{one_back, none_back}
 use Rattle.weight.specs.Upper.{saturate}
 
@@ -25,6 +27,15 @@ saturated_within M x =
 module _ {w : Width} {M : ℕ} (room : Room w M) where
   pub within_fits : (x : ℤ) → Within M x → SFits w x
   within_fits x a = size_fits w x (omega (arith, room.twice))
+
+  -- a local that holds what `clamp` gave
+  pub clamp_stored : (r x : ℤ) → r ≡ int_max (neg_ℤ (pos M)) (int_min (to_z w (of_z w x)) (pos M)) → SFits w x
+      → to_z w (of_z w r) ≡ saturate (pos M) x
+  clamp_stored r x e f =
+      let o : neg_ℤ (pos M) ≤ℤ pos M = size_low {A = M} (omega (arith, pos_parts M)) in
+      held w r (saturate (pos M) x)
+      (e ∙ ap (λ (y : ℤ). int_max (neg_ℤ (pos M)) (int_min y (pos M))) (to_z-of_z w x f) ∙ clamp_saturates (pos M) x o)
+      (within_fits (saturate (pos M) x) (saturated_within M x))
 
   module _ (x y : ℤ) (a : Within M x) (b : Within M y) where
     pub sum_fits : SFits w (x +ℤ y)

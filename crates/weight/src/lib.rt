@@ -13,17 +13,14 @@ pub struct Weight {
     pub value: i64,
 }
 
-// x, or the nearer end of -(2^62 - 1) to 2^62 - 1.
+// Numbers count up to ±(2^62 - 1).
+const HIGHEST: i64 = 4611686018427387903;
+
+// x, or the nearer end of -HIGHEST to HIGHEST.
 fn clamped(x: i64) -> i64
     ensures { result ≡ saturate MOST x }
 {
-    if x <= 4611686018427387903 {
-        if -4611686018427387903 <= x {
-            return x;
-        }
-        return -4611686018427387903;
-    }
-    4611686018427387903
+    x.clamp(-HIGHEST, HIGHEST)
 }
 
 impl Weight {

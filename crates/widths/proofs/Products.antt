@@ -2,8 +2,8 @@
 use mathlib.Core.Path.{◌≡◌, refl, sym, ap, ◌∙◌}
 use mathlib.Core.Bool.{Bool, true, false}
 use mathlib.Core.List.{List}
-use Prim.Native.Nat.{ℕ, zero, suc, ◌+◌, ◌*◌, ◌/◌, ◌≤◌, ◌<◌, min}
-use native.Mathlib.Nat.{mul_assoc, mul-le-mul_right, div-add-mod', mod-lt}
+use Prim.Native.Nat.{ℕ, zero, suc, ◌+◌, ◌*◌, ◌≤◌, ◌<◌, min}
+use native.Mathlib.Nat.{mul_assoc}
 use native.Mathlib.Numerals.{add-one}
 use native.Mathlib.Omega.{arith}
 use lib.Dec.{ltb}
@@ -14,13 +14,6 @@ use Rattle.expr.specs.Records.{blank_range}
 use Rattle.expr.specs.declared.range.Range.{Range}
 use Rattle.valuations.specs.Valuations.{width, widths}
 use Rattle.widths.specs.Cap.{CAP}
-
--- ---- products
-pub mul_within : (a b : ℕ) → a ≤ CAP / b → a * b ≤ CAP
-mul_within a b h = omega (arith, mul-le-mul_right b h, div-add-mod' CAP b)
-
-pub mul_past : (a b : ℕ) → 0 < b → CAP / b < a → CAP < a * b
-mul_past a b g h = omega (arith, mul-le-mul_right b h, div-add-mod' CAP b, mod-lt CAP g)
 
 cap_large : (p y : ℕ) (b : Bool) → ltb CAP p ≡ b → min (min p CAP * suc y) CAP ≡ min (p * suc y) CAP
 cap_large p y true e =

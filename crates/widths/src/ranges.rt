@@ -10,8 +10,8 @@ pub fn width(range: Range) -> usize
     ensures value { result ≡ width range }
     ensures small { result ≤ 65536 }
 {
-    let low = numbers::wide16(range.low);
-    let high = numbers::wide16(range.high);
+    let low = i64::from(range.low);
+    let high = i64::from(range.high);
     if low <= high {
         return (high + 1 - low) as usize;
     }
@@ -23,6 +23,6 @@ pub fn point(range: Range, n: usize) -> Range
     requires { n < width range }
     ensures { result ≡ point_at range n }
 {
-    let x = (numbers::wide16(range.low) + n as i64) as i16;
+    let x = (i64::from(range.low) + n as i64) as i16;
     Range { low: x, high: x }
 }

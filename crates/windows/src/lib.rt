@@ -10,11 +10,11 @@ ghost use Rattle.std.specs.Prelude.{◌≡◌, length};
 ghost use Rattle.windows_reply.specs.Reply.{answered_as, answered_of, reply_of};
 ghost use Rattle.pieces.specs.Pieces.{table_of};
 
-use answers::windows::Answer;
+use answers::windows::{Counts, Refused};
 pub use pieces::Piece;
 
 // What Windows answers to a sheet file; the table has the pieces in order, the rest of it blank, and with a refusal it is all blank.
-pub fn windows(file: &[u8], table: &mut [Piece]) -> Answer
+pub fn windows(file: &[u8], table: &mut [Piece]) -> Result<Counts, Refused>
     ensures result_value { answered_as result ≡ answered_of (reply_of file.now (length table.old)) }
     ensures table_after { table.new
         ≡ table_of (reply_of file.now (length table.old)) (length table.old) }
@@ -22,7 +22,21 @@ pub fn windows(file: &[u8], table: &mut [Piece]) -> Answer
     let mut cells = [0i32; 22500];
     let mut marks = [0u8; 2250];
     let mut counts = [0usize; 90];
-    let work = windows_reply::work_for(file, table.len(), &mut cells, &mut marks, &mut counts);
-    table::store(table, work.ranges, work.pieces, &cells, &marks, &counts);
-    work.answer
+    match windows_reply::work_for(file, table.len(), &mut cells, &mut marks, &mut counts) {
+        Ok(work) => {
+            table::store(
+                table,
+                work.ranges,
+                work.counts.pieces,
+                &cells,
+                &marks,
+                &counts,
+            );
+            Ok(work.counts)
+        }
+        Err(refused) => {
+            table.fill(Piece::BLANK);
+            Err(refused)
+        }
+    }
 }

@@ -18,9 +18,7 @@ pub(crate) fn store(
     ensures { table.new
         ≡ items_of (work_in b pieces cells.now marks.now counts.now) (length table.old) }
 {
-    let mut i = 0;
-    while i < table.len() {
+    for i in 0..table.len() {
         table[i] = item_for(b, pieces, i, cells, marks, counts);
-        i += 1;
     }
 }

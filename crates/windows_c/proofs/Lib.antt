@@ -1,3 +1,2 @@
--- What the proofs of several functions cite.
+-- What the proof of `windows_count` cites.
 mod Few
-mod Negative

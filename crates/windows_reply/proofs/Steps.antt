@@ -1,18 +1,19 @@
 -- The cases of the code's steps, with the branches' tests, and the turns of its loops.
-use mathlib.Core.Path.{◌≡◌, refl, sym, ap, subst, ◌∙◌}
+use mathlib.Core.Path.{◌≡◌, refl, sym, ap, ◌∙◌}
 use mathlib.Core.List.{List, [], map}
 use Prim.Native.Nat.{ℕ, zero, suc, ◌+◌, ◌-◌, ◌*◌, ◌≤◌, ◌<◌, min}
 use native.Mathlib.Omega.{arith}
-use borrow.Author.Tests.{lt-ltb, le-ltb, eq-eqb, ne_eqb}
+use borrow.Author.Tests.{lt-ltb, le-ltb}
 use lib.IntN.{ℤ}
 use lib.ListN.{get_or, take}
-use Rattle.answers.specs.Numbers.{numbered, checked_as, refusal_as}
-use Rattle.answers.specs.declared.file.Checked.{Checked}
-use Rattle.answers.specs.declared.file.Checked.TheVariants as checked
+use Rattle.std.specs.declared.result.Result.{Result}
+use Rattle.std.specs.declared.result.Result.TheVariants.{Ok, Err}
+use Rattle.std.specs.Prelude.{IsErrAnd}
+use Rattle.answers.specs.Numbers.{numbered, refusal_as}
 use Rattle.answers.specs.declared.file.Refusal.{Refusal}
 use Rattle.answers.specs.declared.file.Refusal.TheVariants.{Size, Contents, Body, Valuations, Route}
-use Rattle.answers.specs.declared.windows.Answer.{Answer}
-use Rattle.answers.specs.declared.windows.Answer.TheVariants as answer
+use Rattle.answers.specs.declared.windows.Refused.{Refused}
+use Rattle.answers.specs.declared.windows.Refused.TheVariants as windows
 use Rattle.cells.specs.Cells.{no_cell, rows_from, cells_in}
 use Rattle.coded.specs.Records.{zones_in}
 use Rattle.inequalities.specs.Flat.{exprs_in, exprs_from}
@@ -22,14 +23,12 @@ use Rattle.valuations.specs.Valuations.{widths, count}
 use Rattle.expr.specs.Records.{affine, range_list}
 use Rattle.expr.specs.declared.range.Ranges.{Ranges}
 use Rattle.index.specs.SheetIn.{sheet_in}
-use Rattle.reading.specs.declared.Reading.{Reading}
-use Rattle.indexing.specs.declared.Indexing.{Indexing}
-use Rattle.sheet.specs.declared.Sheet.{Sheet}
-use Rattle.reading.specs.File.{Fine, Read, read_as, read_of}
-use Rattle.reading.proofs.Accepted.{reading_well_formed}
-use Rattle.sheet.specs.WellFormed.{WellFormed}
+use Rattle.index.specs.declared.Index.{Index}
+use Rattle.indexing.specs.Indexed.{indexed_as}
+use Rattle.reading.specs.File.{Read, blank_sheet, read_of}
 use Rattle.windows_reply.specs.Reply.{sheet_reply, read_reply, reply_of}
-use Rattle.windows_reply.specs.Work.{shown_of, blank_shown, refused_by, listed_c, zones_at, take_closed}
+use Rattle.windows_reply.specs.declared.Worked.{Worked}
+use Rattle.windows_reply.specs.Work.{shown, shown_of, blank_shown, refused_by, listed_c, zones_at, take_closed}
 use Rattle.coded.specs.CodedRead.{kept_c}
 use Rattle.kept.specs.Stacks as K
 use Rattle.kept.specs.Stacks.{held_in}
@@ -39,12 +38,6 @@ use Rattle.windows_route.specs.declared.along.Ended.{Ended}
 use Rattle.zones.specs.Zone.{blank_zone}
 
 -- ---- the reply
-pub seven : (n visit : ℕ) → n ≡ 7 → answer.Zones visit ≡ refused_by n visit
-seven n visit h = rw (eq-eqb n 7 h) refl
-
-pub eight : (n visit : ℕ) → (n ≡ 7 → ⊥) → answer.Inequalities visit ≡ refused_by n visit
-eight n visit h = rw (ne_eqb n 7 h) refl
-
 -- the zones' valuations, as `kept` counts them where they stand
 kept_from : (b : Ranges) (l : List ℤ) (m ns : List ℕ) (n k p : ℕ) → p + k ≤ 90
     → held_in b (take n (K.zones_from l ns p k)) ≡ kept_c b (take n (zones_from ns (cells_in l m) p k))
@@ -68,7 +61,7 @@ unfolding exprs_from
 all_is b l n e h = let k = count_few (range_list b) [] in omega arith
 
 module _ (b : Ranges) (r : Ended) (l : List ℤ) (m ns : List ℕ) where
-  pub listed_refused : (a : Answer) → 0 < r.refusal → a ≡ refused_by r.refusal r.visit → blank_shown a ≡ listed_c b (ended_z r l m ns)
+  pub listed_refused : (a : Refused) → 0 < r.refusal → a ≡ refused_by r.refusal r.visit → blank_shown a ≡ listed_c b (ended_z r l m ns)
   unfolding listed_c
   listed_refused a h e =
       refused_is ∙ ap (listed_c b) (sym (ended_refused r l m ns h))
@@ -90,42 +83,29 @@ module _ (b : Ranges) (r : Ended) (l : List ℤ) (m ns : List ℕ) where
   listed_zones kept all cut h ek ea ec = rw (ec, ea, ek) (ap (listed_c b) (sym (ended_listed r l m ns h)))
 
 -- ---- the whole reply
-pub small_reply : (file : List ℕ) (n : ℕ) → n < 32 → blank_shown answer.Small ≡ shown_of (reply_of file n)
+pub small_reply : (file : List ℕ) (n : ℕ) → n < 32 → blank_shown windows.Small ≡ shown_of (reply_of file n)
 unfolding reply_of zones_in
 small_reply file n h = rw (lt-ltb n 32 h) refl
 
--- what `indexed` gave, as `read` gives it
-abbrev pub reading_of : List ℕ → Indexing → Reading
-reading_of file r = record { checked = r.checked; sheet = sheet_in file r.index }
+module _ (file : List ℕ) where
+  -- the sheet of an index, or a refusal, is what is replied to
+  pub index_reply : (n : ℕ) (ix : Index) → 32 ≤ n → indexed_as file (Ok ix) ≡ read_of file
+      → shown_of (sheet_reply (sheet_in file ix)) ≡ shown_of (reply_of file n)
+  unfolding reply_of read_reply
+  index_reply n ix l e = rw (le-ltb n 32 l) (ap (λ (x : Read). shown_of (read_reply x)) e)
 
-fine_number : (reading : Reading) → reading.checked ≡ checked.Fine → Fine (read_as reading)
-fine_number reading h = rw h refl
+  refused_as : (r : Refusal) → blank_shown (windows.File r) ≡ shown_of (read_reply (record { answer = refusal_as r; sheet = blank_sheet }))
+  unfolding read_reply zones_in
+  refused_as Size = refl
+  refused_as (Contents at) = refl
+  refused_as (Body at) = refl
+  refused_as Valuations = refl
+  refused_as (Route at) = refl
 
-pub read_right : (file : List ℕ) (reading : Reading) → read_as reading ≡ read_of file → reading.checked ≡ checked.Fine
-    → WellFormed reading.sheet
-read_right file reading e h = reading_well_formed file reading e (fine_number reading h)
-
-pub read_reply_lem : (file : List ℕ) (n : ℕ) (reading : Reading) → 32 ≤ n → read_as reading ≡ read_of file → reading.checked ≡ checked.Fine
-    → shown_of (sheet_reply reading.sheet) ≡ shown_of (reply_of file n)
-unfolding reply_of read_reply
-read_reply_lem file n reading l e h =
-    let k : (checked_as reading.checked).number ≡ 0 = fine_number reading h in
-    rw (le-ltb n 32 l)
-    (ap shown_of (subst (λ (x : Read). sheet_reply reading.sheet ≡ read_reply x) e (rw k refl)))
-
-refused_as : (sheet : Sheet) (r : Refusal) → blank_shown (answer.Refused r)
-    ≡ shown_of (read_reply (record { answer = refusal_as r; sheet = sheet }))
-unfolding read_reply zones_in
-refused_as sheet Size = refl
-refused_as sheet (Contents at) = refl
-refused_as sheet (Body at) = refl
-refused_as sheet Valuations = refl
-refused_as sheet (Route at) = refl
-
-pub refused_reply_lem : (file : List ℕ) (n : ℕ) (reading : Reading) → 32 ≤ n → read_as reading ≡ read_of file → (r : Refusal)
-    → reading.checked ≡ checked.Refused r → blank_shown (answer.Refused r) ≡ shown_of (reply_of file n)
-unfolding reply_of
-refused_reply_lem file n reading l e r h =
-    rw (le-ltb n 32 l)
-    (refused_as reading.sheet r
-    ∙ ap (λ (x : Read). shown_of (read_reply x)) (sym (ap (λ (c : Checked). record { answer = checked_as c; sheet = reading.sheet }) h) ∙ e))
+  -- a refusal of the file goes on
+  pub refused_reply_lem : (n : ℕ) (r : Refusal) (a : Result Worked Refused) (l : List ℤ) (m ns : List ℕ) → 32 ≤ n
+      → indexed_as file (Err r) ≡ read_of file → IsErrAnd a (λ e. e ≡ windows.File r) → shown a l m ns ≡ shown_of (reply_of file n)
+  unfolding reply_of
+  refused_reply_lem n r (Ok w) l m ns g e h = absurd h
+  refused_reply_lem n r (Err x) l m ns g e h =
+      rw (h, le-ltb n 32 g) (refused_as r ∙ ap (λ (y : Read). shown_of (read_reply y)) e)

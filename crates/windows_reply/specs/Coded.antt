@@ -7,7 +7,7 @@ use Rattle.valuations.specs.SearchLaws.{count_all}
 use Rattle.expr.specs.Records.{range_list}
 use Rattle.sheet.specs.declared.Sheet.{Sheet}
 use Rattle.sheet.specs.WellFormed.{WellFormed}
-use Rattle.answers.specs.Numbers.{numbered, windows_as, counts_of, no_counts}
+use Rattle.answers.specs.Numbers.{numbered, cut_refused_as}
 use Rattle.windows_reply.specs.Reply.{listing_reply, sheet_reply}
 use Rattle.windows_reply.specs.Work.{shown_of, refused_by, listed_c}
 use Rattle.coded.specs.Records.{coded, zones_in}
@@ -17,13 +17,9 @@ use Rattle.segments.specs.Walked.{zones_all}
 use Rattle.zones.specs.declared.zone.Zones.{Zones}
 
 -- ---- the reply
-refused_coded : (n k : ℕ) → SevenOrEight n → windows_as (refused_by n k) ≡ numbered n k
+refused_coded : (n k : ℕ) → SevenOrEight n → cut_refused_as (refused_by n k) ≡ numbered n k
 refused_coded n k (inl e) = rw e refl
 refused_coded n k (inr e) = rw e refl
-
-none_counted : (n k : ℕ) → SevenOrEight n → counts_of (refused_by n k) ≡ no_counts
-none_counted n k (inl e) = rw e refl
-none_counted n k (inr e) = rw e refl
 
 listing_coded : (s : Sheet) (o : Listing) → ((n k : ℕ) → o ≡ refused n k → SevenOrEight n)
     → listed_c s.ranges (coded s.moves o) ≡ shown_of (listing_reply s o)
@@ -31,7 +27,7 @@ unfolding listed_c coded listing_reply zones_in
 listing_coded s (listed zs) h = rw (kept_in s.ranges zs, count_all (range_list s.ranges)) refl
 listing_coded s (refused n k) h =
     let g = h n k refl in
-    rw (lt-ltb 0 n (some_number n g), refused_coded n k g, none_counted n k g) refl
+    rw (lt-ltb 0 n (some_number n g), refused_coded n k g) refl
 
 pub work_coded : (s : Sheet) → WellFormed s → (zs : Zones) → zs ≡ zones_all s → listed_c s.ranges zs ≡ shown_of (sheet_reply s)
 unfolding sheet_reply

@@ -2,9 +2,10 @@
 -- 1, then 2 to 4, 16 and 5, the whole file for each, then 7 or 8, the first met in the order of cutting; else the zones in order, kept
 -- and cut.
 use Rattle.std.specs.Prelude.{List, [], cond, ℕ, ltb, eqb, length}
+use Rattle.std.specs.declared.result.Result.{Result}
 use Rattle.answers.specs.Numbers.{numbered, windows_as, counts_of, no_counts}
 use Rattle.answers.specs.declared.Numbered.{Numbered}
-use Rattle.answers.specs.declared.windows.Answer.{Answer}
+use Rattle.answers.specs.declared.windows.Refused.{Refused}
 use Rattle.answers.specs.declared.windows.Counts.{Counts}
 use Rattle.cutting.specs.Cutting.{Zone, Listing, listed, refused, zones_of}
 use Rattle.cutting.specs.Kept.{kept_of, cut_of}
@@ -28,8 +29,8 @@ pub record Answered : Type 0 where
 abbrev pub answered_of : WindowsReply → Answered
 answered_of r = record { answer = r.answer; counts = r.counts }
 
--- the code's enum for it
-abbrev pub answered_as : Answer → Answered
+-- the code's answer for it
+abbrev pub answered_as : Result Counts Refused → Answered
 answered_as a = record { answer = windows_as a; counts = counts_of a }
 
 -- with a refusal there are no zones, and nothing is counted

@@ -1,10 +1,12 @@
 -- The reply as the code makes it, on its records.
 use Rattle.std.specs.Prelude.{cond, ◌≡◌, refl, List, [], ◌∷◌, ◌++◌, ℕ, zero, suc, ◌-◌, ltb, eqb, ℤ, length, take, replicate}
 use Rattle.std.proofs.Common.{ap, arith}
-use Rattle.answers.specs.Numbers.{numbered, windows_as, counts_of}
+use Rattle.std.specs.declared.result.Result.{Result}
+use Rattle.std.specs.declared.result.Result.TheVariants.{Ok, Err}
+use Rattle.answers.specs.Numbers.{numbered, cut_refused_as, no_counts}
 use Rattle.answers.specs.declared.Numbered.{Numbered}
-use Rattle.answers.specs.declared.windows.Answer.{Answer}
-use Rattle.answers.specs.declared.windows.Answer.TheVariants as answer
+use Rattle.answers.specs.declared.windows.Refused.{Refused}
+use Rattle.answers.specs.declared.windows.Refused.TheVariants as windows
 use Rattle.answers.specs.declared.windows.Counts.{Counts}
 use Rattle.cells.specs.Cells.{cells_in}
 use Rattle.coded.specs.Records.{zones_in}
@@ -31,29 +33,31 @@ pub record Shown : Type 0 where
 abbrev pub zones_at : ℕ → List ℤ → List ℕ → List ℕ → List Zone
 zones_at n l m ns = take n (list_of ns (cells_in l m)) ++ replicate (32 - n) blank_zone
 
-abbrev pub shown : Worked → List ℤ → List ℕ → List ℕ → Shown
-shown w l m ns =
+-- a refusal, which has no zones
+abbrev pub blank_shown : Refused → Shown
+blank_shown r =
+    record { answer = cut_refused_as r; counts = no_counts; ranges = zero_ranges; pieces = 0; zones = replicate 32 blank_zone }
+
+-- what the code works out, or its refusal
+abbrev pub shown : Result Worked Refused → List ℤ → List ℕ → List ℕ → Shown
+shown (Ok w) l m ns =
     record {
-      answer = windows_as w.answer;
-      counts = counts_of w.answer;
+      answer = numbered 0 0;
+      counts = w.counts;
       ranges = w.ranges;
-      pieces = w.pieces;
-      zones = zones_at w.pieces l m ns;
+      pieces = w.counts.pieces;
+      zones = zones_at w.counts.pieces l m ns;
     }
+shown (Err r) l m ns = blank_shown r
 
 -- a reply on the code's records
 abbrev pub shown_of : WindowsReply → Shown
 shown_of r =
     record { answer = r.answer; counts = r.counts; ranges = r.ranges; pieces = length r.zones; zones = zones_in r.zones }
 
--- an answer without zones
-abbrev pub blank_shown : Answer → Shown
-blank_shown a =
-    record { answer = windows_as a; counts = counts_of a; ranges = zero_ranges; pieces = 0; zones = replicate 32 blank_zone }
-
 -- refusal 7 or 8 of the cutting
-abbrev pub refused_by : ℕ → ℕ → Answer
-refused_by n visit = cond (eqb n 7) (answer.Zones visit) (answer.Inequalities visit)
+abbrev pub refused_by : ℕ → ℕ → Refused
+refused_by n visit = cond (eqb n 7) (windows.Zones visit) (windows.Inequalities visit)
 
 -- the reply for what a route leaves
 unfoldable pub listed_c : Ranges → Zones → Shown

@@ -1,70 +1,63 @@
-// What Windows works out for a file: the answer, and the zones in lists that are lent (crate cells).
+// What Windows works out for a file: the counts, and the zones in lists that are lent (crate cells); or why it refuses.
 #![tactic(auto)]
 
-ghost use Rattle.std.specs.Prelude.{◌≡◌, List, ℕ, ◌≤◌, ℤ, length};
+ghost use Rattle.std.specs.Prelude.{◌≡◌, ◌≤◌, length};
 ghost use Rattle.valuations.specs.Valuations.{widths};
 ghost use Rattle.expr.specs.Records.{range_list};
 ghost use Rattle.index.specs.SheetIn.{sheet_in};
 ghost use Rattle.sheet.specs.WellFormed.{WellFormed};
 ghost use Rattle.windows_route.specs.Ended.{Zeros, ended_z};
 ghost use Rattle.windows_reply.specs.Reply.{sheet_reply, reply_of};
-ghost use Rattle.windows_reply.specs.Work.{shown, shown_of, blank_shown, refused_by, listed_c};
+ghost use Rattle.windows_reply.specs.Work.{shown, shown_of, refused_by, listed_c};
 
-use answers::file::Checked;
-use answers::windows::{Answer, Counts};
+use answers::windows::{Counts, Refused};
 use expr::Ranges;
 use index::Index;
 use windows_route::Ended;
 
-// What is worked out: the answer, the ranges that were cut, and how many pieces; their zones are the first in the lists.
+// What is worked out: the counts, and the ranges that were cut; the zones are the first in the lists, as many as there are pieces.
 #[derive(Clone, Copy)]
 pub struct Worked {
-    pub answer: Answer,
+    pub counts: Counts,
     pub ranges: Ranges,
-    pub pieces: usize,
-}
-
-// An answer without zones.
-fn blank(answer: Answer) -> Worked
-    ensures { (l : List ℤ) (m ns : List ℕ) → shown result l m ns ≡ blank_shown answer }
-{
-    Worked {
-        answer,
-        ranges: Ranges::ZERO,
-        pieces: 0,
-    }
 }
 
 // Refusal 7 or 8 at a visit.
-fn refused(number: usize, visit: usize) -> Answer
+fn refused(number: usize, visit: usize) -> Refused
     ensures { result ≡ refused_by number visit }
 {
     if number == 7 {
-        return Answer::Zones(visit);
+        Refused::Zones(visit)
+    } else {
+        Refused::Inequalities(visit)
     }
-    Answer::Inequalities(visit)
 }
 
 // The reply for the zones that a route leaves, or for their refusal.
-fn listed(b: Ranges, end: Ended, cells: &[i32], marks: &[u8], counts: &[usize]) -> Worked
+fn listed(
+    b: Ranges,
+    end: Ended,
+    cells: &[i32],
+    marks: &[u8],
+    counts: &[usize],
+) -> Result<Worked, Refused>
     requires { (widths (range_list b) ≤ 262144) × ((length cells.now ≡ 22500) × (length counts.now ≡ 90)) }
     ensures { shown result cells.now marks.now counts.now
         ≡ listed_c b (ended_z end cells.now marks.now counts.now) }
 {
     if 0 < end.refusal {
-        return blank(refused(end.refusal, end.visit));
+        return Err(refused(end.refusal, end.visit));
     }
     let kept = kept::kept(b, cells, counts, end.count);
     let all = counting::count(b, cells, 0);
-    Worked {
-        answer: Answer::Listed(Counts {
+    Ok(Worked {
+        counts: Counts {
             pieces: end.count,
             kept,
-            cut: numbers::less(all, kept),
-        }),
+            cut: all.saturating_sub(kept),
+        },
         ranges: b,
-        pieces: end.count,
-    }
+    })
 }
 
 // The reply for the sheet of an index into a file.
@@ -74,7 +67,7 @@ fn cut_file(
     cells: &mut [i32],
     marks: &mut [u8],
     counts: &mut [usize],
-) -> Worked
+) -> Result<Worked, Refused>
     requires { WellFormed (sheet_in file.now ix) × Zeros cells.old marks.old counts.old }
     ensures { shown result cells.new marks.new counts.new
         ≡ shown_of (sheet_reply (sheet_in file.now ix)) }
@@ -91,19 +84,14 @@ pub fn work_for(
     cells: &mut [i32],
     marks: &mut [u8],
     counts: &mut [usize],
-) -> Worked
+) -> Result<Worked, Refused>
     requires { Zeros cells.old marks.old counts.old }
     ensures { shown result cells.new marks.new counts.new
         ≡ shown_of (reply_of file.now places) }
 {
     if places < 32 {
-        return blank(Answer::Small);
+        return Err(Refused::Small);
     }
-    let reading = indexing::indexed(file);
-    let checked = reading.checked;
-    let ix = reading.index;
-    match checked {
-        Checked::Fine => cut_file(file, ix, cells, marks, counts),
-        Checked::Refused(refusal) => blank(Answer::Refused(refusal)),
-    }
+    let ix = indexing::indexed(file)?;
+    cut_file(file, ix, cells, marks, counts)
 }

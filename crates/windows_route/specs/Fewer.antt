@@ -1,10 +1,11 @@
 -- The two parts of a split hold nothing that the zone does not hold.
-use Rattle.std.specs.Prelude.{◌≡◌, refl, Bool, true, false, cond, List, ℕ, ◌+◌, ◌-◌, ltb}
+use Rattle.std.specs.Prelude.{◌≡◌, refl, Bool, true, false, cond, List, ◌+◌, ◌-◌, ltb}
 use Rattle.std.proofs.Common.{sym, ap, ◌∙◌}
 use Rattle.constrain.specs.Rules.{via_c}
 use Rattle.constrain.specs.declared.rule.Rule.{Rule}
 use Rattle.expr.specs.Affine.{Affine}
 use Rattle.parts.specs.Parts.{standing, put_c, pushed_c, answered_c, with_more, yes_c, no_c}
+use Rattle.parts.specs.declared.part.Halt.TheVariants as stops
 use Rattle.parts.specs.declared.part.Part.{Part}
 use Rattle.valuations.specs.Valuations.{satisfies}
 use Rattle.zones.specs.Fits.{Fewer, fewer_more}
@@ -20,9 +21,9 @@ answered_same r p b = by (ltb p.phase 1) (ltb p.phase 2) (ltb (p.phase - 2) 24) 
 
     by : (s t u b : Bool)
         → exprs_of
-        (cond {A = Part} s (cond b (standing p 27 1) (standing p 1 0))
-        (cond t (cond b (standing p 2 0) (standing p 27 2))
-        (cond u (standing (put b) (p.phase - 2 + 3) 0) (standing (put b) 27 2)))).zone
+        (cond {A = Part} s (cond b (standing p 27 stops.Cut) (standing p 1 stops.No))
+        (cond t (cond b (standing p 2 stops.No) (standing p 27 stops.Kept))
+        (cond u (standing (put b) (p.phase - 2 + 3) stops.No) (standing (put b) 27 stops.Kept)))).zone
         ≡ exprs_of p.zone
     by true t u true = refl
     by true t u false = refl

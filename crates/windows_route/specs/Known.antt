@@ -1,8 +1,7 @@
 -- What is known of each zone on its way along the route.
-use Rattle.std.specs.Prelude.{◌≡◌, refl, Bool, true, false, cond, List, [], ℕ, zero, suc, ◌+◌, ◌-◌, ◌≤◌, ◌<◌, ltb, eqb, length, get_or, set}
-use Rattle.std.proofs.Common.{sym, ap, subst, ◌∙◌, arith, eqb-true, length-set, get_or-set_same, get_or-set_other}
+use Rattle.std.specs.Prelude.{◌≡◌, refl, Bool, true, false, cond, List, [], ℕ, ◌+◌, ◌≤◌, ◌<◌, eqb, length, get_or, set}
+use Rattle.std.proofs.Common.{sym, subst, ◌∙◌, arith, eqb-true, length-set, get_or-set_same, get_or-set_other}
 use Rattle.std.proofs.lemmas.Bool.{eqb-false}
-use Rattle.delay.specs.Delayed.{delayed_zone, resets_zone}
 use Rattle.expr.specs.declared.bound.Bound.{Bound}
 use Rattle.expr.specs.declared.range.Ranges.{Ranges}
 use Rattle.parts.specs.Parts.{with_bounds}
@@ -13,6 +12,7 @@ use Rattle.split.specs.Stack.{no_part}
 use Rattle.split.specs.Trees.{start_c}
 use Rattle.steps.specs.Steps.{no_zone, changed_c, kept_c, asks_c, part_c}
 use Rattle.steps.specs.declared.step.Step.{Step}
+use Rattle.steps.specs.declared.step.Step.TheVariants as step
 use Rattle.zones.specs.Hinted.{Hinted}
 use Rattle.zones.specs.declared.hint.Hint.{Hint}
 use Rattle.zones.specs.declared.zone.Zone.{Zone}
@@ -54,12 +54,11 @@ hinted_bounds b z y m h e k = rw e (record {
 
 hinted_changed : (b : Ranges) (st : Step) (w : ℕ) (z : Zone) (h : Hint) → Hinted b z h → Hinted b (changed_c st w z) h
 unfolding changed_c
-hinted_changed b st w z h k = by (ltb st.kind 1) (ltb st.kind 2)
-  where
-    by : (s t : Bool) → Hinted b (cond s (delayed_zone w z) (cond t z (resets_zone w st.bits z))) h
-    by true t = record { narrows = k.narrows; trusted = record { nogoods = k.trusted.nogoods; guess = k.trusted.guess } }
-    by false true = k
-    by false false = record { narrows = k.narrows; trusted = record { nogoods = k.trusted.nogoods; guess = k.trusted.guess } }
+hinted_changed b step.Delay w z h k =
+    record { narrows = k.narrows; trusted = record { nogoods = k.trusted.nogoods; guess = k.trusted.guess } }
+hinted_changed b (step.Guard g) w z h k = k
+hinted_changed b (step.Resets bits visit) w z h k =
+    record { narrows = k.narrows; trusted = record { nogoods = k.trusted.nogoods; guess = k.trusted.guess } }
 
 pub hinted_part : (b : Ranges) (st : Step) (w : ℕ) (z : Zone) (h : Hint) → Hinted b z h → Hinted b (part_c st w z).zone h
 unfolding part_c

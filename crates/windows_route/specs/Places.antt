@@ -9,6 +9,7 @@ use Rattle.cells.specs.Cells.{Cell, no_cell, row_at, rows_from, bound_on, bounds
 use Rattle.cells.specs.CellLaws.{cells_at}
 use Rattle.expr.specs.Records.{no_expr, zero_expr, zero_bound}
 use Rattle.inequalities.specs.Flat.{expr_at}
+use Rattle.parts.specs.declared.part.Halt.TheVariants as stops
 use Rattle.parts.specs.declared.part.Part.{Part}
 use Rattle.running.specs.Tasks.{part_with}
 use Rattle.running.specs.declared.task.Task.{Task}
@@ -19,7 +20,7 @@ use Rattle.zones.specs.declared.zone.Zone.{Zone}
 
 -- what is read past the end of a list of tasks
 abbrev pub no_task : Task
-no_task = record { phase = 0; halt = 0; tests = 0; test = no_expr }
+no_task = record { phase = 0; halt = stops.No; tests = 0; test = no_expr }
 
 -- the zone at place x
 abbrev pub zone_in : List ℕ → List Cell → ℕ → Zone

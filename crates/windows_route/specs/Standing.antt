@@ -1,6 +1,8 @@
 -- Where the walk stands, in cells: the lists of `Walking` place by place.
-use Rattle.std.specs.Prelude.{◌≡◌, refl, Bool, true, false, cond, List, [], ◌∷◌, ℕ, zero, suc, ◌+◌, ◌-◌, ◌*◌, ◌≤◌, ◌<◌, ltb, eqb, ℤ, pos, length, get_or, set, replicate}
-use Rattle.std.proofs.Common.{sym, ap, subst, ◌∙◌, true≢false, arith, eqb-true, ltb-true, ltb-false, lt-ltb, le-ltb, length-set, get_or-set_same, get_or-set_other, ext_get_or}
+use Rattle.std.specs.Prelude.{◌≡◌, refl, Bool, true, false, cond, List, [], ◌∷◌, ℕ, zero, suc, ◌+◌, ◌-◌, ◌≤◌, ◌<◌, ltb, eqb, ℤ, pos, length}
+use Rattle.std.specs.Prelude.{get_or, set, replicate}
+use Rattle.std.proofs.Common.{sym, ap, subst, ◌∙◌, true≢false, arith, eqb-true, ltb-true, ltb-false, le-ltb, length-set, get_or-set_same}
+use Rattle.std.proofs.Common.{get_or-set_other, ext_get_or}
 use Rattle.std.proofs.lemmas.Bool.{eqb-false}
 use Rattle.std.proofs.lemmas.List.{length-replicate, get_or-replicate}
 use Rattle.automaton.specs.declared.Location.{Location}
@@ -9,11 +11,10 @@ use Rattle.cells.specs.CellLaws as CL
 use Rattle.constrain.specs.declared.rule.Rule.{Rule}
 use Rattle.expr.specs.Records.{range_list}
 use Rattle.expr.specs.declared.range.Ranges.{Ranges}
-use Rattle.guards.specs.declared.Guard.{Guard}
 use Rattle.idle.specs.Idle.{Leaves}
 use Rattle.parting.specs.Halves.{yes_cell, no_half, halves_c}
 use Rattle.parting.specs.HalfLaws.{no_is, yes_is}
-use Rattle.parts.specs.Parts.{with_bounds, yes_c, no_c}
+use Rattle.parts.specs.Parts.{is_kept, is_split, with_bounds, yes_c, no_c}
 use Rattle.parts.specs.declared.part.Part.{Part}
 use Rattle.passing.specs.Machine.{no_step}
 use Rattle.passing.specs.State.{begun_c, pushed_c, listed_c, dropped_c, loaded_c, passed_c, stepped_c, number_c, refused_z}
@@ -22,15 +23,13 @@ use Rattle.running.specs.Tasks.{part_with, part_at, rule_at, guarding_c, answere
 use Rattle.running.specs.declared.task.Guarding.{Guarding}
 use Rattle.running.specs.declared.task.Task.{Task}
 use Rattle.segments.specs.Walked.{zones_all}
-use Rattle.segments.specs.SegmentLaws.{steps_in}
 use Rattle.segments.specs.Segments.{size, Segmented}
 use Rattle.segments.specs.declared.segment.Segment.{Segment}
 use Rattle.sheet.specs.Lookup.{location_c}
 use Rattle.sheet.specs.declared.Sheet.{Sheet}
-use Rattle.split.specs.Guarded.{rule_c}
-use Rattle.split.specs.Stack.{no_part, load, top_live}
+use Rattle.split.specs.Stack.{no_part, top_live}
 use Rattle.split.specs.Trees.{Live, Ran}
-use Rattle.steps.specs.Steps.{no_zone, closed, part_c}
+use Rattle.steps.specs.Steps.{no_zone, closed, asks_c, guard_of_c, part_c}
 use Rattle.steps.specs.Taken.{changed_b, task_c, taken_c, taken_old, taken_other, taken_top, taken_part}
 use Rattle.steps.specs.declared.step.Step.{Step}
 use Rattle.steps.specs.declared.step.Steps.{Steps}
@@ -59,8 +58,8 @@ use Rattle.staying.specs.declared.Stood.{Stood}
 use Rattle.zones.specs.Hinted.{exprs_of, Guessed, Hinted}
 use Rattle.zones.specs.Zone.{blank_zone}
 use Rattle.zones.specs.declared.hint.Hint.{Hint}
+use Rattle.zones.specs.declared.told.Told.TheVariants as kinds
 use Rattle.zones.specs.declared.zone.Zone.{Zone}
-use Rattle.zones.specs.declared.zone.Zones.{Zones}
 
 pub record Standing (s : Sheet) (end : ℕ) (here : Location) (steps : Steps) (l : List ℤ) (m ns : List ℕ) (hs : List Hint) (ts : List Task)
     (ws : List Hint) (g : Guarding) (p : Pass) (k : ℕ) : Type 0 where
@@ -209,7 +208,7 @@ module _ {s : Sheet} {end : ℕ} {here : Location} {steps : Steps} {l : List ℤ
       low x o = zone_same ns ns cs cs' x refl (other x (λ e. omega arith))
 
       module _ (quiet : number_c t.halt p.kept ≤ 0) where
-        pub stopped_dropped : (t.halt ≡ 3 → ⊥) → (t.halt ≡ 2 → ⊥) → (p' : Pass) → p' ≡ dropped_c p
+        pub stopped_dropped : is_split t.halt ≡ false → is_kept t.halt ≡ false → (p' : Pass) → p' ≡ dropped_c p
             → Standing s end here steps l' m' ns hs ts ws g p' k × (way_in end k steps l' m' ns ts p' < way_in end k steps l m ns ts p)
         stopped_dropped a c p' e = subst (λ (x : Pass). Standing s end here steps l' m' ns hs ts ws g x k
             × (way_in end k steps l' m' ns ts x < way_in end k steps l m ns ts p)) (sym e) (
@@ -241,11 +240,11 @@ module _ {s : Sheet} {end : ℕ} {here : Location} {steps : Steps} {l : List ℤ
                   st.on_stack below (way_dropped run_of (dropped_c p) refl),
             )
 
-        pub listed_room : t.halt ≡ 2 → p.kept < 32
+        pub listed_room : is_kept t.halt ≡ true → p.kept < 32
         listed_room = room_listed run_of quiet
 
         -- the part is listed: what stood there is spared
-        module _ (kept : t.halt ≡ 2) (l₂ : List ℤ) (m₂ : List ℕ) (hl₂ : length l₂ ≡ 22500) (hm₂ : length m₂ ≡ 2250) (cs₁ : List Cell)
+        module _ (kept : is_kept t.halt ≡ true) (l₂ : List ℤ) (m₂ : List ℕ) (hl₂ : length l₂ ≡ 22500) (hm₂ : length m₂ ≡ 2250) (cs₁ : List Cell)
             (e₁ : cs₁ ≡ set cs' (32 + p.kept) (get_or cs' p.kept no_cell))
             (e₂ : cells_in l₂ m₂ ≡ set cs₁ p.kept (get_or cs₁ top no_cell)) where
           abbrev at : ℕ
@@ -406,7 +405,7 @@ module _ {s : Sheet} {end : ℕ} {here : Location} {steps : Steps} {l : List ℤ
               )
 
       -- the part splits
-      module _ (f : t.halt ≡ 3) where
+      module _ (f : is_split t.halt ≡ true) where
         pub split_fits : (t.phase < 27) × (n < 24)
         split_fits = let x = told.splits f in (x.0, x.1)
 
@@ -420,7 +419,7 @@ module _ {s : Sheet} {end : ℕ} {here : Location} {steps : Steps} {l : List ℤ
             (ny : Narrows (exprs_of (zone_of (n + 1) (get_or (cells_in l₂ m₂) (top + 1) no_cell))) (range_list s.ranges)
             (range_list yes.ranges))
             (dy : Guessed (zone_of (n + 1) (get_or (cells_in l₂ m₂) (top + 1) no_cell)) yes) (sy : yes.nogoods ≡ h.nogoods) (ta tb : Task)
-            (ha : ta ≡ answered_t t 0) (hb : tb ≡ answered_t t 1) where
+            (ha : ta ≡ answered_t t kinds.No) (hb : tb ≡ answered_t t kinds.Yes) where
           abbrev csₛ : List Cell
           csₛ = cells_in l₂ m₂
 
@@ -476,10 +475,10 @@ module _ {s : Sheet} {end : ℕ} {here : Location} {steps : Steps} {l : List ℤ
               (omega (arith, length-set ns top (n + 1), st.counts_long, split_deep))
 
           abbrev no_p : Part
-          no_p = part_with (answered_t t 0) (zone_of (n + 1) no_c')
+          no_p = part_with (answered_t t kinds.No) (zone_of (n + 1) no_c')
 
           abbrev yes_p : Part
-          yes_p = part_with (answered_t t 1) (zone_of (n + 1) yes_c')
+          yes_p = part_with (answered_t t kinds.Yes) (zone_of (n + 1) yes_c')
 
           is_no : no_p ≡ no_c st.rule q
           is_no = no_is st.rule cell n t split_fits.1
@@ -495,14 +494,14 @@ module _ {s : Sheet} {end : ℕ} {here : Location} {steps : Steps} {l : List ℤ
 
           part_no : no_p ≡ part_at_place tsₛ nsₛ csₛ d
           part_no =
-              let task : get_or tsₛ d no_task ≡ answered_t t 0 =
+              let task : get_or tsₛ d no_task ≡ answered_t t kinds.No =
               get_or-set_other (set ts d ta) (d + 1) d tb no_task (λ e. omega arith)
               ∙ get_or-set_same ts d ta no_task (omega (arith, st.tasks_long, depth_few)) ∙ ha in
               sym (λ i. part_with (task i) (zone_of (count_no i) (at_no i)))
 
           part_yes : yes_p ≡ part_at_place tsₛ nsₛ csₛ (d + 1)
           part_yes =
-              let task : get_or tsₛ (d + 1) no_task ≡ answered_t t 1 =
+              let task : get_or tsₛ (d + 1) no_task ≡ answered_t t kinds.Yes =
               get_or-set_same (set ts d ta) (d + 1) tb no_task (omega (arith, length-set ts d ta, st.tasks_long, split_deep)) ∙ hb in
               let up : top + 1 ≡ 64 + (d + 1) = omega arith in
               sym (λ i. part_with (task i) (zone_of (count_yes i) (at_yes i)))
@@ -795,7 +794,7 @@ module _ {s : Sheet} {end : ℕ} {here : Location} {steps : Steps} {l : List ℤ
 
       module _ (l₂ : List ℤ) (m₂ : List ℕ) (hl₂ : length l₂ ≡ 22500) (hm₂ : length m₂ ≡ 2250)
           (e₂ : cells_in l₂ m₂ ≡ taken_c (cells_in l m) from s.clocks step) (t : Task) (ht : t ≡ task_c step) (g₂ : Guarding)
-          (hg : g₂ ≡ guarding_c s.clocks step.guard) (h₂ : Hint)
+          (hg : asks_c step ≡ true → g₂ ≡ guarding_c s.clocks (guard_of_c step)) (h₂ : Hint)
           (kh : Hinted s.ranges (zone_in ns (cells_in l m) from) (get_or hs from no_hint)
           → Hinted s.ranges (zone_in ns (cells_in l m) from) h₂) where
         took₂ : Taken free more (zone_in ns (cells_in l m) from) h₂
@@ -814,7 +813,7 @@ module _ {s : Sheet} {end : ℕ} {here : Location} {steps : Steps} {l : List ℤ
         part₀ = part_c step s.clocks (zone_in ns (cells_in l m) from)
 
         abbrev rule₀ : Rule
-        rule₀ = rule_c s.clocks step.guard (zone_in ns (cells_in l m) from)
+        rule₀ = rule_of g₂ c₀
 
         full₀ : length (cells_in l m) ≡ 90
         full₀ = CL.cells_long l m
@@ -863,17 +862,16 @@ module _ {s : Sheet} {end : ℕ} {here : Location} {steps : Steps} {l : List ℤ
                 stack = set st.stack 0 part₀;
                 rule = rule₀;
                 walking =
-                    walking_loaded free more (zone_in ns (cells_in l m) from) h₂ took₂ part₀ refl rule₀ refl (loaded_c
-                    p) refl;
+                    walking_loaded free more (zone_in ns (cells_in l m) from) h₂ took₂ part₀ refl rule₀
+                    (λ a. ap (λ (x : Guarding). rule_of x c₀) (hg a)) (loaded_c p) refl;
                 on_list = λ x o. st.on_list x o ∙ stays x (λ u. omega arith) (λ u. omega arith);
                 on_spare = λ x o. st.on_spare x o ∙ stays (32 + x) (λ u. omega arith) (λ u. omega arith);
                 on_hints = st.on_hints;
                 on_spares = st.on_spares;
                 on_stack = stack_one;
                 on_rule = λ o.
-                    ap (λ (c : Cell). rule_of (guarding_c s.clocks step.guard) c)
-                    (sym (ap (λ (y : List Cell). get_or y 89 no_cell) e₂ ∙ taken_old (cells_in l m) from s.clocks step full₀ from_few))
-                    ∙ ap (λ (x : Guarding). rule_at csₗ 89 x) (sym hg);
+                    ap (rule_of g₂)
+                    (sym (ap (λ (y : List Cell). get_or y 89 no_cell) e₂ ∙ taken_old (cells_in l m) from s.clocks step full₀ from_few));
               },
               way_less end k k steps steps l l₂ m m₂ ns nsₗ ts (set ts 0 t) p (loaded_c p) st.stack (set st.stack 0 part₀) deep_few
                   (omega arith) st.on_stack stack_one (way_loaded free more part₀ (loaded_c p) refl),
@@ -970,7 +968,7 @@ module _ {s : Sheet} {end : ℕ} {here : Location} {steps : Steps} {l : List ℤ
 
       pub loaded_at : (l₂ : List ℤ) (m₂ : List ℕ) → length l₂ ≡ 22500 → length m₂ ≡ 2250
           → cells_in l₂ m₂ ≡ taken_c (cells_in l₁ m₁) y s.clocks step → (t : Task) → t ≡ task_c step → (g₂ : Guarding)
-          → g₂ ≡ guarding_c s.clocks step.guard → (p' : Pass) → p' ≡ loaded_c p
+          → (asks_c step ≡ true → g₂ ≡ guarding_c s.clocks (guard_of_c step)) → (p' : Pass) → p' ≡ loaded_c p
           → Standing s end here steps l₂ m₂ (set ns 64 (get_or ns y 0)) hs (set ts 0 t) (set ws 0 o.hint) g₂ p' k
           × (way_in end k steps l₂ m₂ (set ns 64 (get_or ns y 0)) (set ts 0 t) p' < way_in end k steps l m ns ts p)
       loaded_at l₂ m₂ hl hm e t ht g₂ hg p' ep =

@@ -1,12 +1,13 @@
 -- The walk along the route, turn by turn: the pass over the steps of a segment, and what is left of the route behind it.
-use Rattle.std.specs.Prelude.{◌≡◌, refl, Bool, true, false, List, [], ◌∷◌, ℕ, zero, suc, ◌+◌, ◌-◌, ◌*◌, ◌≤◌, ◌<◌, ltb, length, get_or, take, drop, set, replicate}
+use Rattle.std.specs.Prelude.{◌≡◌, refl, Bool, true, false, List, [], ◌∷◌, ℕ, zero, suc, ◌+◌, ◌-◌, ◌*◌, ◌≤◌, ◌<◌, ltb, length, get_or, drop}
+use Rattle.std.specs.Prelude.{set, replicate}
 use Rattle.std.proofs.Common.{sym, ap, subst, ◌∙◌, add-one, arith, ltb-true, ltb-false, length-take, get_or-take}
 use Rattle.automaton.specs.declared.Location.{Location}
 use Rattle.constrain.specs.declared.rule.Rule.{Rule}
 use Rattle.expr.specs.declared.range.Ranges.{Ranges}
 use Rattle.parts.specs.declared.part.Part.{Part}
 use Rattle.idle.specs.Idle.{Leaves}
-use Rattle.parts.specs.Parts.{with_bounds, yes_c, no_c}
+use Rattle.parts.specs.Parts.{is_kept, is_split, with_bounds, yes_c, no_c}
 use Rattle.passing.specs.Laws.{steps_stick}
 use Rattle.passing.specs.Machine.{Machine, no_step, machine_starts, machine_ends, ends_fit, pending_spare, pending_list}
 use Rattle.passing.specs.Machine.{turn_stepped, turn_loaded, turn_passed, turn_dropped, turn_listed}
@@ -25,7 +26,7 @@ use Rattle.segments.specs.Walked.{walk_all, start_all, zones_all}
 use Rattle.segments.specs.declared.segment.Segment.{Segment}
 use Rattle.sheet.specs.Lookup.{location_c, transition_c}
 use Rattle.sheet.specs.declared.Sheet.{Sheet}
-use Rattle.steps.specs.Steps.{no_zone, closed, steps_all, part_c}
+use Rattle.steps.specs.Steps.{no_zone, closed, steps_all, asks_c, guard_of_c, part_c}
 use Rattle.steps.specs.declared.step.Step.{Step}
 use Rattle.steps.specs.declared.step.Steps.{Steps}
 use Rattle.windows_route.specs.Fewer.{fewer_yes, fewer_no}
@@ -259,7 +260,7 @@ module _ {s : Sheet} {end : ℕ} {here : Location} {steps : Steps} {list spare :
       (subst (λ (z : Zones). z.count ≡ 0) is refl)
 
   module _ (quiet : number_c q.halt p.kept ≤ 0) where
-    pub walking_dropped : (q.halt ≡ 3 → ⊥) → (q.halt ≡ 2 → ⊥) → (p' : Pass) → p' ≡ dropped_c p
+    pub walking_dropped : is_split q.halt ≡ false → is_kept q.halt ≡ false → (p' : Pass) → p' ≡ dropped_c p
         → Walking s end here steps list spare hints spares stack waits r p' k
     walking_dropped a c p' e =
         rw e
@@ -267,10 +268,10 @@ module _ {s : Sheet} {end : ℕ} {here : Location} {steps : Steps} {list spare :
         (turn_dropped _ _ _ _ list spare stack r p w.machine inside t.busy q told (number_dropped q.halt p.kept quiet a c))
         (known_dropped s.ranges list hints spare spares stack waits p w.known))
 
-    pub room_listed : q.halt ≡ 2 → p.kept < 32
+    pub room_listed : is_kept q.halt ≡ true → p.kept < 32
     room_listed e = number_listed q.halt p.kept quiet e
 
-    pub walking_listed : q.halt ≡ 2 → (p' : Pass) → p' ≡ listed_c p
+    pub walking_listed : is_kept q.halt ≡ true → (p' : Pass) → p' ≡ listed_c p
         → Walking s end here steps (set list p.kept q.zone) (set spare p.kept (get_or list p.kept no_zone))
         (set hints p.kept h) (set spares p.kept (get_or hints p.kept no_hint)) stack waits r p' k
     walking_listed f p' e =
@@ -279,10 +280,10 @@ module _ {s : Sheet} {end : ℕ} {here : Location} {steps : Steps} {list spare :
         (turn_listed _ _ _ _ list spare stack r p w.machine inside t.busy q told f (room_listed f))
         (known_listed s.ranges list hints spare spares stack waits p w.known q.zone h end_hinted (room_listed f)))
 
-  pub room_split : q.halt ≡ 3 → p.depth < 25
+  pub room_split : is_split q.halt ≡ true → p.depth < 25
   room_split e = split_room _ _ _ _ list spare stack r p w.machine inside t.busy q told e
 
-  module _ (f : q.halt ≡ 3) (no yes : Part) (hn : no ≡ no_c r q) (hy : yes ≡ yes_c r q) where
+  module _ (f : is_split q.halt ≡ true) (no yes : Part) (hn : no ≡ no_c r q) (hy : yes ≡ yes_c r q) where
     abbrev more : List Part
     more = set (set stack (p.depth - 1) no) (p.depth - 1 + 1) yes
 
@@ -376,7 +377,7 @@ module _ {s : Sheet} {end : ℕ} {here : Location} {steps : Steps} {list spare :
         }
 
     pub walking_loaded : (z : Zone) (h : Hint) → Taken z h → (q : Part) → q ≡ part_c st s.clocks z → (r' : Rule)
-        → r' ≡ rule_c s.clocks st.guard z → (p' : Pass) → p' ≡ loaded_c p
+        → (asks_c st ≡ true → r' ≡ rule_c s.clocks (guard_of_c st) z) → (p' : Pass) → p' ≡ loaded_c p
         → Walking s end here steps list spare hints spares (set stack 0 q) (set waits 0 h) r' p' k
     walking_loaded z h took q hq r' hr p' e =
         rw e

@@ -7,7 +7,7 @@ ghost use Rattle.windows_route.specs.Ended.{Zeros, ended_z};
 use guards::Guard;
 use index::Index;
 use running::Task;
-use zones::{Hint, Zone};
+use zones::{Hint, Told, Zone};
 
 // How the walk ends: the refusal, 0 for none, its visit, and how many zones are listed.
 #[derive(Clone, Copy)]
@@ -57,6 +57,7 @@ pub fn walk(
     let mut guard = running::of_guard(clocks, Guard::BLANK);
     let mut s = passing::begun(0, 1);
     let mut k = 0;
+    // No counting loop: a turn works on a part, takes up a zone, goes on to the next step or, now and then, to segment k + 1.
     while k < end {
         if s.j < steps.count {
             if 0 < s.depth {
@@ -74,20 +75,20 @@ pub fn walk(
                         count: 0,
                     };
                 }
-                if t.halt == 3 {
+                if t.halt.is_split() {
                     parting::halved(cells, marks, top, 89, n, guard, t);
                     let no = parting::hint_at(b, cells, marks, top, n + 1, hint);
                     let yes = parting::hint_at(b, cells, marks, top + 1, n + 1, hint);
                     counts[top] = n + 1;
                     counts[top + 1] = n + 1;
-                    let below = running::answered(t, 0);
+                    let below = running::answered(t, Told::No);
                     tasks[d] = below;
-                    let above = running::answered(t, 1);
+                    let above = running::answered(t, Told::Yes);
                     tasks[d + 1] = above;
                     waits[d] = no;
                     waits[d + 1] = yes;
                     s = passing::pushed(s);
-                } else if t.halt == 2 {
+                } else if t.halt.is_kept() {
                     let at = s.kept;
                     let count = counts[at];
                     let known = hints[at];
@@ -128,8 +129,9 @@ pub fn walk(
                         counts[64] = count;
                         tasks[0] = task;
                         waits[0] = known;
-                        let next = running::of_guard(clocks, step.guard);
-                        guard = next;
+                        if let Some(asked) = steps::asked(step) {
+                            guard = running::of_guard(clocks, asked);
+                        }
                         s = passing::loaded(s);
                     }
                 } else {

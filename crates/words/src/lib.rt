@@ -3,16 +3,15 @@
 #![tactic(auto)]
 
 ghost use Rattle.std.specs.Prelude.{◌≡◌, ◌+◌, ◌*◌};
-ghost use Rattle.cursor.specs.Cursor.{shifted, word_taken, signed_taken, word_field, signed_field};
+ghost use Rattle.cursor.specs.Cursor.{shifted, signed_of, word_taken, signed_taken, word_field, signed_field};
 
 use cursor::{Cursor, byte_at, judged, stop, within};
-use numbers::less;
 
 // Two bytes as one number, the first being the low one.
 pub fn word_of(low: u8, high: u8) -> u16
     ensures { result ≡ low + 256 * high }
 {
-    (low as u16) + 256 * (high as u16)
+    u16::from_le_bytes([low, high])
 }
 
 // The next two bytes of a body that ends at `end`, as a number without sign.
@@ -21,7 +20,7 @@ fn take_word(s: &[u8], end: usize, cursor: Cursor) -> Cursor
 {
     let at = cursor.at;
     if cursor.ok {
-        if 2 <= less(end, at) {
+        if 2 <= end.saturating_sub(at) {
             Cursor {
                 ok: true,
                 at: at + 2,
@@ -40,11 +39,14 @@ fn take_word(s: &[u8], end: usize, cursor: Cursor) -> Cursor
 pub fn shifted(word: u16) -> u16
     ensures { result ≡ shifted word }
 {
-    if word < 32768 {
-        word + 32768
-    } else {
-        word - 32768
-    }
+    word.wrapping_add(32768)
+}
+
+// The number of a signed field, from the number plus 32,768.
+pub fn signed_of(word: u16) -> i16
+    ensures { result ≡ signed_of word }
+{
+    (i32::from(word) - 32768) as i16
 }
 
 // The next two bytes as a number with sign, to which 32,768 is added.

@@ -1,7 +1,7 @@
 -- A hint that fits a list of inequalities: its nogoods say of the list what they say of a zone; and how nogoods are learned and passed on.
-use Rattle.std.specs.Prelude.{◌≡◌, refl, Bool, true, false, cond, ◌&&◌, List, [], ◌∷◌, ◌++◌, map, ℕ, zero, suc, ltb, eqb, ℤ, pos, take}
+use Rattle.std.specs.Prelude.{◌≡◌, refl, Bool, true, false, cond, ◌&&◌, List, [], ◌∷◌, ◌++◌, map, ℕ, zero, suc, ltb, ℤ, pos, take}
 use Rattle.std.specs.Prelude.{set}
-use Rattle.std.proofs.Common.{sym, ap, subst, ◌∙◌, true≢false, arith, eqb-true}
+use Rattle.std.proofs.Common.{sym, ap, subst, ◌∙◌, true≢false, arith}
 use Rattle.std.proofs.Math.Option.{Option}
 use Rattle.std.proofs.Math.Option as option
 use Rattle.std.specs.Int.Signed.{le_z}
@@ -9,9 +9,8 @@ use Rattle.integer.specs.Apart.{apart}
 use Rattle.expr.specs.Affine.{Affine, value}
 use Rattle.expr.specs.Ranges.{Inside}
 use Rattle.expr.specs.Records.{affine, range_list}
-use Rattle.expr.specs.declared.bound.Asked.{Asked}
-use Rattle.expr.specs.declared.bound.Asked.TheVariants.{Yes, No, Ask}
 use Rattle.expr.specs.declared.bound.Test.{Test}
+use Rattle.expr.specs.declared.bound.Test.TheVariants.{Yes, No, Ask}
 use Rattle.expr.specs.declared.number.Expr.{Expr}
 use Rattle.expr.specs.declared.number.Valuation.{Valuation}
 use Rattle.expr.specs.declared.range.Ranges.{Ranges}
@@ -22,12 +21,14 @@ use Rattle.systems.specs.BoxLaws.{first_nothing, within_inside}
 use Rattle.valuations.specs.SearchLaws.{first_none}
 use Rattle.valuations.specs.Valuations.{satisfies, first}
 use Rattle.zones.specs.FlatLaws.{Listing, listing_put, listing_same, never_same}
-use Rattle.zones.specs.Hinted.{exprs_of, Guessed, Trusted, Hinted, found_c, learned_c, noted_c}
+use Rattle.zones.specs.Hinted.{exprs_of, Guessed, Trusted, Hinted, found_c, learned_c, noted_by, noted_c}
 use Rattle.zones.specs.Put.{map_last}
 use Rattle.zones.specs.Settled.{Verdict, opposite_c, is_none, never_c, never_f, on_c, settled_c}
 use Rattle.zones.specs.System.{put_in, SameRows}
 use Rattle.zones.specs.Zone.{plus_c, more_c}
 use Rattle.zones.specs.declared.hint.Hint.{Hint}
+use Rattle.zones.specs.declared.told.Told.{Told}
+use Rattle.zones.specs.declared.told.Told.TheVariants as kinds
 use Rattle.zones.specs.declared.zone.Zone.{Zone}
 
 -- the list has the inequalities of a zone and a place behind them, and the hint's nogoods are below 0 where they hold
@@ -131,61 +132,51 @@ learned_trusted z h e t n =
 pub found_trusted : (z : Zone) (h : Hint) (v : Valuation) → Trusted z h → Trusted z (found_c h v)
 found_trusted z h v t = record { nogoods = t.nogoods; guess = t.guess }
 
-pub noted_trusted : (z : Zone) (h : Hint) (t : Test) (kind : ℕ) → Trusted z h → kind ≡ (settled_c h.ranges z t).kind
+pub noted_trusted : (z : Zone) (h : Hint) (t : Test) (kind : Told) → Trusted z h → kind ≡ (settled_c h.ranges z t).kind
     → Trusted z (noted_c h t kind)
 unfolding noted_c on_c
-noted_trusted z h t kind k e = by t.asked e
+noted_trusted z h Yes kind k e = k
+noted_trusted z h No kind k e = k
+noted_trusted z h (Ask x) kind k e = by kind e
   where
-    of : ℕ → Verdict
-    of n = record { kind = n; test = t.expr }
+    of : Told → Verdict
+    of n = record { kind = n; test = x }
 
-    zero_is : (a b c : Bool) → (cond {A = Verdict} a (of 0) (cond b (of 1) (cond c (of 3) (of 8)))).kind ≡ 0 → a ≡ true
-    zero_is true b c h = refl
-    zero_is false true c h = absurd (omega arith)
-    zero_is false false true h = absurd (omega arith)
-    zero_is false false false h = absurd (omega arith)
+    verdict : Bool → Bool → Bool → Verdict
+    verdict a b c = cond {A = Verdict} a (of kinds.No) (cond b (of kinds.Yes) (cond c (of kinds.Split) (of kinds.Full)))
 
-    one_is : (a b c : Bool) → (cond {A = Verdict} a (of 0) (cond b (of 1) (cond c (of 3) (of 8)))).kind ≡ 1 → b ≡ true
-    one_is true b c h = absurd (omega arith)
-    one_is false true c h = refl
-    one_is false false true h = absurd (omega arith)
-    one_is false false false h = absurd (omega arith)
+    no_is : (a b c : Bool) → kinds.No ≡ (verdict a b c).kind → a ≡ true
+    no_is true b c h = refl
+    no_is false true c h = apart cc
+    no_is false false true h = apart cc
+    no_is false false false h = apart cc
+
+    yes_is : (a b c : Bool) → kinds.Yes ≡ (verdict a b c).kind → b ≡ true
+    yes_is true b c h = apart cc
+    yes_is false true c h = refl
+    yes_is false false true h = apart cc
+    yes_is false false false h = apart cc
 
     no : Bool
-    no = never_c h.ranges z t.expr
+    no = never_c h.ranges z x
 
     yes : Bool
-    yes = never_c h.ranges z (opposite_c t.expr)
+    yes = never_c h.ranges z (opposite_c x)
 
-    asked : (a b : Bool) → eqb kind 0 ≡ a → eqb kind 1 ≡ b
-        → kind ≡ (cond {A = Verdict} no (of 0) (cond yes (of 1) (cond (ltb z.count 24) (of 3) (of 8)))).kind
-        → Trusted z (cond {A = Hint} a (learned_c h t.expr) (cond b (learned_c h (opposite_c t.expr)) h))
-    asked true b p q e =
-        learned_trusted z h t.expr k (zero_is no yes (ltb z.count 24) (sym e ∙ eqb-true kind 0 p))
-    asked false true p q e =
-        learned_trusted z h (opposite_c t.expr) k (one_is no yes (ltb z.count 24) (sym e ∙ eqb-true kind 1 q))
-    asked false false p q e = k
+    by : (n : Told) → n ≡ (verdict no yes (ltb z.count 24)).kind → Trusted z (noted_by h x n)
+    by kinds.No e = learned_trusted z h x k (no_is no yes (ltb z.count 24) e)
+    by kinds.Yes e = learned_trusted z h (opposite_c x) k (yes_is no yes (ltb z.count 24) e)
+    by kinds.Split e = k
+    by kinds.Full e = k
 
-    by : (a : Asked) → kind ≡ (settled_c h.ranges z (record { asked = a; expr = t.expr })).kind
-        → Trusted z (noted_c h (record { asked = a; expr = t.expr }) kind)
-    by Yes e = k
-    by No e = k
-    by Ask e = asked (eqb kind 0) (eqb kind 1) refl refl e
-
-pub noted_ranges : (h : Hint) (t : Test) (kind : ℕ) → (noted_c h t kind).ranges ≡ h.ranges
+pub noted_ranges : (h : Hint) (t : Test) (kind : Told) → (noted_c h t kind).ranges ≡ h.ranges
 unfolding noted_c
-noted_ranges h t kind = by t.asked
-  where
-    asked : (a b : Bool)
-        → (cond {A = Hint} a (learned_c h t.expr) (cond b (learned_c h (opposite_c t.expr)) h)).ranges ≡ h.ranges
-    asked true b = refl
-    asked false true = refl
-    asked false false = refl
-
-    by : (a : Asked) → (noted_c h (record { asked = a; expr = t.expr }) kind).ranges ≡ h.ranges
-    by Yes = refl
-    by No = refl
-    by Ask = asked (eqb kind 0) (eqb kind 1)
+noted_ranges h Yes kind = refl
+noted_ranges h No kind = refl
+noted_ranges h (Ask x) kinds.No = refl
+noted_ranges h (Ask x) kinds.Yes = refl
+noted_ranges h (Ask x) kinds.Split = refl
+noted_ranges h (Ask x) kinds.Full = refl
 
 -- ---- what is passed on to a zone whose inequalities hold nowhere else
 abbrev pub Fewer : Zone → Zone → Type 0

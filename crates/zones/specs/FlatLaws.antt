@@ -11,9 +11,8 @@ use Rattle.std.proofs.Math.ListN.{take}
 use Rattle.expr.specs.Affine.{Affine}
 use Rattle.expr.specs.Ranges.{Inside}
 use Rattle.expr.specs.Records.{PARAMETERS, affine, blank_range, range_list}
-use Rattle.expr.specs.declared.bound.Asked.{Asked}
-use Rattle.expr.specs.declared.bound.Asked.TheVariants.{Yes, No, Ask}
 use Rattle.expr.specs.declared.bound.Test.{Test}
+use Rattle.expr.specs.declared.bound.Test.TheVariants.{Yes, No, Ask}
 use Rattle.expr.specs.declared.number.Expr.{Expr}
 use Rattle.expr.specs.declared.range.Ranges.{Ranges}
 use Rattle.systems.specs.Boxes.{Narrows}
@@ -23,6 +22,8 @@ use Rattle.valuations.specs.Valuations.{satisfies, first}
 use Rattle.zones.specs.Put.{written_keeps, written_length, written_next, map_last}
 use Rattle.zones.specs.Settled.{Verdict, opposite_c, is_none, never_c, on_c, settled_c, never_f, on_f, settled_f}
 use Rattle.zones.specs.System.{put_in, SameRows}
+use Rattle.zones.specs.declared.told.Told.{Told}
+use Rattle.zones.specs.declared.told.Told.TheVariants as kinds
 use Rattle.zones.specs.declared.zone.Zone.{Zone}
 
 -- the list has the zone's inequalities and a place behind them, and the ranges c are those of b that they leave
@@ -69,10 +70,12 @@ module _ (b c : Ranges) (z : Zone) (n : ℕ) where
       room true s = lt-ltb n 24 (omega (arith, h.counted, ltb-true z.count 24 s)) ∙ sym s
       room false s = le-ltb n 24 (omega (arith, h.counted, ltb-false z.count 24 s)) ∙ sym s
 
-      of : ℕ → Verdict
+      of : Told → Verdict
       of k = record { kind = k; test = e }
 
-      by : (r s t : Bool) → cond r 0 (cond s 1 (cond t 3 8)) ≡ (cond {A = Verdict} r (of 0) (cond s (of 1) (cond t (of 3) (of 8)))).kind
+      by : (r s t : Bool)
+          → cond r kinds.No (cond s kinds.Yes (cond t kinds.Split kinds.Full))
+          ≡ (cond {A = Verdict} r (of kinds.No) (cond s (of kinds.Yes) (cond t (of kinds.Split) (of kinds.Full)))).kind
       by true s t = refl
       by false true t = refl
       by false false true = refl
@@ -80,12 +83,9 @@ module _ (b c : Ranges) (z : Zone) (n : ℕ) where
 
   pub settled_same : (l : List ℤ) (t : Test) → Listing b c z n l → settled_f c l n t ≡ (settled_c b z t).kind
   unfolding settled_f
-  settled_same l t h = by t.asked
-    where
-      by : (a : Asked) → settled_f c l n (record { asked = a; expr = t.expr }) ≡ (settled_c b z (record { asked = a; expr = t.expr })).kind
-      by Yes = refl
-      by No = refl
-      by Ask = on_same l t.expr h
+  settled_same l Yes h = refl
+  settled_same l No h = refl
+  settled_same l (Ask e) h = on_same l e h
 
 -- what a zone's inequalities leave, as a flat list of them says it
 pub narrows_zone : (b c : Ranges) (z : Zone) (n : ℕ) (l : List ℤ) → exprs_in l n ≡ map affine (take z.count z.ineqs)

@@ -1,11 +1,10 @@
 -- What is known of a zone before its tests, and what is learned by them.
-use Rattle.std.specs.Prelude.{◌≡◌, true, cond, List, map, ℕ, eqb, ℤ, take}
+use Rattle.std.specs.Prelude.{◌≡◌, true, List, map, ℤ, take}
 use Rattle.expr.specs.Affine.{Affine}
 use Rattle.expr.specs.Ranges.{Inside}
 use Rattle.expr.specs.Records.{affine, range_list}
-use Rattle.expr.specs.declared.bound.Asked.{Asked}
-use Rattle.expr.specs.declared.bound.Asked.TheVariants.{Yes, No, Ask}
 use Rattle.expr.specs.declared.bound.Test.{Test}
+use Rattle.expr.specs.declared.bound.Test.TheVariants.{Yes, No, Ask}
 use Rattle.expr.specs.declared.number.Expr.{Expr}
 use Rattle.expr.specs.declared.number.Valuation.{Valuation}
 use Rattle.expr.specs.declared.range.Ranges.{Ranges}
@@ -14,6 +13,8 @@ use Rattle.systems.specs.Boxes.{Narrows}
 use Rattle.valuations.specs.Valuations.{satisfies}
 use Rattle.zones.specs.Settled.{opposite_c}
 use Rattle.zones.specs.declared.hint.Hint.{Hint}
+use Rattle.zones.specs.declared.told.Told.{Told}
+use Rattle.zones.specs.declared.told.Told.TheVariants as kinds
 use Rattle.zones.specs.declared.zone.Zone.{Zone}
 
 -- a zone's inequalities
@@ -45,10 +46,13 @@ abbrev pub found_c : Hint → Valuation → Hint
 found_c h v = record { ranges = h.ranges; guess = h.guess; sure = h.sure; other = v; nogoods = h.nogoods }
 
 -- what a verdict on a test says: where it is no the test is a nogood, where it is yes its opposite
-abbrev pub noted_by : Hint → Asked → Expr → ℕ → Hint
-noted_by h Yes e kind = h
-noted_by h No e kind = h
-noted_by h Ask e kind = cond (eqb kind 0) (learned_c h e) (cond (eqb kind 1) (learned_c h (opposite_c e)) h)
+abbrev pub noted_by : Hint → Expr → Told → Hint
+noted_by h e kinds.No = learned_c h e
+noted_by h e kinds.Yes = learned_c h (opposite_c e)
+noted_by h e kinds.Split = h
+noted_by h e kinds.Full = h
 
-unfoldable pub noted_c : Hint → Test → ℕ → Hint
-noted_c h t kind = noted_by h t.asked t.expr kind
+unfoldable pub noted_c : Hint → Test → Told → Hint
+noted_c h Yes kind = h
+noted_c h No kind = h
+noted_c h (Ask e) kind = noted_by h e kind

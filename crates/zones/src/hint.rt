@@ -1,21 +1,22 @@
 // What is known of a zone before its tests, and what is learned by them.
-ghost use Rattle.std.specs.Prelude.{◌≡◌, cond, true, map, take, eqb};
+ghost use Rattle.std.specs.Prelude.{◌≡◌, cond, true, map, take};
 ghost use Rattle.expr.specs.Records.{affine, range_list};
 ghost use Rattle.systems.specs.Boxes.{Narrows};
 ghost use Rattle.expr.specs.Ranges.{Inside};
 ghost use Rattle.inequalities.specs.Flat.{exprs_in};
 ghost use Rattle.nogoods.specs.Nogoods.{none_n};
 ghost use Rattle.valuations.specs.Valuations.{satisfies};
-ghost use Rattle.zones.specs.Hinted.{Guessed, found_c, learned_c, noted_c};
-ghost use Rattle.zones.specs.Settled.{opposite_c};
+ghost use Rattle.zones.specs.Hinted.{Guessed, found_c, learned_c, noted_by, noted_c};
 
 use crate::system;
+use crate::told::Told;
 use crate::zone::Zone;
-use expr::{Asked, Expr, Ranges, Test, Valuation};
+use expr::{Expr, Ranges, Test, Valuation};
 use nogoods::Nogoods;
 
 // What is known of a zone: the ranges that its inequalities leave; a valuation that it holds, where that is sure, else one that it may
-// hold; another one, that it may hold too; and expressions that no valuation of the zone makes 0 or more.
+// hold; another one, that it may hold too; and expressions that no valuation of the zone makes 0 or more. The guess is no Option: it is
+// handed on to the parts where it is not sure, too.
 #[derive(Clone, Copy)]
 pub struct Hint {
     pub ranges: Ranges,
@@ -108,26 +109,24 @@ fn learned(h: Hint, e: Expr) -> Hint
 }
 
 // With what the verdict `kind` on e ≥ 0 says: e is a nogood where it is no, its opposite where it is yes.
-fn told(h: Hint, e: Expr, kind: usize) -> Hint
-    ensures { result ≡ cond (eqb kind 0) (learned_c h e) (cond (eqb kind 1) (learned_c h (opposite_c e)) h) }
+fn answered(h: Hint, e: Expr, kind: Told) -> Hint
+    ensures { result ≡ noted_by h e kind }
 {
-    if kind == 0 {
-        return learned(h, e);
+    match kind {
+        Told::No => learned(h, e),
+        Told::Yes => learned(h, e.opposite()),
+        Told::Split => h,
+        Told::Full => h,
     }
-    if kind == 1 {
-        return learned(h, e.opposite());
-    }
-    h
 }
 
 // With what the verdict `kind` on a test says, if it asked something.
-pub fn noted(h: Hint, test: Test, kind: usize) -> Hint
+pub fn noted(h: Hint, test: Test, kind: Told) -> Hint
     ensures { result ≡ noted_c h test kind }
 {
-    let asked = test.asked;
-    match asked {
-        Asked::Yes => h,
-        Asked::No => h,
-        Asked::Ask => told(h, test.expr, kind),
+    match test {
+        Test::Yes => h,
+        Test::No => h,
+        Test::Ask(e) => answered(h, e, kind),
     }
 }

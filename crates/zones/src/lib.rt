@@ -3,8 +3,10 @@
 
 mod hint;
 mod system;
+mod told;
 mod zone;
 
 pub use hint::{Hint, better, found, hint_of, holds, noted};
 pub use system::{Flat, flat_of, put};
+pub use told::Told;
 pub use zone::{Zone, Zones, with_inequality, with_opposite};

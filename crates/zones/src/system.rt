@@ -1,11 +1,10 @@
 // Inequalities as a flat list of numbers, as the search takes them: 1 + PARAMETERS each, the constant, then the coefficients.
 ghost use Rattle.std.specs.Prelude.{◌≡◌, map, min, length, take};
 ghost use Rattle.expr.specs.Records.{affine};
-ghost use Rattle.inequalities.specs.Flat.{exprs_in};
-ghost use Rattle.zones.specs.System.{put_in};
+ghost use Rattle.inequalities.specs.Flat.{exprs_in, put_in};
 
 use crate::zone::Zone;
-use expr::{Expr, PARAMETERS};
+use expr::Expr;
 
 // The first `count` inequalities of the list, 24 at most; there is room for one more, a test.
 #[derive(Clone, Copy)]
@@ -21,14 +20,7 @@ pub fn put(flat: &mut [i32], k: usize, e: Expr)
     if k < 25 {
         if 125 <= flat.len() {
             let at = 5 * k;
-            let constant = e.constant;
-            flat[at] = constant;
-            let mut i = 0;
-            while i < PARAMETERS {
-                let x = e.coefs[i];
-                flat[at + 1 + i] = x;
-                i += 1;
-            }
+            inequalities::put(flat, at, e);
         }
     }
 }
@@ -38,13 +30,11 @@ pub fn flat_of(zone: Zone) -> Flat
     ensures count_value { exprs_in result.numbers result.count ≡ map affine (take zone.count zone.ineqs) }
     ensures counted { result.count ≡ min zone.count 24 }
 {
-    let n = numbers::at_most(zone.count, 24);
+    let n = zone.count.min(24);
     let mut flat = [0i32; 125];
-    let mut i = 0;
-    while i < n {
+    for i in 0..n {
         let x = zone.ineqs[i];
         put(&mut flat, i, x);
-        i += 1;
     }
     Flat {
         count: n,

@@ -1,9 +1,5 @@
-use Prim.Native.Nat.{◌≤◌, ◌-◌}
 use Rattle.guard_bytes.specs.Plain.{CoefsKept}
 use Rattle.guard_bytes.proofs.coefs_plain.Given as goal
 
 abbrev pub invariant-loop-i : goal.invariant-loop-i
-invariant-loop-i l = (l.i ≤ l.parameters) × CoefsKept l.file l.parameters l.at l.constant l.i l.word l.list
-
-abbrev pub decreases-loop-i : goal.decreases-loop-i
-decreases-loop-i l = l.parameters - l.i
+invariant-loop-i l = CoefsKept l.file l.parameters l.at l.constant l.i l.word l.list

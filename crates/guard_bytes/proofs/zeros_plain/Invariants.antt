@@ -1,10 +1,6 @@
-use Prim.Native.Nat.{◌≤◌, ◌-◌}
 use Rattle.guard_bytes.specs.Plain.{ZerosKept}
 use Rattle.guard_bytes.proofs.zeros_plain.Given as goal
 
 -- `zeros_plain` meets its contract. The invariant: the coefficients before i were read, and are zeros. Assumes nothing.
 abbrev pub invariant-loop-i : goal.invariant-loop-i
-invariant-loop-i l = (l.parameters ≤ l.i) × (l.i ≤ l.most) × ZerosKept l.file l.most l.parameters l.at l.i
-
-abbrev pub decreases-loop-i : goal.decreases-loop-i
-decreases-loop-i l = l.most - l.i
+invariant-loop-i l = ZerosKept l.file l.most l.parameters l.at l.i

@@ -8,14 +8,14 @@ use Rattle.guard_fields.proofs.zeros_at.Goals as goal
 
 pub loop-i-init : goal.loop-i-init
 unfolding iterate
-loop-i-init c = (omega arith, refl)
+loop-i-init c = refl
 
 pub loop-i-preserved : goal.loop-i-preserved
 unfolding iterate
-loop-i-preserved c = (omega arith, rw add-one (simp (c.zero_step-after.ensures, c.loop-i.invariant.1)))
+loop-i-preserved c = rw add-one (simp (c.zero_step-after.ensures, c.loop-i.invariant))
 
 pub returns : goal.returns
 unfolding zeros_at
 returns c =
     let h : c.loop-i.i ≡ 4 = omega arith in
-    simp (c.loop-i.invariant.1, h)
+    simp (c.loop-i.invariant, h)

@@ -9,26 +9,18 @@ use Rattle.guard_lists.proofs.guards_by_field.Goals as goal
 
 pub loop-i-init : goal.loop-i-init
 unfolding iterate
-loop-i-init c = (omega arith, refl)
+loop-i-init c = refl
 
 pub guard_step-list-requires : goal.guard_step-list-requires
 unfolding iterate
 guard_step-list-requires c = omega arith
 
-pub overflow_add-i : goal.overflow_add-i
-unfolding iterate
-overflow_add-i c = omega arith
-
-pub loop-i-smaller : goal.loop-i-smaller
-unfolding iterate
-loop-i-smaller c = omega arith
-
 pub loop-i-preserved : goal.loop-i-preserved
 unfolding iterate
-loop-i-preserved c = (omega arith, rw add-one (simp (c.guard_step-list.ensures, c.loop-i.invariant.1)))
+loop-i-preserved c = rw add-one (simp (c.guard_step-list.ensures, c.loop-i.invariant))
 
 pub returns : goal.returns
 unfolding guards_from blank_guards blank_guard
 returns c =
     let h : c.loop-i.i ≡ 6 = omega arith in
-    simp (c.loop-i.invariant.1, h)
+    simp (c.loop-i.invariant, h)

@@ -31,6 +31,6 @@ pub returns-in-Ask : goal.returns-in-Ask
 returns-in-Ask c =
     let a = c.args in
     let four : length a.hint.ranges.list ≡ 4 = search rules in
-    λ e. fails_best a.hint a.test c.in-Ask.is
-    (below-is _ _ (c.best.ensures.value ∙ ap (best_of (affine a.test.expr)) (sym (places_all blank_range a.hint.ranges.list four)))
+    λ e. fails_best a.hint a.test _ c.in-Ask.is
+    (below-is _ _ (c.best.ensures.value ∙ ap (best_of (affine c.in-Ask.e)) (sym (places_all blank_range a.hint.ranges.list four)))
     (lt_z_true (rw (best-is c) at e)))

@@ -1,21 +1,24 @@
 -- `indexed` meets its contract: the tests on the way pick the definition's case. Assumes nothing.
-use Rattle.indexing.proofs.IndexSteps.{read_judged, read_contents, read_size}
+use Rattle.reading.specs.File.{read_of, refused_by}
+use Rattle.indexing.specs.IndexedLaws.{index_same}
 use Rattle.indexing.proofs.indexed.Goals as goal
 
+pub returns-then-not-sized : goal.returns-then-not-sized
+unfolding read_of refused_by
+returns-then-not-sized c = simp (rw c.sized.ensures at c.if-not-sized.true)
+
 pub returns-then-cursor : goal.returns-then-cursor
+unfolding read_of
 returns-then-cursor c =
-    let bodies = c.before in
-    let contents = bodies.before.before.before in
-    read_judged _ _ _ _ c.judged_index.result contents.sized.ensures contents.if-sized.true
-    contents.contents_of-contents.ensures
-    bodies.if-cursor.true bodies.index_of.ensures c.judged_index.ensures
+    let e = c.contents_of-contents.ensures in
+    let o = rw e at c.if-cursor.true in
+    let z = rw c.sized.ensures at c.if-not-sized.false in
+    simp (c.judged_index.ensures, c.index_of.ensures, e, index_same c.args.file.now z o, z, o)
 
 pub returns-else-cursor : goal.returns-else-cursor
+unfolding read_of refused_by
 returns-else-cursor c =
-    let contents = c.before.before.before in
-    read_contents _ _ _ c.no_index.result contents.sized.ensures contents.if-sized.true
-    contents.contents_of-contents.ensures
-    c.if-cursor.false c.no_index.ensures
-
-pub returns-else-sized : goal.returns-else-sized
-returns-else-sized c = read_size _ _ c.no_index-else-sized.result c.sized.ensures c.if-sized.false c.no_index-else-sized.ensures
+    let e = c.contents_of-contents.ensures in
+    let o = rw e at c.if-cursor.false in
+    let z = rw c.sized.ensures at c.if-not-sized.false in
+    simp (z, o, e)

@@ -3,25 +3,14 @@ use borrow.Author.Tests.{lt-ltb, eq-eqb, ne_eqb}
 use Rattle.route.specs.Route.{link_step}
 use Rattle.links.proofs.link_step.Goals as goal
 
-pub returns-then-ends-link : goal.returns-then-ends-link
+pub returns-then-ends-location : goal.returns-then-ends-location
 unfolding link_step
-returns-then-ends-link c =
-    let ends = c.before.before.before.before in
-    let h = rw ends.ends_at-ends.ensures at c.if-ends-link.true in
-    simp (
-      lt-ltb _ _ ends.requires.1,
-      c.if-link.true,
-      ends.ends_at-ends.ensures,
-      eq-eqb _ _ h,
-    )
+returns-then-ends-location c =
+    let h = rw c.ends_at-ends.ensures at c.if-ends-location.true in
+    simp (lt-ltb _ _ c.requires.1, c.ends_at-ends.ensures, eq-eqb _ _ h)
 
-pub returns-else-ends-link : goal.returns-else-ends-link
+pub returns-else-ends-location : goal.returns-else-ends-location
 unfolding link_step
-returns-else-ends-link c =
-    let ends = c.before.before.before.before in
-    let h = rw ends.ends_at-ends.ensures at c.if-ends-link.false in
-    simp (lt-ltb _ _ ends.requires.1, c.if-link.true, ne_eqb _ _ h)
-
-pub returns-else-link : goal.returns-else-link
-unfolding link_step
-returns-else-link c = simp (lt-ltb _ _ c.requires.1, c.if-link.false)
+returns-else-ends-location c =
+    let h = rw c.ends_at-ends.ensures at c.if-ends-location.false in
+    simp (lt-ltb _ _ c.requires.1, ne_eqb _ _ h)

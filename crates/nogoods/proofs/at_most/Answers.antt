@@ -1,25 +1,17 @@
 -- The same coefficients, and a constant that is no more.
-use lib.IntN.{◌-ℤ◌}
-use mir.Syntax.{w32, w64}
-use mir.Val.{SFits}
-use mir.ValLaws.{to_z-of_z}
-use Rattle.integer.specs.Apart.{apart}
-use Rattle.integer.specs.Bits.{heard}
+use mathlib.Core.Path.{◌≡◌, ap}
+use mathlib.Core.List.{List}
+use native.Mathlib.Omega.{arith}
+use lib.IntN.{ℤ, pos}
+use lib.ListN.{get_or}
+use Rattle.std.proofs.lemmas.Bool.Decides.{Decides-int_eq}
+use Rattle.std.proofs.lemmas.Int.{ints}
+use Rattle.std.proofs.lemmas.Slice.Eq.{slice_eq-Decides}
 use Rattle.nogoods.specs.Nogoods.{same_less}
-use Rattle.nogoods.proofs.Signs.{is_less}
-use borrow.Author.Rules.{rules}
 use Rattle.nogoods.proofs.at_most.Goals as goal
 
-pub returns-then-same : goal.returns-then-same
-returns-then-same c =
-    let f : SFits w64 c.difference.result = search rules in
-    let at = c.before.before.before in
-    let s = at.args in
-    let g : SFits w32 s.e.constant = search rules in
-    let h : SFits w32 s.f.constant = search rules in
-    λ e. same_less s.e s.f (at.same.ensures at.if-same.true)
-    (is_less s.e.constant s.f.constant _ _ (heard ◌-ℤ◌ w32 w32 _ s.e.constant s.f.constant c.difference.ensures g h)
-    (to_z-of_z w64 c.difference.result f) e)
-
-pub returns : goal.returns
-returns c = λ e. apart cc
+pub returns-then-eq : goal.returns-then-eq
+returns-then-eq c =
+    let s = c.args in
+    let same : s.e.coefs ≡ s.f.coefs = (slice_eq-Decides Decides-int_eq _ _ _ c.eq.ensures).0 c.if-eq.true in
+    λ no_more. same_less s.e s.f (λ m h. ap (λ (l : List ℤ). get_or l m (pos 0)) same) (grind (arith, ints))

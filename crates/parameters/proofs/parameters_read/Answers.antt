@@ -8,14 +8,14 @@ use Rattle.parameters.proofs.parameters_read.Goals as goal
 
 pub loop-i-init : goal.loop-i-init
 unfolding iterate
-loop-i-init c = (omega arith, refl)
+loop-i-init c = refl
 
 pub loop-i-preserved : goal.loop-i-preserved
 unfolding iterate
-loop-i-preserved c = (omega arith, rw add-one (simp (c.range_step-all.ensures, c.loop-i.invariant.1)))
+loop-i-preserved c = rw add-one (simp (c.range_step-all.ensures, c.loop-i.invariant))
 
 pub returns : goal.returns
 unfolding parameters_read blank_ranges
 returns c =
     let h : c.loop-i.i ≡ 4 = omega arith in
-    simp (c.loop-i.invariant.1, h, c.byte_field-count.ensures)
+    simp (c.loop-i.invariant, h, c.byte_field-count.ensures)

@@ -1,4 +1,3 @@
-use Prim.Native.Nat.{◌≤◌, ◌-◌}
 use mathlib.Core.Path.{◌≡◌}
 use Rattle.cursor.specs.Cursor.{iterate}
 use Rattle.parameters.specs.Parameters.{range_step}
@@ -6,7 +5,4 @@ use Rattle.parameters.proofs.parameters_read.Given as goal
 
 -- `parameters::parameters_read` meets its contract. The invariant: after i steps the ranges are what `iterate` gives. Assumes nothing.
 abbrev pub invariant-loop-i : goal.invariant-loop-i
-invariant-loop-i l = (l.i ≤ 4) × (l.all ≡ iterate (range_step l.file l.end) l.initial.all l.i)
-
-abbrev pub decreases-loop-i : goal.decreases-loop-i
-decreases-loop-i l = 4 - l.i
+invariant-loop-i l = l.all ≡ iterate (range_step l.file l.end) l.initial.all l.i

@@ -7,4 +7,4 @@ pub returns : goal.returns
 unfolding range_of
 returns c =
     let fits = c.ranges in
-    simp (c.short_of-2.ensures, c.short_of.ensures, kept_short _ fits.low, kept_short _ fits.high)
+    simp (c.signed_of-2.ensures, c.signed_of.ensures, kept_short _ fits.low, kept_short _ fits.high)

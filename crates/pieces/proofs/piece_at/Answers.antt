@@ -1,9 +1,8 @@
 -- Inequalities and entries are read one after another.
 use mathlib.Core.Path.{◌≡◌, refl, ap, ◌∙◌}
 use mathlib.Core.Bool.{true}
-use Prim.Native.Nat.{◌-◌}
 use native.Mathlib.Omega.{arith}
-use lib.ListN.{length, get_or, length-map}
+use lib.ListN.{length, get_or}
 use Rattle.cells.specs.Cells.{no_cell, cells_in}
 use Rattle.expr.specs.declared.number.Valuation.{Valuation}
 use Rattle.holding.proofs.First.{first_held_is}
@@ -37,11 +36,9 @@ returns c =
     let loop = c.loop-i in
     let a = c.args in
     let cell = get_or (cells_in a.cells.now a.marks.now) a.p no_cell in
-    let found = c.first-found in
     let few = c.requires.1.1 in
     reading_ends a.cells.now a.marks.now a.p a.n loop.i _ loop.z c.bound_at-2.result few loop.invariant
     (search rules) c.bound_at-2.ensures
     ∙ ap (λ (v : Valuation). record { used = true; first = v; count = a.n; ineqs = cell.ineqs; bounds = cell.bounds })
-    (first_held_is a.b found.result _ _
-    (rows_first a.cells.now a.marks.now a.p a.n _ few c.at_most.ensures)
-    found.ensures)
+    (c.unwrap_or-first.ensures
+    ∙ first_held_is a.b c.first.result _ _ (rows_first a.cells.now a.marks.now a.p a.n _ few c.min.ensures) c.first.ensures)

@@ -8,4 +8,4 @@ returns-then-cursor c = simp c.if-cursor.true c.judged_widths.ensures
 
 pub returns-else-cursor : goal.returns-else-cursor
 unfolding judged_bodies refused_by
-returns-else-cursor c = simp c.if-cursor.false c.refused.ensures
+returns-else-cursor c = simp c.if-cursor.false

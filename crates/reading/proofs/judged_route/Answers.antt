@@ -1,16 +1,12 @@
--- `judged_route` meets its contract: the test on the way picks the definition's case. Assumes nothing.
+-- `judged_route` meets its contract: where the route ends picks the definition's case. Assumes nothing.
+use mathlib.Core.Path.{sym}
 use Rattle.reading.specs.File.{judged_route, refused_by}
 use Rattle.reading.proofs.judged_route.Goals as goal
 
-pub returns-then-link : goal.returns-then-link
+pub returns-in-Ok : goal.returns-in-Ok
 unfolding judged_route refused_by
-returns-then-link c =
-    let h = rw c.links_of-link.ensures at c.if-link.true in
-    simp h
+returns-in-Ok c = simp (sym c.in-Ok.ensures)
 
-pub returns-else-link : goal.returns-else-link
+pub returns-in-Err : goal.returns-in-Err
 unfolding judged_route refused_by
-returns-else-link c =
-    let e = c.links_of-link.ensures in
-    let h = rw e at c.if-link.false in
-    simp (h, c.refused.ensures, e)
+returns-in-Err c = simp (sym c.in-Err.ensures)

@@ -12,4 +12,4 @@ pub returns-else-few_valuations : goal.returns-else-few_valuations
 unfolding judged_widths refused_by
 returns-else-few_valuations c =
     let h = rw c.few_valuations.ensures at c.if-few_valuations.false in
-    simp h c.refused.ensures
+    simp h

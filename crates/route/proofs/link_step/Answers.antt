@@ -3,23 +3,19 @@ use borrow.Author.Tests.{lt-ltb, le-ltb, eq-eqb, ne_eqb}
 use Rattle.route.specs.Route.{link_step}
 use Rattle.route.proofs.link_step.Goals as goal
 
-pub returns-then-ends-link : goal.returns-then-ends-link
+pub returns-then-ends-location : goal.returns-then-ends-location
 unfolding link_step
-returns-then-ends-link c =
+returns-then-ends-location c =
     let e = c.ends_at-ends.ensures in
-    let h = rw e at c.if-ends-link.true in
-    simp (lt-ltb _ _ c.if-k-moves.true, c.if-link.true, e, eq-eqb _ _ h)
+    let h = rw e at c.if-ends-location.true in
+    simp (lt-ltb _ _ c.if-k-moves.true, e, eq-eqb _ _ h)
 
-pub returns-else-ends-link : goal.returns-else-ends-link
+pub returns-else-ends-location : goal.returns-else-ends-location
 unfolding link_step
-returns-else-ends-link c =
+returns-else-ends-location c =
     let e = c.ends_at-ends.ensures in
-    let h = rw e at c.if-ends-link.false in
-    simp (lt-ltb _ _ c.if-k-moves.true, c.if-link.true, ne_eqb _ _ h)
-
-pub returns-else-link : goal.returns-else-link
-unfolding link_step
-returns-else-link c = simp (lt-ltb _ _ c.if-k-moves.true, c.if-link.false)
+    let h = rw e at c.if-ends-location.false in
+    simp (lt-ltb _ _ c.if-k-moves.true, ne_eqb _ _ h)
 
 pub returns-else-k-moves : goal.returns-else-k-moves
 unfolding link_step

@@ -1,10 +1,6 @@
-use Prim.Native.Nat.{◌≤◌, ◌-◌}
 use Rattle.route.proofs.RouteSteps.{Read}
 use Rattle.route.proofs.route_read.Given as goal
 
 -- `route::route_read` meets its contract. The invariant: after i bytes the route is what `iterate` gives. Assumes nothing.
 abbrev pub invariant-loop-i : goal.invariant-loop-i
-invariant-loop-i l = (l.i ≤ l.n) × Read l.file l.end l.transitions l.count l.i l.here l.list
-
-abbrev pub decreases-loop-i : goal.decreases-loop-i
-decreases-loop-i l = l.n - l.i
+invariant-loop-i l = Read l.file l.end l.transitions l.count l.i l.here l.list

@@ -6,6 +6,7 @@ use Rattle.cells.specs.CellLaws.{cells_long}
 use Rattle.split.specs.Stack.{start_live}
 use Rattle.zones.specs.Hinted.{Trusted}
 use Rattle.staying.specs.Stays.{copied_here, stays_left, stays_back}
+use Rattle.steps.specs.declared.step.Step.TheVariants as step
 use Rattle.staying.proofs.guarded.Goals as goal
 
 pub run-stop-requires : goal.run-stop-requires
@@ -27,15 +28,15 @@ run-stop-requires c =
       );
     }
 
-pub returns-then-task-eq2 : goal.returns-then-task-eq2
-returns-then-task-eq2 c =
+pub returns-then-is_kept : goal.returns-then-is_kept
+returns-then-is_kept c =
     let a = c.args in
     let cs = cells_in a.cells.now a.marks.now in
     let ran = c.run-stop in
     let full = cells_long a.cells.now a.marks.now in
     let pre = c.requires.cells_len.1.1 in
-    stays_left cs a.p a.clocks a.step a.n a.hint full pre.0 pre.1.1 _ _ c.copy.ensures _ c.of_guard.ensures
-    ran.result.task ran.result.hint ran.ensures.ran ran.ensures.same ran.ensures.known c.if-task-eq2.true
+    stays_left cs a.p a.clocks (step.Guard a.guard) a.n a.hint full pre.0 pre.1.1 _ _ c.copy.ensures _ c.of_guard.ensures
+    ran.result.task ran.result.hint ran.ensures.ran ran.ensures.same ran.ensures.known (sym c.is_kept.ensures ∙ c.if-is_kept.true)
 
 pub copy-requires-2 : goal.copy-requires-2
 copy-requires-2 c =
@@ -51,5 +52,5 @@ returns c =
     let ran = c.run-stop in
     let full = cells_long a.cells.now a.marks.now in
     let pre = c.requires.cells_len.1.1 in
-    stays_back cs a.p a.clocks a.step a.n a.hint full pre.0 pre.1.1 _ _ c.copy.ensures _ c.of_guard.ensures
+    stays_back cs a.p a.clocks (step.Guard a.guard) a.n a.hint full pre.0 pre.1.1 _ _ c.copy.ensures _ c.of_guard.ensures
     ran.result.task ran.result.hint ran.ensures.ran ran.ensures.same ran.ensures.known _ c.copy-2.ensures

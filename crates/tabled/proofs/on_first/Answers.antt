@@ -1,18 +1,20 @@
 -- The first n places are lent; the others are as they were.
 use mathlib.Core.Path.{◌≡◌, ap, ◌∙◌}
 use mathlib.Core.List.{List, ◌++◌}
-use Prim.Native.Nat.{ℕ, ◌≤◌}
+use Prim.Native.Nat.{ℕ}
 use native.Mathlib.Omega.{arith}
 use borrow.Author.Rules.{rules}
 use lib.ListN.{length, take, length-take}
-use Rattle.answers.specs.declared.windows.Answer.{Answer}
+use Rattle.std.specs.declared.result.Result.{Result}
+use Rattle.answers.specs.declared.windows.Counts.{Counts}
+use Rattle.answers.specs.declared.windows.Refused.{Refused}
 use Rattle.windows_reply.specs.Reply.{Answered, answered_as, answered_of, reply_of}
 use Rattle.pieces.specs.Pieces.{table_of}
 use Rattle.pieces.specs.declared.Piece.{Piece}
-use Rattle.tabled.specs.On.{Tabled, tabled_as, windows_on}
+use Rattle.tabled.specs.On.{tabled_as, windows_on}
 use Rattle.tabled.proofs.on_first.Goals as goal
 
-tabled_is : (r : Answer) (t u y : List Piece) (x : Answered) → answered_as r ≡ x → t ≡ y
+tabled_is : (r : Result Counts Refused) (t u y : List Piece) (x : Answered) → answered_as r ≡ x → t ≡ y
     → tabled_as (record { answer = r; table = t ++ u }) ≡ record { answered = x; table = y ++ u }
 tabled_is r t u y x e f =
     ap (λ (z : Answered). record { answered = z; table = t ++ u }) e

@@ -18,7 +18,7 @@ loop-i-init c =
     let start = c.args in
     let f : SFits w32 start.e.constant = search rules in (
       omega arith,
-      rw (held w64 _ start.e.constant (passed w32 _ _ c.wide-sum.ensures f) (sfits_widen {w = w32} tt f))
+      rw (held w64 _ start.e.constant (passed w32 _ _ c.from-sum.ensures f) (sfits_widen {w = w32} tt f))
           (sum_start start.e start.v f),
     )
 

@@ -6,14 +6,13 @@ use Rattle.windows_reply.proofs.listed.Goals as goal
 pub returns-then-end-gt0 : goal.returns-then-end-gt0
 returns-then-end-gt0 c =
     let a = c.args in
-    c.blank.ensures a.cells.now a.marks.now a.counts.now
-    ∙ listed_refused a.b a.end a.cells.now a.marks.now a.counts.now c.refused.result
+    listed_refused a.b a.end a.cells.now a.marks.now a.counts.now c.refused.result
     c.if-end-gt0.true c.refused.ensures
 
 pub returns : goal.returns
 returns c =
     let a = c.args in
     listed_zones a.b a.end a.cells.now a.marks.now a.counts.now c.kept-kept.result
-    c.count-all.result c.less.result c.if-end-gt0.false
+    c.count-all.result c.saturating_sub.result c.if-end-gt0.false
     (c.kept-kept.ensures ∙ kept_is a.b a.cells.now a.marks.now a.counts.now a.end.count)
-    (all_is a.b a.cells.now c.count-all.result c.count-all.ensures c.requires.0) c.less.ensures
+    (all_is a.b a.cells.now c.count-all.result c.count-all.ensures c.requires.0) c.saturating_sub.ensures

@@ -1,30 +1,20 @@
 -- Refusal 1, then what `indexed` gave.
 use mathlib.Core.Path.{◌∙◌}
-use Rattle.windows_reply.proofs.Steps.{reading_of, small_reply, read_right, read_reply_lem, refused_reply_lem}
+use Rattle.indexing.specs.IndexedLaws.{indexing_well_formed}
+use Rattle.windows_reply.proofs.Steps.{small_reply, index_reply, refused_reply_lem}
 use Rattle.windows_reply.proofs.work_for.Goals as goal
 
 pub returns-then-places-lt32 : goal.returns-then-places-lt32
-returns-then-places-lt32 c =
-    let a = c.args in
-    c.blank.ensures a.cells.now a.marks.now a.counts.now ∙ small_reply a.file.now a.places c.if-places-lt32.true
+returns-then-places-lt32 c = small_reply c.args.file.now c.args.places c.if-places-lt32.true
 
 pub cut_file-requires : goal.cut_file-requires
-cut_file-requires c =
-    let file = c.args.file.now in (
-      read_right file (reading_of file c.indexed-reading.result) c.indexed-reading.ensures c.in-Fine.is,
-      c.requires,
-    )
+cut_file-requires c = (indexing_well_formed c.args.file.now c.in_ok-ix.ix c.in_ok-ix.ensures, c.requires)
 
-pub returns-in-Fine : goal.returns-in-Fine
-returns-in-Fine c =
-    let file = c.args.file.now in
-    c.cut_file.ensures ∙ read_reply_lem file c.args.places
-    (reading_of file c.indexed-reading.result) c.if-places-lt32.false c.indexed-reading.ensures
-    c.in-Fine.is
+pub returns : goal.returns
+returns c = c.cut_file.ensures ∙ index_reply c.args.file.now c.args.places c.in_ok-ix.ix c.if-places-lt32.false c.in_ok-ix.ensures
 
-pub returns-in-Refused : goal.returns-in-Refused
-returns-in-Refused c =
+pub returns-in_err-ix : goal.returns-in_err-ix
+returns-in_err-ix c =
     let a = c.args in
-    c.blank-in-Refused.ensures a.cells.now a.marks.now a.counts.now
-    ∙ refused_reply_lem a.file.now a.places (reading_of a.file.now c.indexed-reading.result) c.if-places-lt32.false
-    c.indexed-reading.ensures _ c.in-Refused.is
+    refused_reply_lem a.file.now a.places c.in_err-ix.field-0.0 c.from_residual.result a.cells.now a.marks.now a.counts.now
+    c.if-places-lt32.false c.in_err-ix.ensures c.from_residual.ensures.1

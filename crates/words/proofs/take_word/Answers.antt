@@ -3,22 +3,22 @@ use borrow.Author.Tests.{le-leb, lt-leb}
 use Rattle.cursor.specs.Cursor.{word_taken}
 use Rattle.words.proofs.take_word.Goals as goal
 
-pub returns-then-less-ge2 : goal.returns-then-less-ge2
+pub returns-then-saturating_sub-ge2 : goal.returns-then-saturating_sub-ge2
 unfolding word_taken
-returns-then-less-ge2 c =
-    let h = rw c.less.ensures at c.if-less-ge2.true in
+returns-then-saturating_sub-ge2 c =
+    let h = rw c.saturating_sub.ensures at c.if-saturating_sub-ge2.true in
     simp (
       c.word_of.ensures,
-      c.byte_at-then-less-ge2.ensures,
+      c.byte_at-then-saturating_sub-ge2.ensures,
       c.byte_at.ensures,
       c.if-cursor.true,
       le-leb _ _ h,
     )
 
-pub returns-else-less-ge2 : goal.returns-else-less-ge2
+pub returns-else-saturating_sub-ge2 : goal.returns-else-saturating_sub-ge2
 unfolding word_taken
-returns-else-less-ge2 c =
-    let h = rw c.less.ensures at c.if-less-ge2.false in
+returns-else-saturating_sub-ge2 c =
+    let h = rw c.saturating_sub.ensures at c.if-saturating_sub-ge2.false in
     simp (c.stop.ensures, c.if-cursor.true, lt-leb _ _ h)
 
 pub returns-else-cursor : goal.returns-else-cursor

@@ -5,7 +5,7 @@ use Rattle.automaton.proofs.transitions.transition_at.Goals as goal
 pub returns : goal.returns
 unfolding transition_at
 returns c =
-    let read = c.before.before.before.before in
+    let read = c.before.before.before in
     simp (
       read.guards_at-read.ensures,
       read.resets_field-resets.ensures,

@@ -10,26 +10,18 @@ use Rattle.automaton.proofs.transitions.transitions_read.Goals as goal
 
 pub loop-i-init : goal.loop-i-init
 unfolding iterate
-loop-i-init c = (omega arith, refl)
+loop-i-init c = refl
 
 pub transition_step-all-requires : goal.transition_step-all-requires
 unfolding iterate
 transition_step-all-requires c = omega arith
 
-pub overflow_add-i : goal.overflow_add-i
-unfolding iterate
-overflow_add-i c = omega arith
-
-pub loop-i-smaller : goal.loop-i-smaller
-unfolding iterate
-loop-i-smaller c = omega arith
-
 pub loop-i-preserved : goal.loop-i-preserved
 unfolding iterate
-loop-i-preserved c = (omega arith, rw add-one (simp (c.transition_step-all.ensures, c.loop-i.invariant.1)))
+loop-i-preserved c = rw add-one (simp (c.transition_step-all.ensures, c.loop-i.invariant))
 
 pub returns : goal.returns
 unfolding transitions_read blank_transitions blank_transition blank_guards blank_guard
 returns c =
     let h : c.loop-i.i ≡ 32 = omega arith in
-    simp (c.loop-i.invariant.1, h, c.byte_field-count.ensures)
+    simp (c.loop-i.invariant, h, c.byte_field-count.ensures)

@@ -1,16 +1,6 @@
 -- Both multipliers are at least 0: where the sum is below 0, not both inequalities hold.
-use Rattle.clashes.proofs.Sums.{multiplier_held, seen, unseen}
+use Rattle.clashes.proofs.Sums.{multiplier_held, seen}
 use Rattle.clashes.proofs.pair.without.Goals as goal
-
-pub returns-then-l-lt1 : goal.returns-then-l-lt1
-returns-then-l-lt1 c = unseen
-
-pub returns-then-m-lt1 : goal.returns-then-m-lt1
-returns-then-m-lt1 c = unseen
-
-pub mixed-requires : goal.mixed-requires
-mixed-requires c =
-    (multiplier_held _ c.multiplier-l.ensures, multiplier_held _ c.multiplier-m.ensures)
 
 pub returns : goal.returns
 returns c =

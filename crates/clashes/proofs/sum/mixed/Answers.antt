@@ -14,7 +14,7 @@ use Rattle.expr.specs.declared.range.Range.{Range}
 use Rattle.narrowing.specs.Best.{best}
 use Rattle.clashes.specs.Sizes.{SizedCoef, SizedMost}
 use Rattle.clashes.specs.Weighted.{weigh}
-use Rattle.clashes.proofs.Sums.{SumTo, multiplier_held, weigh_heard, coef_fits, most_fits, sum_start, sum_turn, sum_fits, sum_all}
+use Rattle.clashes.proofs.Sums.{SumTo, weigh_heard, coef_fits, most_fits, sum_start, sum_turn, sum_fits, sum_all}
 use borrow.Author.Rules.{rules}
 use Rattle.clashes.proofs.sum.mixed.Goals as goal
 
@@ -25,20 +25,9 @@ loop-i-init c =
     let g : SFits w32 s.f.constant = search rules in
     let l = to_z w64 (of_z w64 s.l) in
     let m = to_z w64 (of_z w64 s.m) in
-    let w = c.weighed-sum in (
-      omega arith,
-      rw (to_z-of_z w64 w.result (coef_fits _ w.ensures.small))
-          (sum_start l s.e m s.f s.b.list w.result (weigh_heard l _ m _ _ w.ensures.value f g) w.ensures.small),
-    )
-
-pub weighed-a-requires : goal.weighed-a-requires
-weighed-a-requires c =
-    (multiplier_held _ c.requires.0, multiplier_held _ c.requires.1)
-
-pub most-sum-requires : goal.most-sum-requires
-most-sum-requires c =
-    let w = c.weighed-a in
-    rw (to_z-of_z w64 w.result (coef_fits _ w.ensures.small)) w.ensures.small
+    let w = c.weighed-sum in
+    rw (to_z-of_z w64 w.result (coef_fits _ w.ensures.small))
+    (sum_start l s.e m s.f s.b.list w.result (weigh_heard l _ m _ _ w.ensures.value f g) w.ensures.small)
 
 -- the sum with one product more
 sum-next : (l : ℤ) (e : Expr) (m : ℤ) (f : Expr) (rs : List Range) (i : ℕ) (sum w y : ℤ) → SumTo l e m f rs i sum → i < PARAMETERS
@@ -53,20 +42,20 @@ sum-next l e m f rs i sum w y t h k fx fy v s u z =
 
 pub overflow_add-sum : goal.overflow_add-sum
 overflow_add-sum c =
-    let s = sum-next _ c.args.e _ c.args.f c.args.b.list c.loop-i.i _ c.weighed-a.result c.most-sum.result c.loop-i.invariant.1
-    (omega arith) c.well_formed.0.1.1.0.1.0.1 (search rules) (search rules) c.weighed-a.ensures.value c.weighed-a.ensures.small
+    let s = sum-next _ c.args.e _ c.args.f c.args.b.list c.loop-i.i _ c.weighed-a.result c.most-sum.result c.loop-i.invariant
+    (omega arith) (search rules) (search rules) (search rules) c.weighed-a.ensures.value c.weighed-a.ensures.small
     c.most-sum.ensures.value c.most-sum.ensures.small in
     sum_fits (c.loop-i.i + 1) _ (omega arith) s.size
 
 pub loop-i-preserved : goal.loop-i-preserved
 loop-i-preserved c =
-    let s = sum-next _ c.args.e _ c.args.f c.args.b.list c.loop-i.i _ c.weighed-a.result c.most-sum.result c.loop-i.invariant.1
-    (omega arith) c.well_formed.0.1.1.0.1.0.1 (search rules) (search rules) c.weighed-a.ensures.value c.weighed-a.ensures.small
+    let s = sum-next _ c.args.e _ c.args.f c.args.b.list c.loop-i.i _ c.weighed-a.result c.most-sum.result c.loop-i.invariant
+    (omega arith) (search rules) (search rules) (search rules) c.weighed-a.ensures.value c.weighed-a.ensures.small
     c.most-sum.ensures.value c.most-sum.ensures.small in
-    (omega arith, rw (to_z-of_z w64 _ (sum_fits (c.loop-i.i + 1) _ (omega arith) s.size)) s)
+    rw (to_z-of_z w64 _ (sum_fits (c.loop-i.i + 1) _ (omega arith) s.size)) s
 
 pub returns : goal.returns
 returns c =
-    let p = sum_all _ c.args.e _ c.args.f c.args.b.list c.loop-i.i _ c.loop-i.invariant.1 c.loop-i.invariant.0 (search rules) in
+    let p = sum_all _ c.args.e _ c.args.f c.args.b.list c.loop-i.i _ c.loop-i.invariant (omega arith) (search rules) in
     let q = rw (to_z-of_z w64 _ c.ranges.l, to_z-of_z w64 _ c.ranges.m) at p.0 in
     record { value = q; small = p.1 }

@@ -1,11 +1,6 @@
-use Prim.Native.Nat.{◌-◌, ◌≤◌}
-use Rattle.expr.specs.Records.{PARAMETERS}
 use Rattle.clashes.proofs.Sums.{SumTo}
 use Rattle.clashes.proofs.sum.mixed.Given as goal
 
 -- The loop's invariant: the sum so far, with the most that the products still to come add, is the most of all.
 abbrev pub invariant-loop-i : goal.invariant-loop-i
-invariant-loop-i l = (l.i ≤ PARAMETERS) × SumTo l.l l.e l.m l.f l.b.list l.i l.sum
-
-abbrev pub decreases-loop-i : goal.decreases-loop-i
-decreases-loop-i l = PARAMETERS - l.i
+invariant-loop-i l = SumTo l.l l.e l.m l.f l.b.list l.i l.sum

@@ -11,12 +11,12 @@ use Rattle.clashes.proofs.sum.times.Goals as goal
 pub overflow_mul-result : goal.overflow_mul-result
 overflow_mul-result c =
     let f = c.ranges.x in
-    op_fits ◌*ℤ◌ w64 _ _ c.args.l c.args.x refl (passed w32 _ _ c.wide.ensures f) c.ranges.l (sfits_widen {w = w32} tt f)
+    op_fits ◌*ℤ◌ w64 _ _ c.args.l c.args.x refl (passed w32 _ _ c.from.ensures f) c.ranges.l (sfits_widen {w = w32} tt f)
     (times_fits _ _ c.requires f)
 
 pub returns : goal.returns
 returns c =
     let f = c.ranges.x in
-    let e = op_back ◌*ℤ◌ w64 _ _ c.args.l c.args.x refl (passed w32 _ _ c.wide.ensures f) c.ranges.l
+    let e = op_back ◌*ℤ◌ w64 _ _ c.args.l c.args.x refl (passed w32 _ _ c.from.ensures f) c.ranges.l
     (sfits_widen {w = w32} tt f) (times_fits _ _ c.requires f) in
     record { value = e; small = subst (λ (z : ℤ). SizedTerm z) (sym e) (times_size _ _ c.requires f) }

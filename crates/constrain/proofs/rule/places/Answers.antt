@@ -17,4 +17,4 @@ returns c =
     let placed = c.before.before.before in
     let a = placed.args in
     places_third a.left a.right a.phase _ _ _ _ placed.if-phase-lt2.false placed.place-2.ensures
-    c.place-3.ensures c.at_most.ensures c.at_most-2.ensures
+    c.place-3.ensures c.min.ensures c.min-2.ensures

@@ -18,6 +18,3 @@ invariant-loop-i l =
     (l.i ≤ l.m) × (l.m ≤ 65536) × (l.m ≡ width l.range) × (l.total ≤ CAP)
     × (min (l.total + total_of (count_at (exprs_in l.flat l.n) l.c.list l.w) (l.range.low +ℤ pos l.i) (l.m - l.i)) CAP ≡ min
     (count l.c.list (exprs_in l.flat l.n)) CAP)
-
-abbrev pub decreases-loop-i : goal.decreases-loop-i
-decreases-loop-i l = l.m - l.i

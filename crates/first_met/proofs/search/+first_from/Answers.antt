@@ -5,7 +5,8 @@ use Prim.Native.Nat.{ℕ, ◌+◌, ◌/◌, ◌<◌}
 use native.Mathlib.Omega.{arith}
 use lib.ListN.{length, get_or}
 use Rattle.corners.specs.Boxes.{Points, wide_from}
-use Rattle.corners.specs.BoxLaws.{wide_points, wide_there}
+use Rattle.std.specs.Prelude.{Option, Some, None}
+use Rattle.corners.specs.BoxLaws.{wide_high, wide_points, wide_there, none_points}
 use Rattle.expr.specs.Records.{PARAMETERS, blank_range}
 use Rattle.expr.specs.declared.range.Range.{Range}
 use Rattle.systems.specs.BoxLaws.{narrows_long}
@@ -26,22 +27,49 @@ returns-then-meets t c =
     first_cornered _ _ cs c.narrowed-c.ensures c.corner-v.result c.corner-v.ensures (corner_long _ cs c.corner-v.ensures l)
     (c.inside.ensures.yes c.if-not-inside.false) (sym c.meets.ensures ∙ c.if-meets.true)
 
--- the ranges before the one that is parted
-points : (cs : List Range) (w : ℕ) → w ≡ wide_from cs 0 PARAMETERS → Points w cs
-points cs w e = rw e (wide_points cs PARAMETERS 0 tt)
+-- the place that is parted: its range has several numbers
+record Place (cs : List Range) (w : ℕ) : Type 0 where
+  few : w < PARAMETERS
+  wide : 1 < width (get_or cs w blank_range)
+  before : Points w cs
 
-pub returns-then-w-ge-PARAMETERS : goal.returns-then-w-ge-PARAMETERS
-returns-then-w-ge-PARAMETERS t c =
+place : (cs : List Range) (w : ℕ) (o : Option ℕ) → o ≡ wide_from cs 0 PARAMETERS → o ≡ Some w → Place cs w
+place cs w o e f =
+    let found = sym e ∙ f in record {
+      few = wide_high cs PARAMETERS 0 w found;
+      wide = several (get_or cs w blank_range) (wide_there cs PARAMETERS 0 w found);
+      before = wide_points cs PARAMETERS 0 w found tt;
+    }
+
+-- there is none: the corner is the only valuation
+pub returns-in_err-w : goal.returns-in_err-w
+returns-in_err-w t c =
     let cs = c.narrowed-c.result.list in
     let l : length cs ≡ PARAMETERS = narrows_long _ _ _ PARAMETERS c.narrowed-c.ensures c.well_formed.0.1.1.0.1.0.1 in
-    first_pointed _ _ cs c.narrowed-c.ensures c.wide-w.result _ c.corner-v.ensures (omega arith) (points cs _ c.wide-w.ensures)
+    let none : c.wide.result ≡ None = cc in
+    let result : c.from_residual.result ≡ None = cc in
+    result
+    ∙ first_pointed _ _ cs c.narrowed-c.ensures PARAMETERS _ c.corner-v.ensures (omega arith)
+    (none_points cs PARAMETERS 0 (sym c.wide.ensures ∙ none) tt)
     (sym c.meets.ensures ∙ c.if-meets.false)
 
--- its range has several numbers, and the lower part some of them
-several-at : (cs : List Range) (w : ℕ) → w ≡ wide_from cs 0 PARAMETERS → w < PARAMETERS → 1 < width (get_or cs w blank_range)
-several-at cs w e h =
-    let g : wide_from cs 0 PARAMETERS < 0 + PARAMETERS = omega (arith, e) in
-    several (get_or cs w blank_range) (rw e (wide_there cs PARAMETERS 0 g))
+pub offset_bounds-c-w : goal.offset_bounds-c-w
+offset_bounds-c-w t c = omega (arith, (place _ c.in_ok-w.w _ c.wide.ensures cc).few)
+
+pub bounds-c-w : goal.bounds-c-w
+bounds-c-w t c = (place _ c.in_ok-w.w _ c.wide.ensures cc).few
+
+pub offset_bounds-d-w : goal.offset_bounds-d-w
+offset_bounds-d-w t c = omega (arith, (place _ c.in_ok-w.w _ c.wide.ensures cc).few)
+
+pub bounds-d-w : goal.bounds-d-w
+bounds-d-w t c = (place _ c.in_ok-w.w _ c.wide.ensures cc).few
+
+pub offset_bounds-e-w : goal.offset_bounds-e-w
+offset_bounds-e-w t c = omega (arith, (place _ c.in_ok-w.w _ c.wide.ensures cc).few)
+
+pub bounds-e-w : goal.bounds-e-w
+bounds-e-w t c = (place _ c.in_ok-w.w _ c.wide.ensures cc).few
 
 some_at : (n x : ℕ) → 1 < n → x ≡ n → 0 < (x + 2) / 4
 some_at n x h e = omega arith
@@ -54,47 +82,51 @@ less-at h e = rw e at h
 
 pub lower-requires : goal.lower-requires
 lower-requires t c =
-    let m = several-at c.narrowed-c.result.list c.wide-w.result c.wide-w.ensures (omega (arith, c.if-w-ge-PARAMETERS.false)) in
+    let m = (place c.narrowed-c.result.list c.in_ok-w.w _ c.wide.ensures cc).wide in
     (some_at _ _ m c.width.ensures.value, few_at _ _ m c.width.ensures.value)
 
 pub first_from-s-requires : goal.first_from-s-requires
 first_from-s-requires t c =
     let cs = c.narrowed-c.result.list in
     let l : length cs ≡ PARAMETERS = narrows_long _ _ _ PARAMETERS c.narrowed-c.ensures c.well_formed.0.1.1.0.1.0.1 in
-    let m = several-at cs c.wide-w.result c.wide-w.ensures (omega (arith, c.if-w-ge-PARAMETERS.false)) in
-    let h = fewer_lower _ _ _ c.narrowed-c.ensures c.wide-w.result _ _ refl (some_at _ _ m c.width.ensures.value)
-    (few_at _ _ m c.width.ensures.value) (omega (arith, l, c.if-w-ge-PARAMETERS.false)) in
+    let at : Place cs c.in_ok-w.w = place _ c.in_ok-w.w _ c.wide.ensures cc in
+    let m = at.wide in
+    let h = fewer_lower _ _ _ c.narrowed-c.ensures c.in_ok-w.w _ _ refl (some_at _ _ m c.width.ensures.value)
+    (few_at _ _ m c.width.ensures.value) (omega (arith, l)) in
     (rw c.lower.ensures (less-at h c.decreases), tt)
 
-pub returns-then-s : goal.returns-then-s
-returns-then-s t c =
+pub returns-then-is_some : goal.returns-then-is_some
+returns-then-is_some t c =
     let cs = c.narrowed-c.result.list in
     let l : length cs ≡ PARAMETERS = narrows_long _ _ _ PARAMETERS c.narrowed-c.ensures c.well_formed.0.1.1.0.1.0.1 in
-    let m = several-at cs c.wide-w.result c.wide-w.ensures (omega (arith, c.if-w-ge-PARAMETERS.false)) in
-    first_lower _ _ _ c.narrowed-c.ensures c.wide-w.result _ (some_at _ _ m c.width.ensures.value)
-    (few_at _ _ m c.width.ensures.value) (omega (arith, l, c.if-w-ge-PARAMETERS.false)) (points cs _ c.wide-w.ensures)
-    c.first_from-s.result (rw c.lower.ensures at c.first_from-s.ensures) c.if-s.true
+    let at : Place cs c.in_ok-w.w = place _ c.in_ok-w.w _ c.wide.ensures cc in
+    let m = at.wide in
+    first_lower _ _ _ c.narrowed-c.ensures c.in_ok-w.w _ (some_at _ _ m c.width.ensures.value)
+    (few_at _ _ m c.width.ensures.value) (omega (arith, l)) at.before
+    c.first_from-s.result (rw c.lower.ensures at c.first_from-s.ensures) (sym c.is_some.ensures ∙ c.if-is_some.true)
 
 pub upper-requires : goal.upper-requires
 upper-requires t c =
-    let m = several-at c.narrowed-c.result.list c.wide-w.result c.wide-w.ensures (omega (arith, c.if-w-ge-PARAMETERS.false)) in
+    let m = (place c.narrowed-c.result.list c.in_ok-w.w _ c.wide.ensures cc).wide in
     few_at _ _ m c.width.ensures.value
 
 pub first_from-requires : goal.first_from-requires
 first_from-requires t c =
     let cs = c.narrowed-c.result.list in
     let l : length cs ≡ PARAMETERS = narrows_long _ _ _ PARAMETERS c.narrowed-c.ensures c.well_formed.0.1.1.0.1.0.1 in
-    let m = several-at cs c.wide-w.result c.wide-w.ensures (omega (arith, c.if-w-ge-PARAMETERS.false)) in
-    let h = fewer_upper _ _ _ c.narrowed-c.ensures c.wide-w.result _ _ refl (some_at _ _ m c.width.ensures.value)
-    (few_at _ _ m c.width.ensures.value) (omega (arith, l, c.if-w-ge-PARAMETERS.false)) in
+    let at : Place cs c.in_ok-w.w = place _ c.in_ok-w.w _ c.wide.ensures cc in
+    let m = at.wide in
+    let h = fewer_upper _ _ _ c.narrowed-c.ensures c.in_ok-w.w _ _ refl (some_at _ _ m c.width.ensures.value)
+    (few_at _ _ m c.width.ensures.value) (omega (arith, l)) in
     (rw c.upper.ensures (less-at h c.decreases), tt)
 
 pub returns : goal.returns
 returns t c =
     let cs = c.narrowed-c.result.list in
     let l : length cs ≡ PARAMETERS = narrows_long _ _ _ PARAMETERS c.narrowed-c.ensures c.well_formed.0.1.1.0.1.0.1 in
-    let m = several-at cs c.wide-w.result c.wide-w.ensures (omega (arith, c.if-w-ge-PARAMETERS.false)) in
-    first_upper _ _ _ c.narrowed-c.ensures c.wide-w.result _ (some_at _ _ m c.width.ensures.value)
-    (few_at _ _ m c.width.ensures.value) (omega (arith, l, c.if-w-ge-PARAMETERS.false)) (points cs _ c.wide-w.ensures)
-    c.first_from-s.result (rw c.lower.ensures at c.first_from-s.ensures) c.first_from.result c.if-s.false
+    let at : Place cs c.in_ok-w.w = place _ c.in_ok-w.w _ c.wide.ensures cc in
+    let m = at.wide in
+    first_upper _ _ _ c.narrowed-c.ensures c.in_ok-w.w _ (some_at _ _ m c.width.ensures.value)
+    (few_at _ _ m c.width.ensures.value) (omega (arith, l)) at.before
+    c.first_from-s.result (rw c.lower.ensures at c.first_from-s.ensures) c.first_from.result (sym c.is_some.ensures ∙ c.if-is_some.false)
     (rw c.upper.ensures at c.first_from.ensures)

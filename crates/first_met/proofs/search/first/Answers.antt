@@ -28,18 +28,18 @@ pub returns-then-not-inside : goal.returns-then-not-inside
 returns-then-not-inside c =
     let cs = c.trimmed-c.result.list in
     first_emptied _ cs cs (narrows_refl _ cs) _ c.corner.ensures (c.inside.ensures.no c.if-not-inside.true)
-    ∙ listed _ cs c.args.flat.now c.args.n _ c.trimmed-c.ensures c.at_most-m.ensures c.well_formed.0.1.1.0.1.0.1
+    ∙ listed _ cs c.args.flat.now c.args.n _ c.trimmed-c.ensures c.min-m.ensures c.well_formed.0.1.1.0.1.0.1
 
-pub returns-then-s : goal.returns-then-s
-returns-then-s c =
-    c.low_from-s.ensures c.if-s.true
-    ∙ listed _ _ c.args.flat.now c.args.n _ c.trimmed-c.ensures c.at_most-m.ensures c.well_formed.0.1.1.0.1.0.1
+pub returns-then-is_some : goal.returns-then-is_some
+returns-then-is_some c =
+    c.low_from-s.ensures (sym c.is_some.ensures ∙ c.if-is_some.true)
+    ∙ listed _ _ c.args.flat.now c.args.n _ c.trimmed-c.ensures c.min-m.ensures c.well_formed.0.1.1.0.1.0.1
 
 pub returns-then-opposed : goal.returns-then-opposed
 returns-then-opposed c =
     first_never_met _ c.trimmed-c.result.list (c.opposed.ensures c.if-opposed.true)
-    ∙ listed _ _ c.args.flat.now c.args.n _ c.trimmed-c.ensures c.at_most-m.ensures c.well_formed.0.1.1.0.1.0.1
+    ∙ listed _ _ c.args.flat.now c.args.n _ c.trimmed-c.ensures c.min-m.ensures c.well_formed.0.1.1.0.1.0.1
 
 pub returns : goal.returns
 returns c =
-    c.first_from.ensures ∙ listed _ _ c.args.flat.now c.args.n _ c.trimmed-c.ensures c.at_most-m.ensures c.well_formed.0.1.1.0.1.0.1
+    c.first_from.ensures ∙ listed _ _ c.args.flat.now c.args.n _ c.trimmed-c.ensures c.min-m.ensures c.well_formed.0.1.1.0.1.0.1

@@ -46,11 +46,11 @@ some_from-s-requires t c =
     (few_at _ _ c.if-m-eq0.false c.width-m.ensures.value) (omega (arith, l, c.widest-w.ensures.place)) in
     (rw c.lower.ensures (less-at h c.decreases), tt)
 
-pub returns-then-s : goal.returns-then-s
-returns-then-s t c =
+pub returns-then-is_some : goal.returns-then-is_some
+returns-then-is_some t c =
     some_lower _ _ _ c.narrowed-c.ensures c.widest-w.result _ _ refl (some_at _ c.if-m-eq0.false)
     (few_at _ _ c.if-m-eq0.false c.width-m.ensures.value) c.some_from-s.result
-    (rw c.lower.ensures at c.some_from-s.ensures) c.if-s.true
+    (rw c.lower.ensures at c.some_from-s.ensures) (sym c.is_some.ensures ∙ c.if-is_some.true)
 
 pub upper-requires : goal.upper-requires
 upper-requires t c = few_at _ _ c.if-m-eq0.false c.width-m.ensures.value
@@ -67,4 +67,4 @@ pub returns : goal.returns
 returns t c =
     some_upper _ _ _ c.narrowed-c.ensures c.widest-w.result _ _ refl (some_at _ c.if-m-eq0.false)
     (few_at _ _ c.if-m-eq0.false c.width-m.ensures.value) c.some_from-s.result c.some_from.result
-    (rw c.lower.ensures at c.some_from-s.ensures) c.if-s.false (rw c.upper.ensures at c.some_from.ensures)
+    (rw c.lower.ensures at c.some_from-s.ensures) (sym c.is_some.ensures ∙ c.if-is_some.false) (rw c.upper.ensures at c.some_from.ensures)

@@ -4,5 +4,5 @@ use Rattle.halving.proofs.search.some.Goals as goal
 
 pub returns : goal.returns
 returns c =
-    some_listed c.args.b.list c.args.flat.now c.args.n c.at_most.result c.some_from.result
-    c.at_most.ensures (c.well_formed.0.1.1.0.1.0.1) c.some_from.ensures
+    some_listed c.args.b.list c.args.flat.now c.args.n c.min.result c.some_from.result
+    c.min.ensures (c.well_formed.0.1.1.0.1.0.1) c.some_from.ensures

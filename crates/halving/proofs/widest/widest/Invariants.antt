@@ -1,11 +1,6 @@
-use Prim.Native.Nat.{◌-◌}
-use Rattle.expr.specs.Records.{PARAMETERS}
 use Rattle.halving.proofs.Loops.{WidestTo}
 use Rattle.halving.proofs.widest.widest.Given as goal
 
 -- The loop's invariant: the widest of the ranges before i.
 abbrev pub invariant-loop-i : goal.invariant-loop-i
 invariant-loop-i l = WidestTo l.b.list l.i l.w l.most
-
-abbrev pub decreases-loop-i : goal.decreases-loop-i
-decreases-loop-i l = PARAMETERS - l.i

@@ -1,28 +1,24 @@
--- The numbers one after another, 0 past the end.
-use mathlib.Core.Path.{◌∙◌}
+-- The numbers that are there, and zeros behind them.
+use mathlib.Core.Path.{ap, ◌∙◌}
+use mathlib.Core.List.{List, ◌++◌}
 use native.Mathlib.Omega.{arith}
-use mir.Syntax.{w32}
-use mir.Val.{SFits}
-use mir.ValLaws.{to_z-of_z}
-use Rattle.inequalities.proofs.Reading.{read_start, read_turn, read_all}
-use borrow.Author.Rules.{rules}
+use lib.IntN.{ℤ, pos}
+use lib.ListN.{length, drop, replicate}
+use Prim.Native.Nat.{◌<◌}
+use Rattle.inequalities.proofs.Reading.{padded, blank}
 use Rattle.inequalities.proofs.flat.ended.Goals as goal
-
-pub loop-i-init : goal.loop-i-init
-loop-i-init c =
-    let s = c.args in
-    let f : SFits w32 c.number.result = search rules in
-    (omega arith, read_start s.flat.now s.at _ (to_z-of_z w32 _ f ∙ c.number.ensures))
-
-pub loop-i-preserved : goal.loop-i-preserved
-loop-i-preserved c =
-    let loop = c.loop-i in
-    let s = c.args in
-    let f : SFits w32 c.number-in-loop-i.result = search rules in
-    (omega arith, read_turn s.flat.now s.at loop.i loop.e _ loop.invariant.1 (to_z-of_z w32 _ f ∙ c.number-in-loop-i.ensures))
+use Rattle.inequalities.proofs.flat.ended.Goals.{in-Some, in_default}
 
 pub returns : goal.returns
 returns c =
-    let s = c.args in
-    let loop = c.loop-i in
-    read_all s.flat.now s.at loop.i loop.e loop.invariant.1 loop.invariant.0 (search rules)
+    let a = c.args in
+    c.whole.ensures ∙ elim c.match-get.branch [
+      | in-Some w ↦
+          let h = w.in-Some.ensures.lookup.0 in
+          let xs = w.in-Some.rest.now in
+          padded a.flat.now xs c.match-get.row a.at (w.row-is ∙ ap (λ (m : List ℤ). m ++ drop (length xs) (replicate 5 (pos 0)))
+          w.copy_from_slice.ensures.after) h.2 h.3
+      | in_default w ↦
+          let past : length a.flat.now < a.at = omega (arith, w.in_default.ensures.lookup.0) in
+          blank a.flat.now c.match-get.row a.at w.row-is past
+    ]

@@ -1,4 +1,4 @@
-use Prim.Native.Nat.{◌-◌, ◌≤◌}
+use Prim.Native.Nat.{◌≤◌}
 use Rattle.expr.specs.Records.{PARAMETERS}
 use Rattle.inequalities.proofs.Reading.{ReadTo}
 use Rattle.inequalities.proofs.flat.whole.Given as goal
@@ -6,6 +6,3 @@ use Rattle.inequalities.proofs.flat.whole.Given as goal
 -- The numbers one after another.
 abbrev pub invariant-loop-i : goal.invariant-loop-i
 invariant-loop-i l = (l.i ≤ PARAMETERS) × ReadTo l.flat l.at l.i l.e
-
-abbrev pub decreases-loop-i : goal.decreases-loop-i
-decreases-loop-i l = PARAMETERS - l.i

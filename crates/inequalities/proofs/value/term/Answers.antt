@@ -13,7 +13,7 @@ overflow_mul-result c =
     let s = c.before.before in
     let f = s.ranges.a in
     let g = s.ranges.x in
-    op_fits ◌*ℤ◌ w64 _ _ s.args.a s.args.x (passed w32 _ _ c.wide.ensures f) (passed w16 _ _ c.wide16.ensures g)
+    op_fits ◌*ℤ◌ w64 _ _ s.args.a s.args.x (passed w32 _ _ c.from.ensures f) (passed w16 _ _ c.from-2.ensures g)
     (sfits_widen {w = w32} tt f) (sfits_widen {w = w16} tt g) (product_fits f g)
 
 pub returns : goal.returns
@@ -21,8 +21,8 @@ returns c =
     let s = c.before.before in
     let f = s.ranges.a in
     let g = s.ranges.x in
-    let e = op_back ◌*ℤ◌ w64 _ _ s.args.a s.args.x (passed w32 _ _ c.wide.ensures f)
-    (passed w16 _ _ c.wide16.ensures g) (sfits_widen {w = w32} tt f) (sfits_widen {w = w16} tt g) (product_fits f g) in
+    let e = op_back ◌*ℤ◌ w64 _ _ s.args.a s.args.x (passed w32 _ _ c.from.ensures f)
+    (passed w16 _ _ c.from-2.ensures g) (sfits_widen {w = w32} tt f) (sfits_widen {w = w16} tt g) (product_fits f g) in
     record {
       value = e;
       small = subst (λ (z : ℤ). Sized z) (sym e) (product_size s.args.a s.args.x (fits_size f) (fits_size g));

@@ -21,7 +21,7 @@ loop-j-init c =
     let s = c.args in
     let f : SFits w32 s.e.constant = search rules in (
       omega arith,
-      rw (held w64 _ s.e.constant (passed w32 _ _ c.wide-total.ensures f) (sfits_widen {w = w32} tt f))
+      rw (held w64 _ s.e.constant (passed w32 _ _ c.from-total.ensures f) (sfits_widen {w = w32} tt f))
           (value_start s.e s.v.numbers f),
     )
 
@@ -31,9 +31,8 @@ sum-next : (c : After-term-total)
     ValueTo s.e s.v.numbers (loop.j + 1) (to_z w64 loop.total-bits +ℤ to_z w64 (of_z w64 c.term-total.result))
 sum-next c =
     let loop = c.loop-j in
-    let start = c.before.before.before.before.before.before.before in
-    let s = start.args in
-    let l : length s.v.numbers ≡ PARAMETERS = start.well_formed.0.1.1.0.1.0.1 in
+    let s = c.args in
+    let l : length s.v.numbers ≡ PARAMETERS = search rules in
     let f : SFits w64 c.term-total.result = size_fits w64 _ (omega (arith, c.term-total.ensures.small)) in
     let a = get_or s.e.coefs loop.j (pos 0) in
     let x = get_or s.v.numbers loop.j (pos 0) in

@@ -17,7 +17,7 @@ loop-s-init c =
     let a = c.args in
     let z = zones_in a.cells.now a.counts.now in
     let l : length z ≡ 32 = zones_long a.cells.now a.counts.now 32 0 in
-    let e = c.at_most-m.ensures in
+    let e = c.min-m.ensures in
     (omega arith, omega (arith, length-take a.n z), stacked_start z a.n _ _ refl)
 
 pub highest-t-requires : goal.highest-t-requires

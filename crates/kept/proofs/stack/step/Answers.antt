@@ -10,7 +10,7 @@ returns-then-k-lt2 c = rw (c.if-joined.true, lt-ltb _ _ c.if-k-lt2.true) refl
 
 pub returns-then-joined : goal.returns-then-joined
 unfolding step_of
-returns-then-joined c = rw (c.if-joined.true, le-ltb _ _ c.if-k-lt2.false, c.less.ensures) refl
+returns-then-joined c = rw (c.if-joined.true, le-ltb _ _ c.if-k-lt2.false, c.saturating_sub.ensures) refl
 
 pub returns-then-k-n : goal.returns-then-k-n
 unfolding step_of

@@ -45,7 +45,7 @@ held-now c =
     let s = c.args in
     let q = get_or c.stacked-s.result.list loop.i no_item in
     let e = c.count-total.ensures ∙ part_held s.b s.cells.now s.counts.now q _
-    (c.stacked-s.ensures.count_bound.1 loop.i c.loop-i-test.true) c.at_most.ensures in
+    (c.stacked-s.ensures.count_bound.1 loop.i c.loop-i-test.true) c.min.ensures in
     (e, held_few s.b (zones_in s.cells.now s.counts.now) q c.count-total.result c.requires.0 e)
 
 pub overflow_add-total : goal.overflow_add-total
@@ -58,16 +58,6 @@ overflow_add-total c =
       c.stacked-s.ensures.count_bound.0,
       c.loop-i-test.true,
     )
-
-pub overflow_add-i : goal.overflow_add-i
-overflow_add-i c = omega (
-  arith,
-  c.stacked-s.ensures.count_bound.0,
-  c.loop-i-test.true,
-)
-
-pub loop-i-smaller : goal.loop-i-smaller
-loop-i-smaller c = omega (arith, c.loop-i-test.true)
 
 pub loop-i-preserved : goal.loop-i-preserved
 loop-i-preserved c =

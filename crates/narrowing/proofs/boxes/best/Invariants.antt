@@ -1,11 +1,6 @@
-use Prim.Native.Nat.{◌-◌, ◌≤◌}
-use Rattle.expr.specs.Records.{PARAMETERS}
 use Rattle.narrowing.proofs.Terms.{SumTo}
 use Rattle.narrowing.proofs.boxes.best.Given as goal
 
 -- The loop's invariant: the sum so far, with the most that the products still to come add, is the most of all.
 abbrev pub invariant-loop-i : goal.invariant-loop-i
-invariant-loop-i l = (l.i ≤ PARAMETERS) × SumTo l.e l.b.list l.i l.sum
-
-abbrev pub decreases-loop-i : goal.decreases-loop-i
-decreases-loop-i l = PARAMETERS - l.i
+invariant-loop-i l = SumTo l.e l.b.list l.i l.sum

@@ -1,11 +1,6 @@
-use Prim.Native.Nat.{◌-◌, ◌≤◌}
-use Rattle.expr.specs.Records.{PARAMETERS}
 use Rattle.opposites.specs.Opposite.{Opposite}
 use Rattle.opposites.proofs.pairs.opposite.Given as goal
 
 -- The loop's invariant: the coefficients before i are opposite.
 abbrev pub invariant-loop-i : goal.invariant-loop-i
-invariant-loop-i l = (l.i ≤ PARAMETERS) × Opposite l.e.coefs l.f.coefs l.i
-
-abbrev pub decreases-loop-i : goal.decreases-loop-i
-decreases-loop-i l = PARAMETERS - l.i
+invariant-loop-i l = Opposite l.e.coefs l.f.coefs l.i

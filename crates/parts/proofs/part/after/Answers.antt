@@ -1,41 +1,20 @@
--- The branches are the cases of `after_c`.
-use Rattle.parts.proofs.Steps.{after_halts, after_void_no, after_void_yes, after_tight_no, after_tight_yes}
-use Rattle.parts.proofs.Steps.{after_entry, after_last}
+-- The arms are the cases of `after_c`.
+use mathlib.Core.Path.{refl}
+use Rattle.parts.specs.Parts.{after_c}
 use Rattle.parts.proofs.part.after.Goals as goal
 
-pub returns-then-kind-gt1 : goal.returns-then-kind-gt1
-returns-then-kind-gt1 c = let a = c.args in after_halts a.phase a.kind c.if-kind-gt1.true
+pub returns-in-No : goal.returns-in-No
+unfolding after_c
+returns-in-No c = rw c.in-No.is c.settled.ensures
 
-pub returns-then-kind-lt1 : goal.returns-then-kind-lt1
-returns-then-kind-lt1 c =
-    let a = c.args in
-    after_void_no a.phase a.kind c.if-kind-gt1.false c.if-phase-lt1.true c.if-kind-lt1.true
+pub returns-in-Yes : goal.returns-in-Yes
+unfolding after_c
+returns-in-Yes c = rw c.in-Yes.is c.settled-in-Yes.ensures
 
-pub returns-then-phase-lt1 : goal.returns-then-phase-lt1
-returns-then-phase-lt1 c =
-    let a = c.args in
-    after_void_yes a.phase a.kind c.if-kind-gt1.false c.if-phase-lt1.true c.if-kind-lt1.false
+pub returns-in-Split : goal.returns-in-Split
+unfolding after_c
+returns-in-Split c = rw c.in-Split.is refl
 
-pub returns-then-kind-lt1-2 : goal.returns-then-kind-lt1-2
-returns-then-kind-lt1-2 c =
-    let a = c.args in
-    after_tight_no a.phase a.kind c.if-kind-gt1.false c.if-phase-lt1.false c.if-phase-lt2.true
-    c.if-kind-lt1-2.true
-
-pub returns-then-phase-lt2 : goal.returns-then-phase-lt2
-returns-then-phase-lt2 c =
-    let a = c.args in
-    after_tight_yes a.phase a.kind c.if-kind-gt1.false c.if-phase-lt1.false c.if-phase-lt2.true
-    c.if-kind-lt1-2.false
-
-pub returns-then-phase-lt26 : goal.returns-then-phase-lt26
-returns-then-phase-lt26 c =
-    let a = c.args in
-    after_entry a.phase a.kind c.if-kind-gt1.false c.if-phase-lt1.false c.if-phase-lt2.false
-    c.if-phase-lt26.true
-
-pub returns : goal.returns
-returns c =
-    let a = c.args in
-    after_last a.phase a.kind c.if-kind-gt1.false c.if-phase-lt1.false c.if-phase-lt2.false
-    c.if-phase-lt26.false
+pub returns-in-Full : goal.returns-in-Full
+unfolding after_c
+returns-in-Full c = rw c.in-Full.is refl

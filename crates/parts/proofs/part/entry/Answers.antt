@@ -9,4 +9,4 @@ use Rattle.parts.proofs.part.entry.Goals as goal
 pub returns : goal.returns
 returns c =
     let a = c.args in
-    c.inside.ensures ∙ ap (λ (i : ℕ). inside_c a.x (get_or a.r.old i no_bound)) c.at_most.ensures
+    c.inside.ensures ∙ ap (λ (i : ℕ). inside_c a.x (get_or a.r.old i no_bound)) c.min.ensures

@@ -1,5 +1,5 @@
 use mathlib.Core.Path.{◌≡◌}
-use Prim.Native.Nat.{ℕ, ◌-◌, ◌≤◌, ◌<◌}
+use Prim.Native.Nat.{ℕ, ◌≤◌, ◌<◌}
 use lib.IntN.{pos}
 use lib.ListN.{length, get_or}
 use Rattle.inequalities.specs.Flat.{expr_at}
@@ -11,6 +11,3 @@ abbrev pub invariant-loop-k : goal.invariant-loop-k
 invariant-loop-k l =
     (l.k ≤ l.n) × (length l.l.numbers ≡ 25)
     × ((j : ℕ) → j < l.k → ValueOf (expr_at l.flat j) l.v.numbers (get_or l.l.numbers j (pos 0)))
-
-abbrev pub decreases-loop-k : goal.decreases-loop-k
-decreases-loop-k l = l.n - l.k

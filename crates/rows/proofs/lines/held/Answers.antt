@@ -52,7 +52,7 @@ pub interval-requires : goal.interval-requires
 interval-requires c =
     let v = c.at-c in
     let f : SFits w32 c.args.q.second = search rules in
-    rw (value-is v.result v.ensures.small, slope-is c.wide.result c.args.q.second c.wide.ensures f)
+    rw (value-is v.result v.ensures.small, slope-is c.from.result c.args.q.second c.from.ensures f)
     (sized_tame _ v.ensures.small, slope_tame _ f)
 
 pub returns : goal.returns
@@ -61,5 +61,5 @@ returns c =
     let v = c.at-c in
     let f : SFits w32 s.q.second = search rules in
     let is = value-is v.result v.ensures.small ∙ at-is v.result s.q.constant s.q.first s.x v.ensures.value c.ranges.x in
-    let slope = slope-is c.wide.result s.q.second c.wide.ensures f in
+    let slope = slope-is c.from.result s.q.second c.from.ensures f in
     c.interval.ensures ∙ (λ i. interval s.r (is i) (slope i))

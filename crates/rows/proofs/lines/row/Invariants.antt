@@ -9,6 +9,3 @@ invariant-loop-k l =
     (l.k ≤ l.n)
     × (row_from (line_at l.constants l.flat l.w l.t) l.k (l.n - l.k) l.x l.r
     ≡ row_from (line_at l.constants l.flat l.w l.t) 0 l.n l.x l.initial.r)
-
-abbrev pub decreases-loop-k : goal.decreases-loop-k
-decreases-loop-k l = l.n - l.k

@@ -11,6 +11,3 @@ abbrev pub invariant-loop-i : goal.invariant-loop-i
 invariant-loop-i l = let f = row_width (line_at l.l.numbers l.flat l.w l.t) l.n l.s in
     (l.i ≤ l.m) × (l.m ≤ 65536) × (l.m ≡ width l.range) × (l.total ≤ l.i * 65536)
     × (l.total + sum_of f (l.range.low +ℤ pos l.i) (l.m - l.i) ≡ sum_of f l.range.low l.m)
-
-abbrev pub decreases-loop-i : goal.decreases-loop-i
-decreases-loop-i l = l.m - l.i

@@ -6,4 +6,4 @@ use Rattle.running.proofs.tests.counted.Goals as goal
 pub overflow_add-result : goal.overflow_add-result
 overflow_add-result c =
     let few = tests_few c.args.t in
-    omega (arith, c.at_most.ensures, c.tests_in.ensures, few)
+    omega (arith, c.min.ensures, c.tests_in.ensures, few)

@@ -7,7 +7,7 @@ use Rattle.running.proofs.tests.enters.Goals as goal
 pub returns-then-phase-gt1 : goal.returns-then-phase-gt1
 unfolding enters_c
 returns-then-phase-gt1 c =
-    rw (lt-ltb 1 c.args.phase c.if-phase-gt1.true) refl
+    rw (lt-ltb 1 c.args.phase c.if-phase-gt1.true) c.is_yes.ensures
 
 pub returns : goal.returns
 unfolding enters_c

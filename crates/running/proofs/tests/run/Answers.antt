@@ -17,13 +17,13 @@ use Rattle.running.specs.Working.{matrix_at, working_starts, working_here, enter
 use borrow.Author.Rules.{rules}
 use Rattle.running.proofs.tests.run.Goals as goal
 
-pub returns-then-task-gt0 : goal.returns-then-task-gt0
-returns-then-task-gt0 c =
+pub returns-then-not-goes_on : goal.returns-then-not-goes_on
+returns-then-not-goes_on c =
     let a = c.args in
     let cs = cells_in a.cells.now a.marks.now in
     let part = part_at cs a.p a.n a.task in record {
       ran = λ b h. going_ends b (rule_at cs a.old a.g) part part (going_starts b (rule_at cs a.old a.g) part c.requires.live.0)
-          c.if-task-gt0.true;
+          (sym c.goes_on.ensures ∙ c.if-not-goes_on.true);
       same = sym (set-get_or cs a.p no_cell);
       known = λ b h. h;
     }
@@ -51,7 +51,7 @@ loop-halt-smaller-then-outside c =
     let r = rule_at cs a.old a.g in
     let z = zone_of a.n (get_or cs a.p no_cell) in
     let q = part_of z (matrix_at a.p loop.cells loop.marks) loop.test loop.tests loop.phase loop.halt in
-    skip_less r z _ _ _ loop.flat q loop.invariant.0 c.loop-halt-test.true
+    skip_less r z _ _ _ loop.flat q loop.invariant.0 (sym c.goes_on-in-loop-halt.ensures ∙ c.loop-halt-test.true)
     (sym c.outside.ensures ∙ c.if-outside.true) c.after-next.result c.after-next.ensures
 
 pub loop-halt-preserved-then-outside : goal.loop-halt-preserved-then-outside
@@ -62,7 +62,7 @@ loop-halt-preserved-then-outside c =
     let r = rule_at cs a.old a.g in
     let z = zone_of a.n (get_or cs a.p no_cell) in
     let q = part_of z (matrix_at a.p loop.cells loop.marks) loop.test loop.tests loop.phase loop.halt in (
-      way_skips r z _ _ _ loop.flat q loop.invariant.0 c.loop-halt-test.true
+      way_skips r z _ _ _ loop.flat q loop.invariant.0 (sym c.goes_on-in-loop-halt.ensures ∙ c.loop-halt-test.true)
           (sym c.outside.ensures ∙ c.if-outside.true) c.after-next.result c.after-next.ensures,
       loop.invariant.1,
     )
@@ -110,7 +110,7 @@ loop-halt-smaller-then-at_once c =
     let put = c.entered.ensures in
     let hl = c.entered.auto.cells in
     let hm = c.entered.auto.marks in
-    quick_less r z _ _ _ loop.flat q loop.invariant.0 c.loop-halt-test.true asked.result
+    quick_less r z _ _ _ loop.flat q loop.invariant.0 (sym c.goes_on-in-loop-halt.ensures ∙ c.loop-halt-test.true) asked.result
     (asked.ensures ∙ rule_old cs a.p loop.cells loop.marks w a.old a.g loop.phase c.requires.cells_len.1.1.1.0)
     settled.result.kind told (c.at_once.ensures c.if-at_once.true) _ c.counted-tests.ensures
     _ c.after-next-then-at_once.ensures _
@@ -133,7 +133,7 @@ loop-halt-preserved-then-at_once c =
     let put = c.entered.ensures in
     let hl = c.entered.auto.cells in
     let hm = c.entered.auto.marks in (
-      quick_turn r z _ _ _ loop.flat q loop.invariant.0 c.loop-halt-test.true asked.result
+      quick_turn r z _ _ _ loop.flat q loop.invariant.0 (sym c.goes_on-in-loop-halt.ensures ∙ c.loop-halt-test.true) asked.result
           (asked.ensures ∙ rule_old cs a.p loop.cells loop.marks w a.old a.g loop.phase c.requires.cells_len.1.1.1.0)
           settled.result.kind told (c.at_once.ensures c.if-at_once.true) _ c.counted-tests.ensures _ c.after-next-then-at_once.ensures _
           (entered_matrix cs a.p loop.cells loop.marks w _ _ (enters_c loop.phase settled.result.kind) asked.result.into
@@ -163,7 +163,7 @@ loop-halt-smaller c =
     let hm = c.entered.auto.marks in
     let told_more = knowing_learned r z a.hint loop.known _ _ loop.flat q loop.invariant.0 loop.invariant.1.0 asked.result.test
     settled.result.kind settled.ensures.kind_value settled.result.witness in
-    cell_less r z _ _ _ loop.flat q loop.invariant.0 c.loop-halt-test.true asked.result
+    cell_less r z _ _ _ loop.flat q loop.invariant.0 (sym c.goes_on-in-loop-halt.ensures ∙ c.loop-halt-test.true) asked.result
     (asked.ensures ∙ rule_old cs a.p loop.cells loop.marks w a.old a.g loop.phase c.requires.cells_len.1.1.1.0)
     settled.result.kind told _ c.turned-next.result c.turned-next.ensures _
     (entered_matrix cs a.p loop.cells loop.marks w _ _ (enters_c loop.phase settled.result.kind) asked.result.into
@@ -187,7 +187,7 @@ loop-halt-preserved c =
     let hm = c.entered.auto.marks in
     let told_more = knowing_learned r z a.hint loop.known _ _ loop.flat q loop.invariant.0 loop.invariant.1.0 asked.result.test
     settled.result.kind settled.ensures.kind_value settled.result.witness in (
-      cell_turn r z _ _ _ loop.flat q loop.invariant.0 c.loop-halt-test.true asked.result
+      cell_turn r z _ _ _ loop.flat q loop.invariant.0 (sym c.goes_on-in-loop-halt.ensures ∙ c.loop-halt-test.true) asked.result
           (asked.ensures ∙ rule_old cs a.p loop.cells loop.marks w a.old a.g loop.phase c.requires.cells_len.1.1.1.0)
           settled.result.kind told _ c.turned-next.result c.turned-next.ensures _
           (entered_matrix cs a.p loop.cells loop.marks w _ _ (enters_c loop.phase settled.result.kind) asked.result.into
@@ -224,7 +224,7 @@ returns c =
             test = loop.test;
             zone = zone_of a.n x;
           })) (sym (working_here cs a.p loop.cells loop.marks w))
-          (going_ends b r (part_at cs a.p a.n a.task) q (loop.invariant.0.going b h.narrows) c.loop-halt-test.false);
+          (going_ends b r (part_at cs a.p a.n a.task) q (loop.invariant.0.going b h.narrows) (sym c.goes_on-in-loop-halt.ensures ∙ c.loop-halt-test.false));
       same = w.rest;
       known = λ b h. knowing_hinted b z a.hint loop.known loop.invariant.1.0 h;
     }

@@ -14,7 +14,7 @@ returns c =
     let s = sheet_in a.file.now a.ix in
     record {
       t = found.transition_at-t.result;
-      found = found.transition_at-t.ensures ∙ ap (λ (n : ℕ). transition_c s n) at-index.index.ensures;
+      found = found.transition_at-t.ensures ∙ ap (λ (n : ℕ). transition_c s n) at-index.from.ensures;
       there = c.location_at-there.ensures;
       steps = c.move_steps.ensures;
     }

@@ -1,46 +1,17 @@
--- The constant, and behind it the coefficients one after another.
+-- The list with the inequality put in, where it has room.
 use mathlib.Core.Path.{sym, ◌∙◌}
-use Prim.Native.Nat.{◌*◌}
-use native.Mathlib.Omega.{arith}
-use lib.IntN.{pos}
-use mir.Syntax.{w32}
-use mir.ValLaws.{to_z-of_z}
-use lib.ListN.{get_or, length-set}
-use Rattle.sifting.specs.Sifting.{writing_start, writing_turn, writing_all, written_whole}
-use Rattle.sifting.specs.Sifting.{stored_past, stored_short, room_set}
-use borrow.Author.Rules.{rules}
+use Rattle.inequalities.specs.Put.{put_room, put_past, put_short}
 use Rattle.sifting.proofs.sift.store.Goals as goal
 
-pub loop-i-init : goal.loop-i-init
-loop-i-init c =
+pub returns-then-list-ge125 : goal.returns-then-list-ge125
+returns-then-list-ge125 c =
     let a = c.args in
-    writing_start a.e (5 * a.k) _
-    (room_set a.list.now (5 * a.k) _ _ (omega (arith, c.if-list-ge125.true, c.if-k-lt25.true)))
-
-pub loop-i-preserved : goal.loop-i-preserved
-loop-i-preserved c =
-    let loop = c.loop-i in
-    let a = c.args in
-    writing_turn a.e (5 * a.k) _ loop.i loop.list _ loop.invariant c.loop-i-test.true
-    (to_z-of_z w32 (get_or a.e.coefs loop.i (pos 0)) (search rules))
-
-pub shape_of-list : goal.shape_of-list
-shape_of-list c =
-    let a = c.args in
-    c.loop-i.invariant.long ∙ length-set a.list.now (5 * a.k) _
-
-pub returns-after-loop-i : goal.returns-after-loop-i
-returns-after-loop-i c =
-    let loop = c.loop-i in
-    let a = c.args in
-    written_whole a.list.now a.k a.e _ loop.list c.if-k-lt25.true c.if-list-ge125.true
-    (to_z-of_z w32 a.e.constant (search rules))
-    (writing_all a.e (5 * a.k) _ loop.i loop.list loop.invariant (search rules))
+    c.put.ensures ∙ sym (put_room a.list.now a.k a.e c.if-k-lt25.true c.if-list-ge125.true)
 
 pub returns-else-list-ge125 : goal.returns-else-list-ge125
 returns-else-list-ge125 c =
     let a = c.args in
-    sym (stored_short a.list.now a.k a.e c.if-k-lt25.true c.if-list-ge125.false)
+    sym (put_short a.list.now a.k a.e c.if-k-lt25.true c.if-list-ge125.false)
 
 pub returns-else-k-lt25 : goal.returns-else-k-lt25
-returns-else-k-lt25 c = let a = c.args in sym (stored_past a.list.now a.k a.e c.if-k-lt25.false)
+returns-else-k-lt25 c = let a = c.args in sym (put_past a.list.now a.k a.e c.if-k-lt25.false)

@@ -1,7 +1,7 @@
 -- The loop's invariant: the parts on the stack, worked from the top down, come to what the zone comes to.
 use Prim.Native.Nat.{◌-◌}
 use native.Mathlib.Omega.{arith}
-use mathlib.Core.Path.{◌∙◌}
+use mathlib.Core.Path.{sym, ◌∙◌}
 use Rattle.zones.specs.Fits.{hinted_new}
 use lib.ListN.{get_or, replicate}
 use Rattle.split.specs.Stack.{no_part, Turn, drained, cut_sticks, start_turned, ends_turned, refused_turned, room_turned}
@@ -61,14 +61,14 @@ returns-then-now-gt0 c =
     refused_turned (turn after-ended) c.if-now-gt0.true
     ∙ start_whole a.b a.r a.zone a.out c.start-stack.result c.start-stack.ensures
 
-pub offset_bounds-stack-top-then-p-eq3 : goal.offset_bounds-stack-top-then-p-eq3
-offset_bounds-stack-top-then-p-eq3 c =
-    let after-ended = (goal.at.offset_bounds-stack-top-then-p-eq3 c).After-ended-next in
+pub offset_bounds-stack-top-then-is_split : goal.offset_bounds-stack-top-then-is_split
+offset_bounds-stack-top-then-is_split c =
+    let after-ended = (goal.at.offset_bounds-stack-top-then-is_split c).After-ended-next in
     omega (arith, (turn after-ended).turned.few)
 
-pub bounds-stack-top-then-p-eq3 : goal.bounds-stack-top-then-p-eq3
-bounds-stack-top-then-p-eq3 c =
-    let after-ended = (goal.at.bounds-stack-top-then-p-eq3 c).After-ended-next in
+pub bounds-stack-top-then-is_split : goal.bounds-stack-top-then-is_split
+bounds-stack-top-then-is_split c =
+    let after-ended = (goal.at.bounds-stack-top-then-is_split c).After-ended-next in
     omega (arith, (turn after-ended).top, (turn after-ended).turned.few)
 
 pub offset_bounds-stack-n : goal.offset_bounds-stack-n
@@ -79,22 +79,22 @@ offset_bounds-stack-n c =
 pub bounds-stack-n : goal.bounds-stack-n
 bounds-stack-n c =
     let after-ended = (goal.at.bounds-stack-n c).After-ended-next in
-    room_turned (turn after-ended) c.if-p-eq3.true
+    room_turned (turn after-ended) (sym c.is_split.ensures ∙ c.if-is_split.true)
 
 pub overflow_add-n : goal.overflow_add-n
 overflow_add-n c =
     let after-ended = (goal.at.overflow_add-n c).After-ended-next in
     omega (arith, (turn after-ended).turned.few)
 
-pub loop-n-smaller-then-p-eq3 : goal.loop-n-smaller-then-p-eq3
-loop-n-smaller-then-p-eq3 c =
-    let after-ended = (goal.at.loop-n-smaller-then-p-eq3 c).After-ended-next in
-    splits_less (turn after-ended) c.if-p-eq3.true c.no_part-no.ensures c.yes_part-yes.ensures
+pub loop-n-smaller-then-is_split : goal.loop-n-smaller-then-is_split
+loop-n-smaller-then-is_split c =
+    let after-ended = (goal.at.loop-n-smaller-then-is_split c).After-ended-next in
+    splits_less (turn after-ended) (sym c.is_split.ensures ∙ c.if-is_split.true) c.no_part-no.ensures c.yes_part-yes.ensures
 
-pub loop-n-preserved-then-p-eq3 : goal.loop-n-preserved-then-p-eq3
-loop-n-preserved-then-p-eq3 c =
-    let after-ended = (goal.at.loop-n-preserved-then-p-eq3 c).After-ended-next in
-    splits_turned (turn after-ended) c.if-p-eq3.true c.no_part-no.ensures c.yes_part-yes.ensures
+pub loop-n-preserved-then-is_split : goal.loop-n-preserved-then-is_split
+loop-n-preserved-then-is_split c =
+    let after-ended = (goal.at.loop-n-preserved-then-is_split c).After-ended-next in
+    splits_turned (turn after-ended) (sym c.is_split.ensures ∙ c.if-is_split.true) c.no_part-no.ensures c.yes_part-yes.ensures
 
 pub loop-n-smaller : goal.loop-n-smaller
 loop-n-smaller c =
@@ -103,7 +103,7 @@ loop-n-smaller c =
     ends_less at-loop.stack at-loop.n (at-loop.n - 1) (turn after-ended).top
 
 pub loop-n-preserved : goal.loop-n-preserved
-loop-n-preserved c = let after-ended = (goal.at.loop-n-preserved c).After-ended-next in ends_turned (turn after-ended) c.if-p-eq3.false
+loop-n-preserved c = let after-ended = (goal.at.loop-n-preserved c).After-ended-next in ends_turned (turn after-ended) (sym c.is_split.ensures ∙ c.if-is_split.false)
 
 pub returns : goal.returns
 returns c =

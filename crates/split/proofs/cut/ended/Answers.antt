@@ -1,22 +1,24 @@
--- The branches are the cases of `ended_c`.
-use Rattle.split.proofs.Steps.{ended_cut, ended_kept, ended_split, ended_refused}
-use mathlib.Core.Path.{◌∙◌}
+-- The arms are the cases of `ended_c`.
+use mathlib.Core.Path.{refl}
+use Rattle.split.specs.Trees.{ended_c}
 use Rattle.split.proofs.cut.ended.Goals as goal
 
-pub returns-then-p-lt2 : goal.returns-then-p-lt2
-returns-then-p-lt2 c = ended_cut c.args.p c.args.out c.if-p-lt2.true
+pub returns-in-No : goal.returns-in-No
+unfolding ended_c
+returns-in-No c = rw c.in-No.is refl
 
-pub returns-then-p-lt3 : goal.returns-then-p-lt3
-returns-then-p-lt3 c =
-    let a = c.args in
-    c.listed.ensures ∙ ended_kept a.p a.out c.if-p-lt2.false c.if-p-lt3.true
+pub returns-in-Cut : goal.returns-in-Cut
+unfolding ended_c
+returns-in-Cut c = rw c.in-Cut.is refl
 
-pub returns-then-p-lt4 : goal.returns-then-p-lt4
-returns-then-p-lt4 c =
-    let a = c.args in
-    ended_split a.p a.out c.if-p-lt2.false c.if-p-lt3.false c.if-p-lt4.true
+pub returns-in-Kept : goal.returns-in-Kept
+unfolding ended_c
+returns-in-Kept c = rw c.in-Kept.is c.listed.ensures
 
-pub returns : goal.returns
-returns c =
-    let a = c.args in
-    c.refused.ensures ∙ ended_refused a.p a.out c.if-p-lt2.false c.if-p-lt3.false c.if-p-lt4.false
+pub returns-in-Split : goal.returns-in-Split
+unfolding ended_c
+returns-in-Split c = rw c.in-Split.is refl
+
+pub returns-in-Full : goal.returns-in-Full
+unfolding ended_c
+returns-in-Full c = rw c.in-Full.is c.refused.ensures

@@ -8,10 +8,10 @@ use Rattle.split.specs.Turns.{knowing_starts, knowing_fits}
 use borrow.Author.Rules.{rules}
 use Rattle.split.proofs.tests.run.Goals as goal
 
-pub returns-then-p-gt0 : goal.returns-then-p-gt0
-returns-then-p-gt0 c =
+pub returns-then-not-goes_on : goal.returns-then-not-goes_on
+returns-then-not-goes_on c =
     let a = c.args in
-    λ b h. going_ends b a.r a.p a.p (going_starts b a.r a.p c.requires.0) c.if-p-gt0.true
+    λ b h. going_ends b a.r a.p a.p (going_starts b a.r a.p c.requires.0) (sym c.goes_on.ensures ∙ c.if-not-goes_on.true)
 
 pub loop-halt-init : goal.loop-halt-init
 loop-halt-init c =
@@ -25,7 +25,7 @@ loop-halt-smaller-then-outside c =
     let loop = c.loop-halt in
     let a = c.args in
     skip_less a.r a.p.zone _ _ a.p loop.flat
-    (part_of a.p.zone loop.new loop.test loop.tests loop.phase loop.halt) loop.invariant c.loop-halt-test.true
+    (part_of a.p.zone loop.new loop.test loop.tests loop.phase loop.halt) loop.invariant (sym c.goes_on-in-loop-halt.ensures ∙ c.loop-halt-test.true)
     (sym c.outside.ensures ∙ c.if-outside.true) c.after-next.result c.after-next.ensures
 
 pub loop-halt-preserved-then-outside : goal.loop-halt-preserved-then-outside
@@ -33,7 +33,7 @@ loop-halt-preserved-then-outside c =
     let loop = c.loop-halt in
     let a = c.args in
     way_skips a.r a.p.zone _ _ a.p loop.flat
-    (part_of a.p.zone loop.new loop.test loop.tests loop.phase loop.halt) loop.invariant c.loop-halt-test.true
+    (part_of a.p.zone loop.new loop.test loop.tests loop.phase loop.halt) loop.invariant (sym c.goes_on-in-loop-halt.ensures ∙ c.loop-halt-test.true)
     (sym c.outside.ensures ∙ c.if-outside.true) c.after-next.result c.after-next.ensures
 
 pub offset_bounds-old-f : goal.offset_bounds-old-f
@@ -85,7 +85,7 @@ loop-halt-smaller c =
     let a = c.args in
     let q = part_of a.p.zone loop.new loop.test loop.tests loop.phase loop.halt in
     run_less a.r a.p.zone _ _ a.p loop.flat
-    q loop.invariant c.loop-halt-test.true
+    q loop.invariant (sym c.goes_on-in-loop-halt.ensures ∙ c.loop-halt-test.true)
     c.places-at.result c.places-at.ensures c.framed_of-old.result.entries c.framed_of-old.ensures
     c.via-via.result c.via-via.ensures c.tighter-t.result c.tighter-t.ensures
     c.settled-verdict.result.kind c.settled-verdict.ensures.kind_value c.turned-next.result c.turned-next.ensures
@@ -96,7 +96,7 @@ loop-halt-preserved c =
     let a = c.args in
     let q = part_of a.p.zone loop.new loop.test loop.tests loop.phase loop.halt in
     run_turn a.r a.p.zone _ _ a.p loop.flat
-    q loop.invariant c.loop-halt-test.true
+    q loop.invariant (sym c.goes_on-in-loop-halt.ensures ∙ c.loop-halt-test.true)
     c.places-at.result c.places-at.ensures c.framed_of-old.result.entries c.framed_of-old.ensures
     c.via-via.result c.via-via.ensures c.tighter-t.result c.tighter-t.ensures
     c.settled-verdict.result.kind c.settled-verdict.ensures.kind_value c.turned-next.result c.turned-next.ensures _
@@ -107,4 +107,4 @@ returns c =
     let a = c.args in
     let loop = c.loop-halt in
     λ b h. going_ends b a.r a.p (part_of a.p.zone loop.new loop.test loop.tests loop.phase loop.halt)
-    (loop.invariant.going b h.narrows) c.loop-halt-test.false
+    (loop.invariant.going b h.narrows) (sym c.goes_on-in-loop-halt.ensures ∙ c.loop-halt-test.false)

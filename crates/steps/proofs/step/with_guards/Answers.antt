@@ -1,43 +1,24 @@
--- The loop's invariant: what is left of the guards, after the steps so far, comes to all of them.
-use mathlib.Core.Path.{refl, ◌∙◌}
+-- The guards are put in one after another; a full list stays as it is.
+use mathlib.Core.Path.{◌≡◌, ap, ◌∙◌}
 use native.Mathlib.Omega.{arith}
 use borrow.Author.Rules.{rules}
-use Rattle.steps.proofs.Cases.{size_is, guards_turn, guards_full, guards_done, put_step}
+use lib.ListN.{take}
+use Rattle.steps.specs.Steps.{with_guards_c}
+use Rattle.steps.proofs.Cases.{first_ones, guards_turn, guards_full, guards_done}
 use Rattle.steps.proofs.step.with_guards.Goals as goal
-
-pub loop-i-init : goal.loop-i-init
-loop-i-init c =
-    let a = c.args in
-    let h = size_is _ a.count 6 a.guards c.at_most-n.ensures (search rules) in
-    (h.0, h.1, refl)
 
 pub returns-then-at-ge20 : goal.returns-then-at-ge20
 returns-then-at-ge20 c =
-    let v = c.loop-i.invariant in
-    guards_full _ c.loop-i.more c.if-at-ge20.true ∙ v.2
-
-pub offset_bounds-more-at : goal.offset_bounds-more-at
-offset_bounds-more-at c = omega (arith, c.if-at-ge20.false)
-
-pub bounds-more-at : goal.bounds-more-at
-bounds-more-at c = omega (arith, c.if-at-ge20.false)
-
-pub overflow_add-more : goal.overflow_add-more
-overflow_add-more c = omega (arith, c.if-at-ge20.false)
-
-pub loop-i-preserved : goal.loop-i-preserved
-loop-i-preserved c =
     let a = c.args in
-    let v = c.loop-i.invariant in (
-      v.0,
-      v.1,
-      guards_turn a.guards a.count c.loop-i.i c.loop-i.more _ _
-          (omega (arith, c.loop-i-test.true, v.1)) v.2
-          (put_step c.loop-i.more _ c.if-at-ge20.false),
-    )
+    let first : take c.min-n.result a.guards ≡ take a.count a.guards = first_ones _ a.count 6 a.guards c.min-n.ensures (search rules) in
+    guards_full _ c.loop-guard.more c.if-at-ge20.true ∙ c.loop-guard.invariant ∙ ap (with_guards_c a.steps) first
+
+pub loop-guard-preserved : goal.loop-guard-preserved
+loop-guard-preserved c =
+    let loop = c.loop-guard in guards_turn _ loop.guard-index loop.more _ c.loop-guard-test.true c.if-at-ge20.false loop.invariant
 
 pub returns : goal.returns
 returns c =
     let a = c.args in
-    let v = c.loop-i.invariant in
-    guards_done a.guards a.count c.loop-i.i c.loop-i.more _ (omega (arith, c.loop-i-test.false, v.1)) v.2
+    let first : take c.min-n.result a.guards ≡ take a.count a.guards = first_ones _ a.count 6 a.guards c.min-n.ensures (search rules) in
+    guards_done _ c.loop-guard.guard-index c.loop-guard.more _ (omega arith) c.loop-guard.invariant ∙ ap (with_guards_c a.steps) first

@@ -10,7 +10,7 @@ use mir.ValLaws.{to_z-of_z}
 use Rattle.expr.specs.Records.{blank_range}
 use Rattle.sweep.specs.Reply.{in_range}
 use Rattle.sweep.proofs.Replies.{placing_start, placing_turn, placing_out, placing_all}
-use Rattle.sweep.proofs.Replies.{told_inside, told_outside, bits_inside}
+use Rattle.sweep.proofs.Replies.{told_inside, told_outside}
 use borrow.Author.Rules.{rules}
 use Rattle.sweep.proofs.reply.in_ranges.Goals.{Else-not-in_range}
 use Rattle.sweep.proofs.reply.in_ranges.Goals as goal
@@ -40,14 +40,6 @@ number-inside c =
     let a = turn.args in
     told_inside (get_or a.b.list i blank_range) (get_or a.numbers.list i (pos 0)) _ (search rules)
     c.in_range.ensures (ap not c.if-not-in_range.false)
-
-pub value_in-requires : goal.value_in-requires
-value_in-requires c =
-    let turn = c.before.before.before.before in
-    let loop = turn.loop-i in
-    let a = turn.args in
-    bits_inside (get_or a.b.list loop.i blank_range) (get_or a.numbers.list loop.i (pos 0))
-    (search rules) (number-inside c)
 
 pub loop-i-preserved : goal.loop-i-preserved
 loop-i-preserved c =

@@ -5,18 +5,12 @@ use Rattle.sweep.specs.TableReply.{swept_table}
 use Rattle.sweep.proofs.Replies.{inside_reply, outside_reply}
 use Rattle.sweep.proofs.reply.reply_for.Goals as goal
 
-pub returns-then-placed : goal.returns-then-placed
+pub returns-in-Ok : goal.returns-in-Ok
 unfolding sheet_in
-returns-then-placed c =
-    let asked = c.before.before.before in
-    let a = asked.args in
-    inside_reply (sheet_in a.file.now a.ix) a.numbers.list _ asked.in_ranges-placed.ensures _ c.if-placed.true
-    (c.swept.ensures ∙ ap swept_table c.walk.ensures)
+returns-in-Ok c =
+    c.swept.ensures ∙ ap swept_table c.walk.ensures
+    ∙ inside_reply (sheet_in c.args.file.now c.args.ix) c.args.numbers.list _ c.in-Ok.ensures
 
-pub returns : goal.returns
+pub returns-in-Err : goal.returns-in-Err
 unfolding sheet_in
-returns c =
-    let asked = c.before.before in
-    let a = asked.args in
-    outside_reply (sheet_in a.file.now a.ix) a.numbers.list _ asked.in_ranges-placed.ensures _ c.if-placed.false
-    c.blank.ensures
+returns-in-Err c = c.blank.ensures ∙ outside_reply (sheet_in c.args.file.now c.args.ix) c.args.numbers.list _ c.in-Err.ensures

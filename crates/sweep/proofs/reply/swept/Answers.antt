@@ -1,6 +1,6 @@
 -- The branches are the cases of `swept_table`.
-use Rattle.sweep.specs.TableReply.{swept_table}
 use mathlib.Core.Path.{refl, sym, ◌∙◌}
+use Rattle.sweep.specs.TableReply.{swept_table}
 use Rattle.sweep.proofs.reply.swept.Goals as goal
 
 pub returns-then-is_void : goal.returns-then-is_void
@@ -9,6 +9,4 @@ returns-then-is_void c = rw (sym c.is_void.ensures ∙ c.if-is_void.true) c.blan
 
 pub returns : goal.returns
 unfolding swept_table
-returns c =
-    let tested = c.before.before.before.before.before in
-    rw (sym tested.is_void.ensures ∙ tested.if-is_void.false) refl
+returns c = rw (sym c.is_void.ensures ∙ c.if-is_void.false) refl

@@ -15,18 +15,12 @@ unfolding sheet_in
 loop-k-init c =
     let a = c.args in
     let l : length a.ix.route ≡ 32 = search rules in
-    let h = size_is _ a.ix.moves 32 a.ix.route c.at_most-n.ensures l in
+    let h = size_is _ a.ix.moves 32 a.ix.route c.min-n.ensures l in
     (h.0, h.1, (0, (c.location_at-here.ensures, walk_begun _ _ _ _ c.location_at-here.ensures c.start-m.ensures)))
 
 pub bounds-ix-k : goal.bounds-ix-k
 unfolding sheet_in
 bounds-ix-k c = omega arith
-
-pub overflow_add-k : goal.overflow_add-k
-overflow_add-k c = omega arith
-
-pub loop-k-smaller : goal.loop-k-smaller
-loop-k-smaller c = omega arith
 
 pub loop-k-preserved : goal.loop-k-preserved
 unfolding sheet_in
@@ -47,7 +41,7 @@ loop-k-preserved c =
         (
           at-location-at.location_at-there.ensures,
           walk_turn s (point a.v) i.k v.2.0 i.m _ _ _ _ _ _ (omega arith) v.2.1.1
-              (at-transition-at.transition_at-t.ensures ∙ ap (λ (n : ℕ). transition_c s n) at-index.index.ensures)
+              (at-transition-at.transition_at-t.ensures ∙ ap (λ (n : ℕ). transition_c s n) at-index.from.ensures)
               v.2.1.0 at-location-at.location_at-there.ensures at-stay.stay.ensures c.moved-next.ensures,
         ),
       ),

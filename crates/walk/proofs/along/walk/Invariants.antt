@@ -1,4 +1,4 @@
-use Prim.Native.Nat.{ℕ, ◌≤◌, ◌-◌}
+use Prim.Native.Nat.{ℕ, ◌≤◌}
 use Rattle.expr.specs.Records.{point}
 use Rattle.walk.specs.Walked.{walk_table, sweep_table}
 use Rattle.sheet.specs.Lookup.{location_c}
@@ -12,6 +12,3 @@ abbrev pub invariant-loop-k : goal.invariant-loop-k
 invariant-loop-k l = let s = sheet_in l.file l.ix in
     (l.n ≤ 32) × (l.n ≡ length (take s.moves s.route))
     × ((place : ℕ) × ((l.here ≡ location_c s place) × (walk_table s (point l.v) place (drop l.k (take s.moves s.route)) l.m ≡ sweep_table s (point l.v))))
-
-abbrev pub decreases-loop-k : goal.decreases-loop-k
-decreases-loop-k l = l.n - l.k

@@ -1,17 +1,21 @@
 -- The loop's invariant: where the walk stands, in cells (specs/Standing).
-use mathlib.Core.Path.{◌≡◌, refl, sym, subst, ◌∙◌}
-use Prim.Native.Nat.{ℕ, ◌-◌, ◌≤◌}
+use mathlib.Core.Path.{◌≡◌, refl, sym, ap, subst, ◌∙◌}
+use mathlib.Core.Bool.{true, true≢false}
+use Prim.Native.Nat.{ℕ, ◌≤◌}
 use native.Mathlib.Omega.{arith}
 use borrow.Author.Rules.{rules}
-use lib.ListN.{length, get_or, length-map, length-set}
+use lib.ListN.{length, get_or, length-set}
 use Rattle.index.specs.SheetIn.{sheet_in}
 use Rattle.passing.specs.Machine.{no_step}
-use Rattle.windows_route.specs.Ended.{cells_length, marks_length, counts_length, refused_as}
+use Rattle.running.specs.Tasks.{guarding_c}
+use Rattle.steps.specs.Steps.{asks_c, guard_of_c, asked_is, asked_not}
+use Rattle.windows_route.specs.Ended.{refused_as}
 use Rattle.windows_route.specs.Standing.{standing_starts, top_lives, top_hinted, stopped_refused, split_fits, split_deep}
 use Rattle.windows_route.specs.Standing.{stopped_split, listed_room, stopped_listed, stopped_dropped, in_list, from_few}
 use Rattle.windows_route.specs.Standing.{hinted_at, stays_there, stays_at, loaded_at, standing_stepped, standing_next, standing_ends}
 use Rattle.zones.specs.Fits.{hinted_new}
 use Rattle.zones.specs.Zone.{blank_zone}
+use Rattle.windows_route.proofs.along.walk.Goals.{in-Some, in_default}
 use Rattle.windows_route.proofs.along.walk.Goals as goal
 
 pub loop-k-init : goal.loop-k-init
@@ -97,7 +101,7 @@ halved-requires c =
     let hl = c.run-stop.auto.cells ∙ st.cells_long in
     let hm = c.run-stop.auto.marks ∙ st.marks_long in
     let done = c.run-stop in
-    let f = c.if-t-eq3.true in
+    let f = sym c.is_split.ensures ∙ c.if-is_split.true in
     let fits = split_fits st go busy _ _ hl hm done.result.hint done.result.task done.ensures.ran done.ensures.same
     done.ensures.known f in
     let deep = split_deep st go busy _ _ hl hm done.result.hint done.result.task done.ensures.ran done.ensures.same
@@ -113,7 +117,7 @@ overflow_add-n c =
     let hl = c.run-stop.auto.cells ∙ st.cells_long in
     let hm = c.run-stop.auto.marks ∙ st.marks_long in
     let done = c.run-stop in
-    let f = c.if-t-eq3.true in
+    let f = sym c.is_split.ensures ∙ c.if-is_split.true in
     let fits = split_fits st go busy _ _ hl hm done.result.hint done.result.task done.ensures.ran done.ensures.same
     done.ensures.known f in
     let deep = split_deep st go busy _ _ hl hm done.result.hint done.result.task done.ensures.ran done.ensures.same
@@ -130,15 +134,15 @@ hint_at-no-requires c =
     let hl = c.run-stop.auto.cells ∙ st.cells_long in
     let hm = c.run-stop.auto.marks ∙ st.marks_long in
     let done = c.run-stop in
-    let f = c.if-t-eq3.true in
+    let f = sym c.is_split.ensures ∙ c.if-is_split.true in
     let fits = split_fits st go busy _ _ hl hm done.result.hint done.result.task done.ensures.ran done.ensures.same
     done.ensures.known f in
     let deep = split_deep st go busy _ _ hl hm done.result.hint done.result.task done.ensures.ran done.ensures.same
     done.ensures.known f in
     (c.halved.auto.cells ∙ hl, (omega arith, omega arith))
 
-pub overflow_add-top-then-t-eq3 : goal.overflow_add-top-then-t-eq3
-overflow_add-top-then-t-eq3 c =
+pub overflow_add-top-then-is_split : goal.overflow_add-top-then-is_split
+overflow_add-top-then-is_split c =
     let st = c.loop-k.invariant in
     let go = c.if-s-steps.true in
     let busy = c.if-s-gt0.true in
@@ -146,15 +150,15 @@ overflow_add-top-then-t-eq3 c =
     let hl = c.run-stop.auto.cells ∙ st.cells_long in
     let hm = c.run-stop.auto.marks ∙ st.marks_long in
     let done = c.run-stop in
-    let f = c.if-t-eq3.true in
+    let f = sym c.is_split.ensures ∙ c.if-is_split.true in
     let fits = split_fits st go busy _ _ hl hm done.result.hint done.result.task done.ensures.ran done.ensures.same
     done.ensures.known f in
     let deep = split_deep st go busy _ _ hl hm done.result.hint done.result.task done.ensures.ran done.ensures.same
     done.ensures.known f in
     omega arith
 
-pub overflow_add-n-then-t-eq3 : goal.overflow_add-n-then-t-eq3
-overflow_add-n-then-t-eq3 c =
+pub overflow_add-n-then-is_split : goal.overflow_add-n-then-is_split
+overflow_add-n-then-is_split c =
     let st = c.loop-k.invariant in
     let go = c.if-s-steps.true in
     let busy = c.if-s-gt0.true in
@@ -162,7 +166,7 @@ overflow_add-n-then-t-eq3 c =
     let hl = c.run-stop.auto.cells ∙ st.cells_long in
     let hm = c.run-stop.auto.marks ∙ st.marks_long in
     let done = c.run-stop in
-    let f = c.if-t-eq3.true in
+    let f = sym c.is_split.ensures ∙ c.if-is_split.true in
     let fits = split_fits st go busy _ _ hl hm done.result.hint done.result.task done.ensures.ran done.ensures.same
     done.ensures.known f in
     let deep = split_deep st go busy _ _ hl hm done.result.hint done.result.task done.ensures.ran done.ensures.same
@@ -179,7 +183,7 @@ hint_at-yes-requires c =
     let hl = c.run-stop.auto.cells ∙ st.cells_long in
     let hm = c.run-stop.auto.marks ∙ st.marks_long in
     let done = c.run-stop in
-    let f = c.if-t-eq3.true in
+    let f = sym c.is_split.ensures ∙ c.if-is_split.true in
     let fits = split_fits st go busy _ _ hl hm done.result.hint done.result.task done.ensures.ran done.ensures.same
     done.ensures.known f in
     let deep = split_deep st go busy _ _ hl hm done.result.hint done.result.task done.ensures.ran done.ensures.same
@@ -195,15 +199,15 @@ overflow_add-counts c =
     let hl = c.run-stop.auto.cells ∙ st.cells_long in
     let hm = c.run-stop.auto.marks ∙ st.marks_long in
     let done = c.run-stop in
-    let f = c.if-t-eq3.true in
+    let f = sym c.is_split.ensures ∙ c.if-is_split.true in
     let fits = split_fits st go busy _ _ hl hm done.result.hint done.result.task done.ensures.ran done.ensures.same
     done.ensures.known f in
     let deep = split_deep st go busy _ _ hl hm done.result.hint done.result.task done.ensures.ran done.ensures.same
     done.ensures.known f in
     omega arith
 
-pub offset_bounds-counts-top-then-t-eq3 : goal.offset_bounds-counts-top-then-t-eq3
-offset_bounds-counts-top-then-t-eq3 c =
+pub offset_bounds-counts-top-then-is_split : goal.offset_bounds-counts-top-then-is_split
+offset_bounds-counts-top-then-is_split c =
     let st = c.loop-k.invariant in
     omega (
       arith,
@@ -211,8 +215,8 @@ offset_bounds-counts-top-then-t-eq3 c =
       st.walking.machine.turned.few,
     )
 
-pub bounds-counts-top-then-t-eq3 : goal.bounds-counts-top-then-t-eq3
-bounds-counts-top-then-t-eq3 c =
+pub bounds-counts-top-then-is_split : goal.bounds-counts-top-then-is_split
+bounds-counts-top-then-is_split c =
     let st = c.loop-k.invariant in
     omega (
       arith,
@@ -221,8 +225,8 @@ bounds-counts-top-then-t-eq3 c =
       st.counts_long,
     )
 
-pub overflow_add-counts-then-t-eq3 : goal.overflow_add-counts-then-t-eq3
-overflow_add-counts-then-t-eq3 c =
+pub overflow_add-counts-then-is_split : goal.overflow_add-counts-then-is_split
+overflow_add-counts-then-is_split c =
     let st = c.loop-k.invariant in
     let go = c.if-s-steps.true in
     let busy = c.if-s-gt0.true in
@@ -230,15 +234,15 @@ overflow_add-counts-then-t-eq3 c =
     let hl = c.run-stop.auto.cells ∙ st.cells_long in
     let hm = c.run-stop.auto.marks ∙ st.marks_long in
     let done = c.run-stop in
-    let f = c.if-t-eq3.true in
+    let f = sym c.is_split.ensures ∙ c.if-is_split.true in
     let fits = split_fits st go busy _ _ hl hm done.result.hint done.result.task done.ensures.ran done.ensures.same
     done.ensures.known f in
     let deep = split_deep st go busy _ _ hl hm done.result.hint done.result.task done.ensures.ran done.ensures.same
     done.ensures.known f in
     omega arith
 
-pub overflow_add-counts-then-t-eq3-2 : goal.overflow_add-counts-then-t-eq3-2
-overflow_add-counts-then-t-eq3-2 c =
+pub overflow_add-counts-then-is_split-2 : goal.overflow_add-counts-then-is_split-2
+overflow_add-counts-then-is_split-2 c =
     let st = c.loop-k.invariant in
     let go = c.if-s-steps.true in
     let busy = c.if-s-gt0.true in
@@ -246,15 +250,15 @@ overflow_add-counts-then-t-eq3-2 c =
     let hl = c.run-stop.auto.cells ∙ st.cells_long in
     let hm = c.run-stop.auto.marks ∙ st.marks_long in
     let done = c.run-stop in
-    let f = c.if-t-eq3.true in
+    let f = sym c.is_split.ensures ∙ c.if-is_split.true in
     let fits = split_fits st go busy _ _ hl hm done.result.hint done.result.task done.ensures.ran done.ensures.same
     done.ensures.known f in
     let deep = split_deep st go busy _ _ hl hm done.result.hint done.result.task done.ensures.ran done.ensures.same
     done.ensures.known f in
     omega arith
 
-pub offset_bounds-counts-top-then-t-eq3-2 : goal.offset_bounds-counts-top-then-t-eq3-2
-offset_bounds-counts-top-then-t-eq3-2 c =
+pub offset_bounds-counts-top-then-is_split-2 : goal.offset_bounds-counts-top-then-is_split-2
+offset_bounds-counts-top-then-is_split-2 c =
     let st = c.loop-k.invariant in
     let go = c.if-s-steps.true in
     let busy = c.if-s-gt0.true in
@@ -262,15 +266,15 @@ offset_bounds-counts-top-then-t-eq3-2 c =
     let hl = c.run-stop.auto.cells ∙ st.cells_long in
     let hm = c.run-stop.auto.marks ∙ st.marks_long in
     let done = c.run-stop in
-    let f = c.if-t-eq3.true in
+    let f = sym c.is_split.ensures ∙ c.if-is_split.true in
     let fits = split_fits st go busy _ _ hl hm done.result.hint done.result.task done.ensures.ran done.ensures.same
     done.ensures.known f in
     let deep = split_deep st go busy _ _ hl hm done.result.hint done.result.task done.ensures.ran done.ensures.same
     done.ensures.known f in
     omega arith
 
-pub bounds-counts-top-then-t-eq3-2 : goal.bounds-counts-top-then-t-eq3-2
-bounds-counts-top-then-t-eq3-2 c =
+pub bounds-counts-top-then-is_split-2 : goal.bounds-counts-top-then-is_split-2
+bounds-counts-top-then-is_split-2 c =
     let st = c.loop-k.invariant in
     let go = c.if-s-steps.true in
     let busy = c.if-s-gt0.true in
@@ -278,15 +282,15 @@ bounds-counts-top-then-t-eq3-2 c =
     let hl = c.run-stop.auto.cells ∙ st.cells_long in
     let hm = c.run-stop.auto.marks ∙ st.marks_long in
     let done = c.run-stop in
-    let f = c.if-t-eq3.true in
+    let f = sym c.is_split.ensures ∙ c.if-is_split.true in
     let fits = split_fits st go busy _ _ hl hm done.result.hint done.result.task done.ensures.ran done.ensures.same
     done.ensures.known f in
     let deep = split_deep st go busy _ _ hl hm done.result.hint done.result.task done.ensures.ran done.ensures.same
     done.ensures.known f in
     simp length-set (omega (arith, st.counts_long))
 
-pub offset_bounds-tasks-d-then-t-eq3 : goal.offset_bounds-tasks-d-then-t-eq3
-offset_bounds-tasks-d-then-t-eq3 c =
+pub offset_bounds-tasks-d-then-is_split : goal.offset_bounds-tasks-d-then-is_split
+offset_bounds-tasks-d-then-is_split c =
     let st = c.loop-k.invariant in
     omega (
       arith,
@@ -294,8 +298,8 @@ offset_bounds-tasks-d-then-t-eq3 c =
       st.walking.machine.turned.few,
     )
 
-pub bounds-tasks-d-then-t-eq3 : goal.bounds-tasks-d-then-t-eq3
-bounds-tasks-d-then-t-eq3 c =
+pub bounds-tasks-d-then-is_split : goal.bounds-tasks-d-then-is_split
+bounds-tasks-d-then-is_split c =
     let st = c.loop-k.invariant in
     omega (
       arith,
@@ -312,15 +316,15 @@ overflow_add-tasks c =
     let hl = c.run-stop.auto.cells ∙ st.cells_long in
     let hm = c.run-stop.auto.marks ∙ st.marks_long in
     let done = c.run-stop in
-    let f = c.if-t-eq3.true in
+    let f = sym c.is_split.ensures ∙ c.if-is_split.true in
     let fits = split_fits st go busy _ _ hl hm done.result.hint done.result.task done.ensures.ran done.ensures.same
     done.ensures.known f in
     let deep = split_deep st go busy _ _ hl hm done.result.hint done.result.task done.ensures.ran done.ensures.same
     done.ensures.known f in
     omega arith
 
-pub offset_bounds-tasks-d-then-t-eq3-2 : goal.offset_bounds-tasks-d-then-t-eq3-2
-offset_bounds-tasks-d-then-t-eq3-2 c =
+pub offset_bounds-tasks-d-then-is_split-2 : goal.offset_bounds-tasks-d-then-is_split-2
+offset_bounds-tasks-d-then-is_split-2 c =
     let st = c.loop-k.invariant in
     let go = c.if-s-steps.true in
     let busy = c.if-s-gt0.true in
@@ -328,15 +332,15 @@ offset_bounds-tasks-d-then-t-eq3-2 c =
     let hl = c.run-stop.auto.cells ∙ st.cells_long in
     let hm = c.run-stop.auto.marks ∙ st.marks_long in
     let done = c.run-stop in
-    let f = c.if-t-eq3.true in
+    let f = sym c.is_split.ensures ∙ c.if-is_split.true in
     let fits = split_fits st go busy _ _ hl hm done.result.hint done.result.task done.ensures.ran done.ensures.same
     done.ensures.known f in
     let deep = split_deep st go busy _ _ hl hm done.result.hint done.result.task done.ensures.ran done.ensures.same
     done.ensures.known f in
     omega arith
 
-pub bounds-tasks-d-then-t-eq3-2 : goal.bounds-tasks-d-then-t-eq3-2
-bounds-tasks-d-then-t-eq3-2 c =
+pub bounds-tasks-d-then-is_split-2 : goal.bounds-tasks-d-then-is_split-2
+bounds-tasks-d-then-is_split-2 c =
     let st = c.loop-k.invariant in
     let go = c.if-s-steps.true in
     let busy = c.if-s-gt0.true in
@@ -344,15 +348,15 @@ bounds-tasks-d-then-t-eq3-2 c =
     let hl = c.run-stop.auto.cells ∙ st.cells_long in
     let hm = c.run-stop.auto.marks ∙ st.marks_long in
     let done = c.run-stop in
-    let f = c.if-t-eq3.true in
+    let f = sym c.is_split.ensures ∙ c.if-is_split.true in
     let fits = split_fits st go busy _ _ hl hm done.result.hint done.result.task done.ensures.ran done.ensures.same
     done.ensures.known f in
     let deep = split_deep st go busy _ _ hl hm done.result.hint done.result.task done.ensures.ran done.ensures.same
     done.ensures.known f in
     omega arith
 
-pub offset_bounds-waits-d-then-t-eq3 : goal.offset_bounds-waits-d-then-t-eq3
-offset_bounds-waits-d-then-t-eq3 c =
+pub offset_bounds-waits-d-then-is_split : goal.offset_bounds-waits-d-then-is_split
+offset_bounds-waits-d-then-is_split c =
     let st = c.loop-k.invariant in
     omega (
       arith,
@@ -360,8 +364,8 @@ offset_bounds-waits-d-then-t-eq3 c =
       st.walking.machine.turned.few,
     )
 
-pub bounds-waits-d-then-t-eq3 : goal.bounds-waits-d-then-t-eq3
-bounds-waits-d-then-t-eq3 c =
+pub bounds-waits-d-then-is_split : goal.bounds-waits-d-then-is_split
+bounds-waits-d-then-is_split c =
     let st = c.loop-k.invariant in
     omega (
       arith,
@@ -378,15 +382,15 @@ overflow_add-waits c =
     let hl = c.run-stop.auto.cells ∙ st.cells_long in
     let hm = c.run-stop.auto.marks ∙ st.marks_long in
     let done = c.run-stop in
-    let f = c.if-t-eq3.true in
+    let f = sym c.is_split.ensures ∙ c.if-is_split.true in
     let fits = split_fits st go busy _ _ hl hm done.result.hint done.result.task done.ensures.ran done.ensures.same
     done.ensures.known f in
     let deep = split_deep st go busy _ _ hl hm done.result.hint done.result.task done.ensures.ran done.ensures.same
     done.ensures.known f in
     omega arith
 
-pub offset_bounds-waits-d-then-t-eq3-2 : goal.offset_bounds-waits-d-then-t-eq3-2
-offset_bounds-waits-d-then-t-eq3-2 c =
+pub offset_bounds-waits-d-then-is_split-2 : goal.offset_bounds-waits-d-then-is_split-2
+offset_bounds-waits-d-then-is_split-2 c =
     let st = c.loop-k.invariant in
     let go = c.if-s-steps.true in
     let busy = c.if-s-gt0.true in
@@ -394,15 +398,15 @@ offset_bounds-waits-d-then-t-eq3-2 c =
     let hl = c.run-stop.auto.cells ∙ st.cells_long in
     let hm = c.run-stop.auto.marks ∙ st.marks_long in
     let done = c.run-stop in
-    let f = c.if-t-eq3.true in
+    let f = sym c.is_split.ensures ∙ c.if-is_split.true in
     let fits = split_fits st go busy _ _ hl hm done.result.hint done.result.task done.ensures.ran done.ensures.same
     done.ensures.known f in
     let deep = split_deep st go busy _ _ hl hm done.result.hint done.result.task done.ensures.ran done.ensures.same
     done.ensures.known f in
     omega arith
 
-pub bounds-waits-d-then-t-eq3-2 : goal.bounds-waits-d-then-t-eq3-2
-bounds-waits-d-then-t-eq3-2 c =
+pub bounds-waits-d-then-is_split-2 : goal.bounds-waits-d-then-is_split-2
+bounds-waits-d-then-is_split-2 c =
     let st = c.loop-k.invariant in
     let go = c.if-s-steps.true in
     let busy = c.if-s-gt0.true in
@@ -410,7 +414,7 @@ bounds-waits-d-then-t-eq3-2 c =
     let hl = c.run-stop.auto.cells ∙ st.cells_long in
     let hm = c.run-stop.auto.marks ∙ st.marks_long in
     let done = c.run-stop in
-    let f = c.if-t-eq3.true in
+    let f = sym c.is_split.ensures ∙ c.if-is_split.true in
     let fits = split_fits st go busy _ _ hl hm done.result.hint done.result.task done.ensures.ran done.ensures.same
     done.ensures.known f in
     let deep = split_deep st go busy _ _ hl hm done.result.hint done.result.task done.ensures.ran done.ensures.same
@@ -426,16 +430,16 @@ pushed-s-requires c =
     let hl = c.run-stop.auto.cells ∙ st.cells_long in
     let hm = c.run-stop.auto.marks ∙ st.marks_long in
     let done = c.run-stop in
-    let f = c.if-t-eq3.true in
+    let f = sym c.is_split.ensures ∙ c.if-is_split.true in
     let fits = split_fits st go busy _ _ hl hm done.result.hint done.result.task done.ensures.ran done.ensures.same
     done.ensures.known f in
     let deep = split_deep st go busy _ _ hl hm done.result.hint done.result.task done.ensures.ran done.ensures.same
     done.ensures.known f in
     deep
 
-pub loop-k-smaller-then-t-eq3 : goal.loop-k-smaller-then-t-eq3
+pub loop-k-smaller-then-is_split : goal.loop-k-smaller-then-is_split
 unfolding sheet_in
-loop-k-smaller-then-t-eq3 c =
+loop-k-smaller-then-is_split c =
     let st = c.loop-k.invariant in
     let go = c.if-s-steps.true in
     let busy = c.if-s-gt0.true in
@@ -443,7 +447,7 @@ loop-k-smaller-then-t-eq3 c =
     let hl = c.run-stop.auto.cells ∙ st.cells_long in
     let hm = c.run-stop.auto.marks ∙ st.marks_long in
     let done = c.run-stop in
-    let f = c.if-t-eq3.true in
+    let f = sym c.is_split.ensures ∙ c.if-is_split.true in
     let fits = split_fits st go busy _ _ hl hm done.result.hint done.result.task done.ensures.ran done.ensures.same
     done.ensures.known f in
     let deep = split_deep st go busy _ _ hl hm done.result.hint done.result.task done.ensures.ran done.ensures.same
@@ -456,9 +460,9 @@ loop-k-smaller-then-t-eq3 c =
     no.ensures.held no.ensures.same yes.ensures.narrows yes.ensures.held yes.ensures.same _ _
     c.answered-below.ensures c.answered-above.ensures _ c.pushed-s.ensures).1
 
-pub loop-k-preserved-then-t-eq3 : goal.loop-k-preserved-then-t-eq3
+pub loop-k-preserved-then-is_split : goal.loop-k-preserved-then-is_split
 unfolding sheet_in
-loop-k-preserved-then-t-eq3 c =
+loop-k-preserved-then-is_split c =
     let st = c.loop-k.invariant in
     let go = c.if-s-steps.true in
     let busy = c.if-s-gt0.true in
@@ -466,7 +470,7 @@ loop-k-preserved-then-t-eq3 c =
     let hl = c.run-stop.auto.cells ∙ st.cells_long in
     let hm = c.run-stop.auto.marks ∙ st.marks_long in
     let done = c.run-stop in
-    let f = c.if-t-eq3.true in
+    let f = sym c.is_split.ensures ∙ c.if-is_split.true in
     let fits = split_fits st go busy _ _ hl hm done.result.hint done.result.task done.ensures.ran done.ensures.same
     done.ensures.known f in
     let deep = split_deep st go busy _ _ hl hm done.result.hint done.result.task done.ensures.ran done.ensures.same
@@ -490,7 +494,7 @@ offset_bounds-counts-at c =
     let done = c.run-stop in
     let quiet = subst (λ (x : ℕ). x ≤ 0) c.number-refusal.ensures c.if-refusal-gt0.false in
     let room = listed_room st go busy _ _ hl hm done.result.hint done.result.task done.ensures.ran done.ensures.same
-    done.ensures.known quiet c.if-t-eq2.true in
+    done.ensures.known quiet (sym c.is_kept.ensures ∙ c.if-is_kept.true) in
     omega (arith, st.counts_long)
 
 pub bounds-counts-at : goal.bounds-counts-at
@@ -504,7 +508,7 @@ bounds-counts-at c =
     let done = c.run-stop in
     let quiet = subst (λ (x : ℕ). x ≤ 0) c.number-refusal.ensures c.if-refusal-gt0.false in
     let room = listed_room st go busy _ _ hl hm done.result.hint done.result.task done.ensures.ran done.ensures.same
-    done.ensures.known quiet c.if-t-eq2.true in
+    done.ensures.known quiet (sym c.is_kept.ensures ∙ c.if-is_kept.true) in
     omega (arith, st.counts_long)
 
 pub offset_bounds-hints-at : goal.offset_bounds-hints-at
@@ -518,7 +522,7 @@ offset_bounds-hints-at c =
     let done = c.run-stop in
     let quiet = subst (λ (x : ℕ). x ≤ 0) c.number-refusal.ensures c.if-refusal-gt0.false in
     let room = listed_room st go busy _ _ hl hm done.result.hint done.result.task done.ensures.ran done.ensures.same
-    done.ensures.known quiet c.if-t-eq2.true in
+    done.ensures.known quiet (sym c.is_kept.ensures ∙ c.if-is_kept.true) in
     omega (arith, st.counts_long)
 
 pub bounds-hints-at : goal.bounds-hints-at
@@ -532,7 +536,7 @@ bounds-hints-at c =
     let done = c.run-stop in
     let quiet = subst (λ (x : ℕ). x ≤ 0) c.number-refusal.ensures c.if-refusal-gt0.false in
     let room = listed_room st go busy _ _ hl hm done.result.hint done.result.task done.ensures.ran done.ensures.same
-    done.ensures.known quiet c.if-t-eq2.true in
+    done.ensures.known quiet (sym c.is_kept.ensures ∙ c.if-is_kept.true) in
     omega (arith, st.counts_long)
 
 pub overflow_add-at : goal.overflow_add-at
@@ -548,7 +552,7 @@ overflow_add-at c =
     let quiet = subst (λ (x : ℕ). x ≤ 0) c.number-refusal.ensures
     c.if-refusal-gt0.false in
     let room = listed_room st go busy _ _ hl hm done.result.hint done.result.task done.ensures.ran done.ensures.same
-    done.ensures.known quiet c.if-t-eq2.true in
+    done.ensures.known quiet (sym c.is_kept.ensures ∙ c.if-is_kept.true) in
     omega (arith, st.counts_long)
 
 pub copy-requires : goal.copy-requires
@@ -564,11 +568,11 @@ copy-requires c =
     let quiet = subst (λ (x : ℕ). x ≤ 0) c.number-refusal.ensures
     c.if-refusal-gt0.false in
     let room = listed_room st go busy _ _ hl hm done.result.hint done.result.task done.ensures.ran done.ensures.same
-    done.ensures.known quiet c.if-t-eq2.true in
+    done.ensures.known quiet (sym c.is_kept.ensures ∙ c.if-is_kept.true) in
     (hl, (hm, (omega arith, omega arith)))
 
-pub overflow_add-counts-then-t-eq2 : goal.overflow_add-counts-then-t-eq2
-overflow_add-counts-then-t-eq2 c =
+pub overflow_add-counts-then-is_kept : goal.overflow_add-counts-then-is_kept
+overflow_add-counts-then-is_kept c =
     let st = c.loop-k.invariant in
     let go = c.if-s-steps.true in
     let busy = c.if-s-gt0.true in
@@ -578,11 +582,11 @@ overflow_add-counts-then-t-eq2 c =
     let done = c.run-stop in
     let quiet = subst (λ (x : ℕ). x ≤ 0) c.number-refusal.ensures c.if-refusal-gt0.false in
     let room = listed_room st go busy _ _ hl hm done.result.hint done.result.task done.ensures.ran done.ensures.same
-    done.ensures.known quiet c.if-t-eq2.true in
+    done.ensures.known quiet (sym c.is_kept.ensures ∙ c.if-is_kept.true) in
     omega (arith, st.counts_long)
 
-pub offset_bounds-counts-at-then-t-eq2 : goal.offset_bounds-counts-at-then-t-eq2
-offset_bounds-counts-at-then-t-eq2 c =
+pub offset_bounds-counts-at-then-is_kept : goal.offset_bounds-counts-at-then-is_kept
+offset_bounds-counts-at-then-is_kept c =
     let st = c.loop-k.invariant in
     let go = c.if-s-steps.true in
     let busy = c.if-s-gt0.true in
@@ -592,11 +596,11 @@ offset_bounds-counts-at-then-t-eq2 c =
     let done = c.run-stop in
     let quiet = subst (λ (x : ℕ). x ≤ 0) c.number-refusal.ensures c.if-refusal-gt0.false in
     let room = listed_room st go busy _ _ hl hm done.result.hint done.result.task done.ensures.ran done.ensures.same
-    done.ensures.known quiet c.if-t-eq2.true in
+    done.ensures.known quiet (sym c.is_kept.ensures ∙ c.if-is_kept.true) in
     omega (arith, st.counts_long)
 
-pub bounds-counts-at-then-t-eq2 : goal.bounds-counts-at-then-t-eq2
-bounds-counts-at-then-t-eq2 c =
+pub bounds-counts-at-then-is_kept : goal.bounds-counts-at-then-is_kept
+bounds-counts-at-then-is_kept c =
     let st = c.loop-k.invariant in
     let go = c.if-s-steps.true in
     let busy = c.if-s-gt0.true in
@@ -606,7 +610,7 @@ bounds-counts-at-then-t-eq2 c =
     let done = c.run-stop in
     let quiet = subst (λ (x : ℕ). x ≤ 0) c.number-refusal.ensures c.if-refusal-gt0.false in
     let room = listed_room st go busy _ _ hl hm done.result.hint done.result.task done.ensures.ran done.ensures.same
-    done.ensures.known quiet c.if-t-eq2.true in
+    done.ensures.known quiet (sym c.is_kept.ensures ∙ c.if-is_kept.true) in
     omega (arith, st.counts_long)
 
 pub overflow_add-hints : goal.overflow_add-hints
@@ -620,11 +624,11 @@ overflow_add-hints c =
     let done = c.run-stop in
     let quiet = subst (λ (x : ℕ). x ≤ 0) c.number-refusal.ensures c.if-refusal-gt0.false in
     let room = listed_room st go busy _ _ hl hm done.result.hint done.result.task done.ensures.ran done.ensures.same
-    done.ensures.known quiet c.if-t-eq2.true in
+    done.ensures.known quiet (sym c.is_kept.ensures ∙ c.if-is_kept.true) in
     omega (arith, st.counts_long)
 
-pub offset_bounds-hints-at-then-t-eq2 : goal.offset_bounds-hints-at-then-t-eq2
-offset_bounds-hints-at-then-t-eq2 c =
+pub offset_bounds-hints-at-then-is_kept : goal.offset_bounds-hints-at-then-is_kept
+offset_bounds-hints-at-then-is_kept c =
     let st = c.loop-k.invariant in
     let go = c.if-s-steps.true in
     let busy = c.if-s-gt0.true in
@@ -634,11 +638,11 @@ offset_bounds-hints-at-then-t-eq2 c =
     let done = c.run-stop in
     let quiet = subst (λ (x : ℕ). x ≤ 0) c.number-refusal.ensures c.if-refusal-gt0.false in
     let room = listed_room st go busy _ _ hl hm done.result.hint done.result.task done.ensures.ran done.ensures.same
-    done.ensures.known quiet c.if-t-eq2.true in
+    done.ensures.known quiet (sym c.is_kept.ensures ∙ c.if-is_kept.true) in
     omega (arith, st.counts_long)
 
-pub bounds-hints-at-then-t-eq2 : goal.bounds-hints-at-then-t-eq2
-bounds-hints-at-then-t-eq2 c =
+pub bounds-hints-at-then-is_kept : goal.bounds-hints-at-then-is_kept
+bounds-hints-at-then-is_kept c =
     let st = c.loop-k.invariant in
     let go = c.if-s-steps.true in
     let busy = c.if-s-gt0.true in
@@ -648,11 +652,11 @@ bounds-hints-at-then-t-eq2 c =
     let done = c.run-stop in
     let quiet = subst (λ (x : ℕ). x ≤ 0) c.number-refusal.ensures c.if-refusal-gt0.false in
     let room = listed_room st go busy _ _ hl hm done.result.hint done.result.task done.ensures.ran done.ensures.same
-    done.ensures.known quiet c.if-t-eq2.true in
+    done.ensures.known quiet (sym c.is_kept.ensures ∙ c.if-is_kept.true) in
     omega (arith, st.counts_long)
 
-pub copy-requires-then-t-eq2 : goal.copy-requires-then-t-eq2
-copy-requires-then-t-eq2 c =
+pub copy-requires-then-is_kept : goal.copy-requires-then-is_kept
+copy-requires-then-is_kept c =
     let st = c.loop-k.invariant in
     let go = c.if-s-steps.true in
     let busy = c.if-s-gt0.true in
@@ -662,11 +666,11 @@ copy-requires-then-t-eq2 c =
     let done = c.run-stop in
     let quiet = subst (λ (x : ℕ). x ≤ 0) c.number-refusal.ensures c.if-refusal-gt0.false in
     let room = listed_room st go busy _ _ hl hm done.result.hint done.result.task done.ensures.ran done.ensures.same
-    done.ensures.known quiet c.if-t-eq2.true in
+    done.ensures.known quiet (sym c.is_kept.ensures ∙ c.if-is_kept.true) in
     (c.copy.auto.cells ∙ hl, (c.copy.auto.marks ∙ hm, (omega arith, omega arith)))
 
-pub offset_bounds-counts-at-then-t-eq2-2 : goal.offset_bounds-counts-at-then-t-eq2-2
-offset_bounds-counts-at-then-t-eq2-2 c =
+pub offset_bounds-counts-at-then-is_kept-2 : goal.offset_bounds-counts-at-then-is_kept-2
+offset_bounds-counts-at-then-is_kept-2 c =
     let st = c.loop-k.invariant in
     let go = c.if-s-steps.true in
     let busy = c.if-s-gt0.true in
@@ -676,11 +680,11 @@ offset_bounds-counts-at-then-t-eq2-2 c =
     let done = c.run-stop in
     let quiet = subst (λ (x : ℕ). x ≤ 0) c.number-refusal.ensures c.if-refusal-gt0.false in
     let room = listed_room st go busy _ _ hl hm done.result.hint done.result.task done.ensures.ran done.ensures.same
-    done.ensures.known quiet c.if-t-eq2.true in
+    done.ensures.known quiet (sym c.is_kept.ensures ∙ c.if-is_kept.true) in
     omega (arith, st.counts_long)
 
-pub bounds-counts-at-then-t-eq2-2 : goal.bounds-counts-at-then-t-eq2-2
-bounds-counts-at-then-t-eq2-2 c =
+pub bounds-counts-at-then-is_kept-2 : goal.bounds-counts-at-then-is_kept-2
+bounds-counts-at-then-is_kept-2 c =
     let st = c.loop-k.invariant in
     let go = c.if-s-steps.true in
     let busy = c.if-s-gt0.true in
@@ -690,11 +694,11 @@ bounds-counts-at-then-t-eq2-2 c =
     let done = c.run-stop in
     let quiet = subst (λ (x : ℕ). x ≤ 0) c.number-refusal.ensures c.if-refusal-gt0.false in
     let room = listed_room st go busy _ _ hl hm done.result.hint done.result.task done.ensures.ran done.ensures.same
-    done.ensures.known quiet c.if-t-eq2.true in
+    done.ensures.known quiet (sym c.is_kept.ensures ∙ c.if-is_kept.true) in
     simp length-set (omega (arith, st.counts_long))
 
-pub offset_bounds-hints-at-then-t-eq2-2 : goal.offset_bounds-hints-at-then-t-eq2-2
-offset_bounds-hints-at-then-t-eq2-2 c =
+pub offset_bounds-hints-at-then-is_kept-2 : goal.offset_bounds-hints-at-then-is_kept-2
+offset_bounds-hints-at-then-is_kept-2 c =
     let st = c.loop-k.invariant in
     let go = c.if-s-steps.true in
     let busy = c.if-s-gt0.true in
@@ -704,11 +708,11 @@ offset_bounds-hints-at-then-t-eq2-2 c =
     let done = c.run-stop in
     let quiet = subst (λ (x : ℕ). x ≤ 0) c.number-refusal.ensures c.if-refusal-gt0.false in
     let room = listed_room st go busy _ _ hl hm done.result.hint done.result.task done.ensures.ran done.ensures.same
-    done.ensures.known quiet c.if-t-eq2.true in
+    done.ensures.known quiet (sym c.is_kept.ensures ∙ c.if-is_kept.true) in
     omega (arith, st.counts_long)
 
-pub bounds-hints-at-then-t-eq2-2 : goal.bounds-hints-at-then-t-eq2-2
-bounds-hints-at-then-t-eq2-2 c =
+pub bounds-hints-at-then-is_kept-2 : goal.bounds-hints-at-then-is_kept-2
+bounds-hints-at-then-is_kept-2 c =
     let st = c.loop-k.invariant in
     let go = c.if-s-steps.true in
     let busy = c.if-s-gt0.true in
@@ -718,7 +722,7 @@ bounds-hints-at-then-t-eq2-2 c =
     let done = c.run-stop in
     let quiet = subst (λ (x : ℕ). x ≤ 0) c.number-refusal.ensures c.if-refusal-gt0.false in
     let room = listed_room st go busy _ _ hl hm done.result.hint done.result.task done.ensures.ran done.ensures.same
-    done.ensures.known quiet c.if-t-eq2.true in
+    done.ensures.known quiet (sym c.is_kept.ensures ∙ c.if-is_kept.true) in
     omega (arith, st.counts_long)
 
 pub listed-s-requires : goal.listed-s-requires
@@ -732,12 +736,12 @@ listed-s-requires c =
     let done = c.run-stop in
     let quiet = subst (λ (x : ℕ). x ≤ 0) c.number-refusal.ensures c.if-refusal-gt0.false in
     let room = listed_room st go busy _ _ hl hm done.result.hint done.result.task done.ensures.ran done.ensures.same
-    done.ensures.known quiet c.if-t-eq2.true in
+    done.ensures.known quiet (sym c.is_kept.ensures ∙ c.if-is_kept.true) in
     room
 
-pub loop-k-smaller-then-t-eq2 : goal.loop-k-smaller-then-t-eq2
+pub loop-k-smaller-then-is_kept : goal.loop-k-smaller-then-is_kept
 unfolding sheet_in
-loop-k-smaller-then-t-eq2 c =
+loop-k-smaller-then-is_kept c =
     let st = c.loop-k.invariant in
     let go = c.if-s-steps.true in
     let busy = c.if-s-gt0.true in
@@ -747,14 +751,14 @@ loop-k-smaller-then-t-eq2 c =
     let done = c.run-stop in
     let quiet = subst (λ (x : ℕ). x ≤ 0) c.number-refusal.ensures c.if-refusal-gt0.false in
     (stopped_listed st go busy _ _ hl hm done.result.hint done.result.task done.ensures.ran done.ensures.same
-    done.ensures.known quiet c.if-t-eq2.true _ _
-    (c.copy-then-t-eq2.auto.cells ∙ c.copy.auto.cells ∙ hl)
-    (c.copy-then-t-eq2.auto.marks ∙ c.copy.auto.marks ∙ hm) _ c.copy.ensures
-    c.copy-then-t-eq2.ensures _ c.listed-s.ensures).1
+    done.ensures.known quiet (sym c.is_kept.ensures ∙ c.if-is_kept.true) _ _
+    (c.copy-then-is_kept.auto.cells ∙ c.copy.auto.cells ∙ hl)
+    (c.copy-then-is_kept.auto.marks ∙ c.copy.auto.marks ∙ hm) _ c.copy.ensures
+    c.copy-then-is_kept.ensures _ c.listed-s.ensures).1
 
-pub loop-k-preserved-then-t-eq2 : goal.loop-k-preserved-then-t-eq2
+pub loop-k-preserved-then-is_kept : goal.loop-k-preserved-then-is_kept
 unfolding sheet_in
-loop-k-preserved-then-t-eq2 c =
+loop-k-preserved-then-is_kept c =
     let st = c.loop-k.invariant in
     let go = c.if-s-steps.true in
     let busy = c.if-s-gt0.true in
@@ -764,14 +768,14 @@ loop-k-preserved-then-t-eq2 c =
     let done = c.run-stop in
     let quiet = subst (λ (x : ℕ). x ≤ 0) c.number-refusal.ensures c.if-refusal-gt0.false in
     (stopped_listed st go busy _ _ hl hm done.result.hint done.result.task done.ensures.ran done.ensures.same
-    done.ensures.known quiet c.if-t-eq2.true _ _
-    (c.copy-then-t-eq2.auto.cells ∙ c.copy.auto.cells ∙ hl)
-    (c.copy-then-t-eq2.auto.marks ∙ c.copy.auto.marks ∙ hm) _ c.copy.ensures
-    c.copy-then-t-eq2.ensures _ c.listed-s.ensures).0
+    done.ensures.known quiet (sym c.is_kept.ensures ∙ c.if-is_kept.true) _ _
+    (c.copy-then-is_kept.auto.cells ∙ c.copy.auto.cells ∙ hl)
+    (c.copy-then-is_kept.auto.marks ∙ c.copy.auto.marks ∙ hm) _ c.copy.ensures
+    c.copy-then-is_kept.ensures _ c.listed-s.ensures).0
 
-pub loop-k-smaller-else-t-eq2 : goal.loop-k-smaller-else-t-eq2
+pub loop-k-smaller-else-is_kept : goal.loop-k-smaller-else-is_kept
 unfolding sheet_in
-loop-k-smaller-else-t-eq2 c =
+loop-k-smaller-else-is_kept c =
     let st = c.loop-k.invariant in
     let go = c.if-s-steps.true in
     let busy = c.if-s-gt0.true in
@@ -781,12 +785,13 @@ loop-k-smaller-else-t-eq2 c =
     let done = c.run-stop in
     let quiet = subst (λ (x : ℕ). x ≤ 0) c.number-refusal.ensures c.if-refusal-gt0.false in
     (stopped_dropped st go busy _ _ hl hm done.result.hint done.result.task done.ensures.ran done.ensures.same
-    done.ensures.known quiet c.if-t-eq3.false c.if-t-eq2.false _
+    done.ensures.known quiet (sym c.is_split.ensures ∙ c.if-is_split.false)
+    (sym c.is_kept.ensures ∙ c.if-is_kept.false) _
     c.dropped-s.ensures).1
 
-pub loop-k-preserved-else-t-eq2 : goal.loop-k-preserved-else-t-eq2
+pub loop-k-preserved-else-is_kept : goal.loop-k-preserved-else-is_kept
 unfolding sheet_in
-loop-k-preserved-else-t-eq2 c =
+loop-k-preserved-else-is_kept c =
     let st = c.loop-k.invariant in
     let go = c.if-s-steps.true in
     let busy = c.if-s-gt0.true in
@@ -796,7 +801,8 @@ loop-k-preserved-else-t-eq2 c =
     let done = c.run-stop in
     let quiet = subst (λ (x : ℕ). x ≤ 0) c.number-refusal.ensures c.if-refusal-gt0.false in
     (stopped_dropped st go busy _ _ hl hm done.result.hint done.result.task done.ensures.ran done.ensures.same
-    done.ensures.known quiet c.if-t-eq3.false c.if-t-eq2.false _
+    done.ensures.known quiet (sym c.is_split.ensures ∙ c.if-is_split.false)
+    (sym c.is_kept.ensures ∙ c.if-is_kept.false) _
     c.dropped-s.ensures).0
 
 pub offset_bounds-steps-j : goal.offset_bounds-steps-j
@@ -1041,9 +1047,16 @@ loop-k-smaller-else-stood c =
     let took = c.taken-task in
     let hl = c.stay-stood.auto.cells ∙ st.cells_long in
     let hm = c.stay-stood.auto.marks ∙ st.marks_long in
+    let now : asks_c step ≡ true → c.match-asked.guard ≡ guarding_c c.args.ix.clocks (guard_of_c step) =
+    λ asks. elim c.match-asked.branch [
+      | in-Some w ↦
+          w.guard-is ∙ w.of_guard-guard-in-Some.ensures
+          ∙ ap (guarding_c c.args.ix.clocks) (asked_is step w.in-Some.asked w.in-Some.ensures).1
+      | in_default w ↦ absurd (true≢false (sym asks ∙ asked_not step w.in_default.ensures))
+    ] in
     (loaded_at st go idle step refl more _ there _ _ hl hm stood.result stood.ensures.stays
     c.if-stood.false _ _ (c.taken-task.auto.cells ∙ hl) (c.taken-task.auto.marks ∙ hm) took.ensures.placed _ took.ensures.value _
-    c.of_guard-next.ensures _ c.loaded-s.ensures).1
+    now _ c.loaded-s.ensures).1
 
 pub loop-k-preserved-else-stood : goal.loop-k-preserved-else-stood
 unfolding sheet_in
@@ -1063,9 +1076,16 @@ loop-k-preserved-else-stood c =
     let took = c.taken-task in
     let hl = c.stay-stood.auto.cells ∙ st.cells_long in
     let hm = c.stay-stood.auto.marks ∙ st.marks_long in
+    let now : asks_c step ≡ true → c.match-asked.guard ≡ guarding_c c.args.ix.clocks (guard_of_c step) =
+    λ asks. elim c.match-asked.branch [
+      | in-Some w ↦
+          w.guard-is ∙ w.of_guard-guard-in-Some.ensures
+          ∙ ap (guarding_c c.args.ix.clocks) (asked_is step w.in-Some.asked w.in-Some.ensures).1
+      | in_default w ↦ absurd (true≢false (sym asks ∙ asked_not step w.in_default.ensures))
+    ] in
     (loaded_at st go idle step refl more _ there _ _ hl hm stood.result stood.ensures.stays
     c.if-stood.false _ _ (c.taken-task.auto.cells ∙ hl) (c.taken-task.auto.marks ∙ hm) took.ensures.placed _ took.ensures.value _
-    c.of_guard-next.ensures _ c.loaded-s.ensures).0
+    now _ c.loaded-s.ensures).0
 
 pub stepped-s-requires : goal.stepped-s-requires
 stepped-s-requires c =

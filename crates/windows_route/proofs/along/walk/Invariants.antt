@@ -1,4 +1,3 @@
-use Prim.Native.Nat.{◌-◌}
 use Rattle.index.specs.SheetIn.{sheet_in}
 use Rattle.windows_route.specs.Standing.{Standing, way_in}
 use Rattle.windows_route.proofs.along.walk.Given as goal

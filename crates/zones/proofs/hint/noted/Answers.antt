@@ -13,4 +13,4 @@ returns-in-No c = rw c.in-No.is refl
 
 pub returns-in-Ask : goal.returns-in-Ask
 unfolding noted_c
-returns-in-Ask c = rw c.in-Ask.is c.told.ensures
+returns-in-Ask c = rw c.in-Ask.is c.answered.ensures

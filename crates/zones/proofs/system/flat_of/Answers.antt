@@ -11,16 +11,13 @@ pub loop-i-init : goal.loop-i-init
 unfolding exprs_from
 loop-i-init c =
     let l : length c.args.zone.ineqs ≡ 24 = search rules in
-    record { few = omega (arith, c.at_most-n.ensures); within = omega arith; long = refl; zone_long = l; same = refl }
+    record { few = omega (arith, c.min-n.ensures); within = omega arith; long = refl; zone_long = l; same = refl }
 
 pub offset_bounds-zone-i : goal.offset_bounds-zone-i
 offset_bounds-zone-i c = omega (arith, c.loop-i.invariant.few)
 
 pub bounds-zone-i : goal.bounds-zone-i
 bounds-zone-i c = omega (arith, c.loop-i.invariant.few)
-
-pub overflow_add-i : goal.overflow_add-i
-overflow_add-i c = omega (arith, c.loop-i.invariant.few)
 
 pub loop-i-preserved : goal.loop-i-preserved
 loop-i-preserved c =
@@ -33,6 +30,6 @@ pub returns : goal.returns
 returns c =
     let loop = c.loop-i in
     let a = c.args in record {
-      count_value = copied_all a.zone.ineqs _ loop.i a.zone.count loop.flat c.at_most-n.ensures loop.invariant c.loop-i-test.false;
-      counted = c.at_most-n.ensures;
+      count_value = copied_all a.zone.ineqs _ loop.i a.zone.count loop.flat c.min-n.ensures loop.invariant c.loop-i-test.false;
+      counted = c.min-n.ensures;
     }

@@ -1,5 +1,5 @@
 use mathlib.Core.Path.{◌≡◌}
-use Prim.Native.Nat.{◌≤◌, ◌-◌}
+use Prim.Native.Nat.{◌≤◌}
 use lib.IntN.{pos}
 use lib.ListN.{get_or}
 use Rattle.expr.proofs.Records.{filled_e}
@@ -11,6 +11,3 @@ abbrev pub invariant-loop-i : goal.invariant-loop-i
 invariant-loop-i l = (l.i ≤ 4)
     × (l.r ≡ filled_e (difference_c l.self.constant l.other.constant)
     (λ k. difference_c (get_or l.self.coefs k (pos 0)) (get_or l.other.coefs k (pos 0))) l.i)
-
-abbrev pub decreases-loop-i : goal.decreases-loop-i
-decreases-loop-i l = 4 - l.i

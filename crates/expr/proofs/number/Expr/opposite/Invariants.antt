@@ -5,7 +5,7 @@ use Rattle.weight.specs.Upper.{saturate}
 use Rattle.saturating.specs.Largest.{LARGEST}
 use Rattle.expr.specs.declared.number.Expr.{Expr}
 use mathlib.Core.Path.{◌≡◌}
-use Prim.Native.Nat.{◌≤◌, ◌-◌}
+use Prim.Native.Nat.{◌≤◌}
 use Rattle.expr.proofs.Records.{filled_e}
 use Rattle.expr.proofs.number.Expr.opposite.Given as goal
 
@@ -17,6 +17,3 @@ negatedC e k = neg_ℤ (saturate LARGEST (get_or e.coefs k (pos 0)))
 
 abbrev pub invariant-loop-i : goal.invariant-loop-i
 invariant-loop-i l = (l.i ≤ 4) × (l.r ≡ filled_e (turnedC l.self) (λ k. negatedC l.self k) l.i)
-
-abbrev pub decreases-loop-i : goal.decreases-loop-i
-decreases-loop-i l = 4 - l.i

@@ -1,2 +1,0 @@
--- The cases of the code.
-pub mod Cases

@@ -1,6 +1,0 @@
--- The fields.
-use mathlib.Core.Path.{refl}
-use Rattle.passing.proofs.pass.dropped.Goals as goal
-
-pub returns : goal.returns
-returns c = rw c.less.ensures refl

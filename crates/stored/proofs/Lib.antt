@@ -1,4 +1,0 @@
--- What the proofs cite.
-mod Flipped
-mod Residue
-mod Sign
