@@ -1,5 +1,5 @@
 -- A part of a zone on its way through the tests of a guard: one test, and the two parts of a split, on the code's records.
-use Rattle.std.specs.Prelude.{List, Bool, true, false, cond, ◌&&◌, ℕ, ◌+◌, ◌-◌, min, ltb, set}
+use Rattle.std.specs.Prelude.{List, Bool, true, false, cond, ◌&&◌, ℕ, ◌+◌, ◌-◌, min, ltb, eqb, set}
 use Rattle.constrain.specs.Rules.{via_c, ask_c}
 use Rattle.constrain.specs.declared.rule.Rule.{Rule}
 use Rattle.expr.specs.Records.{zero_expr}
@@ -29,6 +29,7 @@ goes_on stops.Cut = false
 goes_on stops.Kept = false
 goes_on stops.Split = false
 goes_on stops.Full = false
+goes_on (stops.Other n) = false
 
 -- .. is kept
 abbrev pub is_kept : Halt → Bool
@@ -37,6 +38,7 @@ is_kept stops.Cut = false
 is_kept stops.Kept = true
 is_kept stops.Split = false
 is_kept stops.Full = false
+is_kept (stops.Other n) = false
 
 -- .. splits
 abbrev pub is_split : Halt → Bool
@@ -45,6 +47,7 @@ is_split stops.Cut = false
 is_split stops.Kept = false
 is_split stops.Split = true
 is_split stops.Full = false
+is_split (stops.Other n) = false
 
 -- .. goes on, is cut or is kept
 abbrev pub is_whole : Halt → Bool
@@ -53,6 +56,18 @@ is_whole stops.Cut = true
 is_whole stops.Kept = true
 is_whole stops.Split = false
 is_whole stops.Full = false
+is_whole (stops.Other n) = false
+
+-- where a part of a number stops
+abbrev pub halt_of : ℕ → Halt
+halt_of n =
+    cond (eqb n 0) stops.No
+    (cond (eqb n 1) stops.Cut
+    (cond (eqb n 2) stops.Kept (cond (eqb n 3) stops.Split (cond (eqb n 8) stops.Full (stops.Other n)))))
+
+-- where a verdict of another number stops a part
+abbrev pub stopped_by : ℕ → Halt
+stopped_by n = cond (eqb n 2) stops.Kept (stops.Other n)
 
 abbrev pub standing : Part → ℕ → Halt → Part
 standing p phase halt = record { phase = phase; halt = halt; tests = p.tests; test = p.test; zone = p.zone }
@@ -86,6 +101,7 @@ told_c r p e kinds.No = answered_c r p false
 told_c r p e kinds.Yes = answered_c r p true
 told_c r p e kinds.Split = halted_c p stops.Split e
 told_c r p e kinds.Full = halted_c p stops.Full e
+told_c r p e (kinds.Other n) = halted_c p (stopped_by n) e
 
 -- how many tests a test is: an answer that comes without asking is none
 abbrev pub tests_in : Test → ℕ
@@ -119,6 +135,7 @@ after_c phase kinds.No = settled_n phase false
 after_c phase kinds.Yes = settled_n phase true
 after_c phase kinds.Split = next phase stops.Split
 after_c phase kinds.Full = next phase stops.Full
+after_c phase (kinds.Other n) = next phase (stopped_by n)
 
 unfoldable pub enters_c : ℕ → Told → Bool
 enters_c phase kind = ltb 1 phase && told_yes kind

@@ -3,14 +3,15 @@ ghost use Rattle.std.specs.Prelude.{cond, ◌≡◌, ◌<◌};
 ghost use Rattle.constrain.specs.Rules.{via_c};
 ghost use Rattle.constrain.specs.RuleLaws.{read_c};
 ghost use Rattle.parts.specs.Parts.{goes_on, is_kept, is_split, standing, put_c, pushed_c, answered_c, tests_in};
-ghost use Rattle.parts.specs.Parts.{settled_n, after_c, enters_c, question_c, turn_c, yes_c, no_c};
+ghost use Rattle.parts.specs.Parts.{halt_of, stopped_by, next, settled_n, after_c, enters_c, question_c, turn_c, yes_c, no_c};
 ghost use Rattle.zones.specs.Settled.{told_settled};
 
 use constrain::Rule;
 use expr::{Bound, Expr, Test};
 use zones::{Told, Zone};
 
-// Where a part stops: nowhere yet, it goes on; it is cut; it is kept; it splits by the test; or it would, with a 25th inequality.
+// Where a part stops: nowhere yet, it goes on; it is cut; it is kept; it splits by the test; or it would, with a 25th inequality; or with
+// another number, which a test's verdict was.
 #[derive(Clone, Copy, PartialEq, Eq)]
 pub enum Halt {
     No,
@@ -18,6 +19,23 @@ pub enum Halt {
     Kept,
     Split,
     Full,
+    Other(usize),
+}
+
+// Where a part of a number stops: 0 is that it goes on, 1 that it is cut, 2 that it is kept, 3 that it splits, 8 that it would.
+impl From<usize> for Halt {
+    ghost from_gives = { λ number halt. halt ≡ halt_of number };
+
+    fn from(number: usize) -> Halt {
+        match number {
+            0 => Halt::No,
+            1 => Halt::Cut,
+            2 => Halt::Kept,
+            3 => Halt::Split,
+            8 => Halt::Full,
+            _ => Halt::Other(number),
+        }
+    }
 }
 
 impl Halt {
@@ -205,6 +223,22 @@ fn settled(phase: usize, yes: bool) -> Next
     }
 }
 
+// The phase where a verdict of another number stops a part; 2 is the number of one that is kept.
+fn stopped(phase: usize, number: usize) -> Next
+    ensures { result ≡ next phase (stopped_by number) }
+{
+    if number == 2 {
+        return Next {
+            phase,
+            halt: Halt::Kept,
+        };
+    }
+    Next {
+        phase,
+        halt: Halt::Other(number),
+    }
+}
+
 // The phase after a verdict on the test of a phase, and whether the part goes on: it stops at a test that is not settled.
 pub fn after(phase: usize, kind: Told) -> Next
     ensures { result ≡ after_c phase kind }
@@ -220,6 +254,7 @@ pub fn after(phase: usize, kind: Told) -> Next
             phase,
             halt: Halt::Full,
         },
+        Told::Other(number) => stopped(phase, number),
     }
 }
 

@@ -4,11 +4,12 @@ use Rattle.std.proofs.Math.Path.{refl, ap, subst}
 use Rattle.std.proofs.Common.{sym, ◌∙◌, add-one, true≢false, length-take, length-drop, length-append, drop_of_length-le, drop-cons, get_or-take, get_or-drop, get_or-append-add, get_or-set_same, ext_get_or}
 use mathlib.Core.List.{List, [], ◌∷◌, ◌++◌}
 use native.Mathlib.Omega.{arith}
-use borrow.Author.Tests.{lt-ltb, le-ltb, ltb-true, ltb-false}
+use borrow.Author.Tests.{lt-ltb, le-ltb, ltb-true, ltb-false, eqb-true}
 use Rattle.std.proofs.Math.ListN.{take, length-set, get_or-append}
 use Rattle.constrain.specs.declared.rule.Rule.{Rule}
 use Rattle.expr.specs.declared.range.Ranges.{Ranges}
-use Rattle.parts.specs.Parts.{is_kept, is_split, yes_c, no_c}
+use Rattle.parts.specs.Numbers.{large_halt}
+use Rattle.parts.specs.Parts.{is_kept, is_split, halt_of, yes_c, no_c}
 use Rattle.parts.specs.declared.part.Halt.{Halt}
 use Rattle.parts.specs.declared.part.Halt.TheVariants as stops
 use Rattle.parts.specs.declared.part.Part.{Part}
@@ -465,6 +466,7 @@ is_dropped stops.Cut = true
 is_dropped stops.Kept = false
 is_dropped stops.Split = false
 is_dropped stops.Full = false
+is_dropped (stops.Other n) = ltb n 4
 
 pub number_dropped : (halt : Halt) (kept : ℕ) → number_c halt kept ≤ 0 → is_split halt ≡ false → is_kept halt ≡ false → is_dropped halt ≡ true
 unfolding number_c
@@ -473,6 +475,11 @@ number_dropped stops.Cut kept h a c = refl
 number_dropped stops.Kept kept h a c = absurd (true≢false c)
 number_dropped stops.Split kept h a c = absurd (true≢false a)
 number_dropped stops.Full kept h a c = absurd (omega arith)
+number_dropped (stops.Other n) kept h a c = by (ltb n 4) refl h
+  where
+    by : (t : Bool) → ltb n 4 ≡ t → cond t 0 n ≤ 0 → t ≡ true
+    by true e l = refl
+    by false e l = let g = ltb-false n 4 e in absurd (omega arith)
 
 pub number_listed : (halt : Halt) (kept : ℕ) → number_c halt kept ≤ 0 → is_kept halt ≡ true → kept < 32
 unfolding number_c
@@ -487,6 +494,31 @@ number_listed stops.Kept kept h e = by (ltb kept 32) refl
         absurd (omega arith)
 number_listed stops.Split kept h e = absurd (true≢false (sym e))
 number_listed stops.Full kept h e = absurd (true≢false (sym e))
+number_listed (stops.Other n) kept h e = absurd (true≢false (sym e))
+
+-- ---- by numbers
+number_large : (halt kept : ℕ) → 4 ≤ halt → number_c (halt_of halt) kept ≡ halt
+unfolding number_c
+number_large halt kept h = ap (λ (k : Halt). number_c k kept) (large_halt halt h) ∙ by (eqb halt 8) refl
+  where
+    by : (t : Bool) → eqb halt 8 ≡ t → number_c (cond t stops.Full (stops.Other halt)) kept ≡ halt
+    by true e = sym (eqb-true halt 8 e)
+    by false e = rw (le-ltb halt 4 h) refl
+
+-- the refusal that a part of a number means
+number_of : (halt kept : ℕ) → number_c (halt_of halt) kept
+    ≡ cond (ltb halt 2) 0 (cond (ltb halt 3) (cond (ltb kept 32) 0 7) (cond (ltb halt 4) 0 halt))
+unfolding number_c
+number_of zero kept = refl
+number_of (suc zero) kept = refl
+number_of (suc (suc zero)) kept = refl
+number_of (suc (suc (suc zero))) kept = refl
+number_of (suc (suc (suc (suc n)))) kept =
+    let h : 4 ≤ suc (suc (suc (suc n))) = omega arith in
+    number_large (suc (suc (suc (suc n)))) kept h ∙ sym (picked (suc (suc (suc (suc n)))) h)
+  where
+    picked : (m : ℕ) → 4 ≤ m → cond (ltb m 2) 0 (cond (ltb m 3) (cond (ltb kept 32) 0 7) (cond (ltb m 4) 0 m)) ≡ m
+    picked m h = rw (le-ltb m 2 (omega arith), le-ltb m 3 (omega arith), le-ltb m 4 h) refl
 
 -- ---- the end of a part
 cut_splits_not : (k : Halt) → is_dropped k ≡ true → is_split k ≡ false
@@ -495,6 +527,7 @@ cut_splits_not stops.Cut h = refl
 cut_splits_not stops.Kept h = refl
 cut_splits_not stops.Split h = sym h
 cut_splits_not stops.Full h = refl
+cut_splits_not (stops.Other n) h = refl
 
 pub kept_splits_not : (k : Halt) → is_kept k ≡ true → is_split k ≡ false
 kept_splits_not stops.No h = refl
@@ -502,6 +535,7 @@ kept_splits_not stops.Cut h = refl
 kept_splits_not stops.Kept h = refl
 kept_splits_not stops.Split h = sym h
 kept_splits_not stops.Full h = refl
+kept_splits_not (stops.Other n) h = refl
 
 module _ (p : Part) (out : Counted) where
   ends_cut : (k : Halt) → is_dropped k ≡ true → ended_by k p out ≡ out
@@ -510,6 +544,7 @@ module _ (p : Part) (out : Counted) where
   ends_cut stops.Kept h = absurd (true≢false (sym h))
   ends_cut stops.Split h = refl
   ends_cut stops.Full h = absurd (true≢false (sym h))
+  ends_cut (stops.Other n) h = ap (λ (b : Bool). cond b out (refused_c n out)) h
 
   ended_cut : is_dropped p.halt ≡ true → ended_c p out ≡ out
   unfolding ended_c
@@ -521,10 +556,19 @@ module _ (p : Part) (out : Counted) where
   ends_kept stops.Kept h = refl
   ends_kept stops.Split h = absurd (true≢false (sym h))
   ends_kept stops.Full h = absurd (true≢false (sym h))
+  ends_kept (stops.Other n) h = absurd (true≢false (sym h))
 
   pub ended_kept : is_kept p.halt ≡ true → ended_c p out ≡ list_c p.zone p.tests out
   unfolding ended_c
   ended_kept h = ends_kept p.halt h
+
+  ended_refused : (halt : ℕ) → 4 ≤ halt → p.halt ≡ halt_of halt → ended_c p out ≡ refused_c halt out
+  unfolding ended_c
+  ended_refused halt h e = ap (λ (k : Halt). ended_by k p out) (e ∙ large_halt halt h) ∙ by (eqb halt 8) refl
+    where
+      by : (t : Bool) → eqb halt 8 ≡ t → ended_by (cond t stops.Full (stops.Other halt)) p out ≡ refused_c halt out
+      by true s = ap (λ (n : ℕ). refused_c n out) (sym (eqb-true halt 8 s))
+      by false s = rw (le-ltb halt 4 h) refl
 
 refused_plain : (n v : ℕ) (l : List Zone) (out : Counted) → out.zones ≡ plain v l → (refused_c n out).zones ≡ refused_z n v
 unfolding refused_c
@@ -684,6 +728,11 @@ module _ (b : Ranges) (w : ℕ) (ss : List Step) (whole : Zones) (list spare : L
       by stops.Kept h = full (kept_full s.kept h)
       by stops.Split h = absurd (omega arith)
       by stops.Full h = refused_plain 8 s.visit (take s.kept list) m.out m.shown
+      by (stops.Other n) h = other (ltb n 4) h
+        where
+          other : (t : Bool) → 0 < cond t 0 n → (cond t m.out (refused_c n m.out)).zones ≡ refused_z (cond t 0 n) s.visit
+          other true h = absurd (omega arith)
+          other false h = refused_plain n s.visit (take s.kept list) m.out m.shown
 
   pub turn_refused : 0 < number_c p.halt s.kept → refused_z (number_c p.halt s.kept) s.visit ≡ whole
   turn_refused h =

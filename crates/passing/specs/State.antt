@@ -42,6 +42,7 @@ number_c stops.Cut kept = 0
 number_c stops.Kept kept = cond (ltb kept 32) 0 7
 number_c stops.Split kept = 0
 number_c stops.Full kept = 8
+number_c (stops.Other n) kept = cond (ltb n 4) 0 n
 
 -- no zones, refused
 abbrev pub refused_z : ℕ → ℕ → Zones

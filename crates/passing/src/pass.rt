@@ -108,7 +108,7 @@ pub fn stepped(s: Pass, step: Step) -> Pass
     }
 }
 
-// The refusal that a part which stopped so means after so many zones, or 0: a 33rd zone (7), or a 25th inequality (8).
+// The refusal that a part which stopped so means after so many zones, or 0: a 33rd zone (7), a 25th inequality (8), or its own number.
 #[tactic(auto, unfolding(crate::specs::State::number_c))]
 pub fn number(halt: Halt, kept: usize) -> usize
     ensures { result ≡ number_c halt kept }
@@ -124,5 +124,11 @@ pub fn number(halt: Halt, kept: usize) -> usize
         }
         Halt::Split => 0,
         Halt::Full => 8,
+        Halt::Other(number) => {
+            if number < 4 {
+                return 0;
+            }
+            number
+        }
     }
 }

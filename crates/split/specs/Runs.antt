@@ -5,8 +5,8 @@ use Rattle.std.proofs.Common.{◌∙◌, add-one, true≢false}
 use Rattle.std.proofs.Math.Bool.{true, false, cond}
 use Prim.Native.Nat.{ℕ, zero, suc, ◌+◌, ◌-◌, ◌≤◌, ◌<◌, min}
 use native.Mathlib.Omega.{arith}
-use borrow.Author.Tests.{lt-ltb, le-ltb, ltb-true, ltb-false}
-use Rattle.std.proofs.Math.Dec.{ltb}
+use borrow.Author.Tests.{lt-ltb, le-ltb, ltb-true, ltb-false, eqb-true}
+use Rattle.std.proofs.Math.Dec.{ltb, eqb}
 use Rattle.expr.specs.declared.bound.Bound.{Bound}
 use Rattle.expr.specs.declared.bound.Test.{Test}
 use Rattle.expr.specs.declared.bound.Test.TheVariants.{Yes, No, Ask}
@@ -14,7 +14,8 @@ use Rattle.expr.specs.declared.number.Expr.{Expr}
 use Rattle.expr.specs.declared.range.Ranges.{Ranges}
 use Rattle.split.specs.Listed.{refused_c, list_c}
 use Rattle.zones.specs.Zone.{plus_c, more_c}
-use Rattle.parts.specs.Parts.{goes_on, is_split, is_whole, with_bounds, standing, put_c, pushed_c, answered_c, halted_c, told_c}
+use Rattle.parts.specs.Numbers.{large_halt}
+use Rattle.parts.specs.Parts.{halt_of, goes_on, is_split, is_whole, with_bounds, standing, put_c, pushed_c, answered_c, halted_c, stopped_by, told_c}
 use Rattle.parts.specs.Parts.{tests_in, counted_c, forward_c, with_more, yes_c, no_c}
 use Rattle.split.specs.Trees.{TreeC, cut_t, keep_t, ask_t, tested_c, push_c, tight_c, tree_at, worked_c, ended_by, ended_c, meant, meant_end}
 use Rattle.split.specs.Trees.{Live, Ran}
@@ -36,6 +37,15 @@ whole_splits_not stops.Cut e = refl
 whole_splits_not stops.Kept e = refl
 whole_splits_not stops.Split e = sym e
 whole_splits_not stops.Full e = refl
+whole_splits_not (stops.Other n) e = refl
+
+-- one that a verdict of another number stops does not go on
+stopped_halts : (n : ℕ) → goes_on (stopped_by n) ≡ false
+stopped_halts n = by (eqb n 2)
+  where
+    by : (t : Bool) → goes_on (cond t stops.Kept (stops.Other n)) ≡ false
+    by true = refl
+    by false = refl
 
 -- a tree looks at a zone's inequalities only
 worked_bounds : (b : Ranges) (t : TreeC) (k : ℕ) (z : Zone) (m : List Bound) (out : Counted)
@@ -412,10 +422,15 @@ module _ (b : Ranges) (r : Rule) where
             splits = λ z. (g.early h, l z, few);
           }
 
-      refused_same : (e : Expr) (out : Counted) → refused_c 8 out ≡ meant b r p out
-          → reached b r (halted_c (at k) stops.Full e) out ≡ meant b r p out
+      refused_same : (n : ℕ) (e : Expr) → 4 ≤ n → (out : Counted) → refused_c n out ≡ meant b r p out
+          → reached b r (halted_c (at k) (halt_of n) e) out ≡ meant b r p out
       unfolding reached meant_end ended_c
-      refused_same e out w = w
+      refused_same n e i out w =
+          ap (λ (h : Halt). reached b r (halted_c (at k) h e) out) (large_halt n i) ∙ by (eqb n 8) refl
+        where
+          by : (t : Bool) → eqb n 8 ≡ t → reached b r (halted_c (at k) (cond t stops.Full (stops.Other n)) e) out ≡ meant b r p out
+          by true s = ap (λ (m : ℕ). refused_c m out) (sym (eqb-true n 8 s)) ∙ w
+          by false s = rw (le-ltb n 4 i) w
 
       -- the verdicts
       by_kind : Verdict → Part
@@ -446,7 +461,7 @@ module _ (b : Ranges) (r : Rule) where
             (ask_split b e f q.tests q.zone out n o l ∙ worth out))
         third false l n o =
             halted_going k few_next stops.Full e refl (λ z. absurd (true≢false (sym z)))
-            (λ out. refused_same k few_next e out
+            (λ out. refused_same k few_next 8 e (omega arith) out
             (ask_full b e f q.tests q.zone out n o l ∙ worth out))
 
         second : (t : Bool) → never_c b q.zone (opposite_c e) ≡ t → never_c b q.zone e ≡ false
@@ -531,6 +546,7 @@ module _ (b : Ranges) (r : Rule) (p q : Part) (g : Going b r p q) (h : goes_on q
       by kinds.Yes = answered_less c true refl
       by kinds.Split = halted_less c stops.Split v.test refl
       by kinds.Full = halted_less c stops.Full v.test refl
+      by (kinds.Other n) = halted_less c (stopped_by n) v.test (stopped_halts n)
 
 -- ---- the two parts of a split, and a part that has stopped
 module _ (b : Ranges) (r : Rule) (q : Part) (h : q.phase < 27) where
@@ -583,3 +599,4 @@ split_leaves q out h = by q.halt h
     by stops.Kept h = absurd (true≢false (sym h))
     by stops.Split h = refl
     by stops.Full h = absurd (true≢false (sym h))
+    by (stops.Other n) h = absurd (true≢false (sym h))

@@ -68,6 +68,11 @@ ended_sticks p out h = by p.halt
     by stops.Kept = list_sticks p.zone p.tests out h
     by stops.Split = refl
     by stops.Full = refused_sticks 8 out h
+    by (stops.Other n) = other n (ltb n 4)
+      where
+        other : (n : ℕ) (b : Bool) → cond b out (refused_c n out) ≡ out
+        other n true = refl
+        other n false = refused_sticks n out h
 
 pub meant_sticks : (b : Ranges) (r : Rule) (p : Part) (out : Counted) → 0 < out.zones.refusal → meant b r p out ≡ out
 unfolding meant

@@ -68,6 +68,7 @@ ended_by stops.Cut p out = out
 ended_by stops.Kept p out = list_c p.zone p.tests out
 ended_by stops.Split p out = out
 ended_by stops.Full p out = refused_c 8 out
+ended_by (stops.Other n) p out = cond (ltb n 4) out (refused_c n out)
 
 unfoldable pub ended_c : Part → Counted → Counted
 ended_c p out = ended_by p.halt p out

@@ -5,7 +5,7 @@ use Rattle.std.proofs.Common.{sym, subst, ◌∙◌, true≢false}
 use Rattle.std.proofs.Math.Bool.{true, false, cond}
 use Prim.Native.Nat.{ℕ, zero, suc, ◌+◌, ◌-◌, ◌/◌, ◌%◌, ◌≤◌, ◌<◌, min}
 use native.Mathlib.Omega.{arith}
-use borrow.Author.Tests.{lt-ltb, le-ltb, ltb-true, ltb-false}
+use borrow.Author.Tests.{lt-ltb, le-ltb, ltb-true, ltb-false, ne_eqb}
 use Rattle.std.proofs.lemmas.List.{set-get_or}
 use Rattle.constrain.specs.RuleLaws.{Few, places_few, read_c, read_framed, via_of, asked_is, via_is}
 use Rattle.constrain.specs.Rules.{tighter_c, via_c, push_test, ask_c, places_at, framed_c, via_at, outside_c}
@@ -19,7 +19,8 @@ use Rattle.expr.specs.declared.number.Expr.{Expr}
 use Rattle.expr.specs.declared.number.Valuation.{Valuation}
 use Rattle.expr.specs.declared.range.Ranges.{Ranges}
 use Rattle.parts.specs.Parts.{goes_on, with_bounds, standing, put_c, pushed_c, answered_c, halted_c, told_c, counted_c, forward_c, next}
-use Rattle.parts.specs.Parts.{after_c, enters_c, question_c, turn_c}
+use Rattle.parts.specs.Numbers.{after_n, after_number, settled_number, yes_number}
+use Rattle.parts.specs.Parts.{halt_of, stopped_by, after_c, enters_c, question_c, turn_c}
 use Rattle.parts.specs.declared.part.Halt.{Halt}
 use Rattle.parts.specs.declared.part.Halt.TheVariants as stops
 use Rattle.parts.specs.declared.part.Next.{Next}
@@ -33,7 +34,7 @@ use Rattle.split.specs.Trees.{Live}
 use Rattle.zones.specs.Fits.{Fit, noted_trusted, noted_ranges, found_trusted}
 use Rattle.zones.specs.FlatLaws.{Listing, listing_same, settled_same}
 use Rattle.zones.specs.Hinted.{exprs_of, Hinted, Trusted, found_c, noted_c}
-use Rattle.zones.specs.Settled.{Verdict, told_settled, told_yes, never_c, opposite_c, on_c, settled_c, settled_f}
+use Rattle.zones.specs.Settled.{Verdict, told_of, told_settled, told_yes, never_c, opposite_c, on_c, settled_c, settled_f}
 use Rattle.zones.specs.System.{SameRows}
 use Rattle.zones.specs.declared.hint.Hint.{Hint}
 use Rattle.zones.specs.declared.told.Told.{Told}
@@ -160,6 +161,19 @@ module _ (r : Rule) (long : length r.old ≡ 25) (q : Part) (t : Test) where
       by true = λ i. halted_c (same_zone (counted_c q t) (into x) i) halt (question_c t)
       by false = λ i. halted_c (same_zone (counted_c q t) (into x) i) halt (question_c t)
 
+  -- .. the verdict of a number
+  halted_number : (x kind : ℕ) → 2 ≤ kind → (e : Expr) → e ≡ question_c t
+      → turned (into x) q t (via_of r long x) (told_of kind) ≡ halted_c (counted_c q t) (halt_of kind) e
+  halted_number x kind h e he =
+      halted_at x (told_of kind) (halt_of kind)
+      (settled_number kind ∙ le-ltb kind 2 h)
+      (yes_number kind ∙ ne_eqb kind 1 (λ z. omega arith))
+      (after_number q.phase kind ∙ after)
+      e he
+    where
+      after : after_n q.phase kind ≡ next q.phase (halt_of kind)
+      after = rw (lt-ltb 1 kind (omega arith)) refl
+
 -- one turn is `forward_c`
 module _ (b : Ranges) (r : Rule) (long : length r.old ≡ 25) (q : Part) (early : q.phase < 27) where
   abbrev t : Test
@@ -189,6 +203,8 @@ module _ (b : Ranges) (r : Rule) (long : length r.old ≡ 25) (q : Part) (early 
       by kinds.Yes e = yes_at r long q t q.phase refl early (yes_not_none e)
       by kinds.Split e = halted_at r long q t q.phase kinds.Split stops.Split refl refl refl v.test (asks (ap told_settled e))
       by kinds.Full e = halted_at r long q t q.phase kinds.Full stops.Full refl refl refl v.test (asks (ap told_settled e))
+      by (kinds.Other n) e =
+          halted_at r long q t q.phase (kinds.Other n) (stopped_by n) refl refl refl v.test (asks (ap told_settled e))
 
 -- ---- a part on its way, with the list of its zone's inequalities; c are the ranges that these leave
 pub record Way (r : Rule) (z : Zone) (c : Ranges) (n : ℕ) (p : Part) (flat : List ℤ) (q : Part) : Type 0 where

@@ -1,6 +1,7 @@
 // One guard over a zone: the parts still to be worked on stand on a stack, the next one on top.
-ghost use Rattle.std.specs.Prelude.{◌≡◌};
+ghost use Rattle.std.specs.Prelude.{◌≡◌, cond, ltb};
 ghost use Rattle.split.specs.Guarded.{cut_c, rule_c, one_c};
+ghost use Rattle.split.specs.Listed.{refused_c};
 ghost use Rattle.split.specs.Trees.{start_c, ended_c};
 
 use crate::list;
@@ -12,6 +13,16 @@ use guards::Guard;
 use parts::{Halt, Part};
 use zones::Zone;
 
+// The zones listed so far, after a part that stops with another number: that refusal, from 4 on.
+fn stopped(out: Counted, number: usize) -> Counted
+    ensures { result ≡ cond (ltb number 4) out (refused_c number out) }
+{
+    if number < 4 {
+        return out;
+    }
+    list::refused(out, number)
+}
+
 // The zones listed so far, after a part that is not split: cut, it leaves them; kept, it is listed; or refused.
 fn ended(out: Counted, p: Part) -> Counted
     ensures { result ≡ ended_c p out }
@@ -22,6 +33,7 @@ fn ended(out: Counted, p: Part) -> Counted
         Halt::Kept => list::listed(out, p.zone, p.tests),
         Halt::Split => out,
         Halt::Full => list::refused(out, 8),
+        Halt::Other(number) => stopped(out, number),
     }
 }
 

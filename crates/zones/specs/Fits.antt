@@ -168,6 +168,7 @@ noted_trusted z h (Ask x) kind k e = by kind e
     by kinds.Yes e = learned_trusted z h (opposite_c x) k (yes_is no yes (ltb z.count 24) e)
     by kinds.Split e = k
     by kinds.Full e = k
+    by (kinds.Other n) e = k
 
 pub noted_ranges : (h : Hint) (t : Test) (kind : Told) → (noted_c h t kind).ranges ≡ h.ranges
 unfolding noted_c
@@ -177,6 +178,7 @@ noted_ranges h (Ask x) kinds.No = refl
 noted_ranges h (Ask x) kinds.Yes = refl
 noted_ranges h (Ask x) kinds.Split = refl
 noted_ranges h (Ask x) kinds.Full = refl
+noted_ranges h (Ask x) (kinds.Other n) = refl
 
 -- ---- what is passed on to a zone whose inequalities hold nowhere else
 abbrev pub Fewer : Zone → Zone → Type 0

@@ -51,6 +51,7 @@ noted_by h e kinds.No = learned_c h e
 noted_by h e kinds.Yes = learned_c h (opposite_c e)
 noted_by h e kinds.Split = h
 noted_by h e kinds.Full = h
+noted_by h e (kinds.Other n) = h
 
 unfoldable pub noted_c : Hint → Test → Told → Hint
 noted_c h Yes kind = h

@@ -1,5 +1,5 @@
 -- A test on a zone: settled if all or none of its valuations satisfy it; otherwise it splits the zone.
-use Rattle.std.specs.Prelude.{List, [], ◌∷◌, ◌++◌, map, Bool, true, false, cond, ℕ, suc, min, ltb, ℤ, take}
+use Rattle.std.specs.Prelude.{List, [], ◌∷◌, ◌++◌, map, Bool, true, false, cond, ℕ, suc, min, ltb, eqb, ℤ, take}
 use Rattle.std.proofs.Math.Option.{Option}
 use Rattle.std.proofs.Math.Option as option
 use Rattle.expr.specs.Affine.{opposite, saturated_e}
@@ -26,6 +26,7 @@ told_settled kinds.No = true
 told_settled kinds.Yes = true
 told_settled kinds.Split = false
 told_settled kinds.Full = false
+told_settled (kinds.Other n) = false
 
 -- it is yes
 abbrev pub told_yes : Told → Bool
@@ -33,6 +34,11 @@ told_yes kinds.No = false
 told_yes kinds.Yes = true
 told_yes kinds.Split = false
 told_yes kinds.Full = false
+told_yes (kinds.Other n) = false
+
+-- the verdict of a number
+abbrev pub told_of : ℕ → Told
+told_of n = cond (eqb n 0) kinds.No (cond (eqb n 1) kinds.Yes (cond (eqb n 3) kinds.Split (cond (eqb n 8) kinds.Full (kinds.Other n))))
 
 -- what becomes of n inequalities that a test splits: one more, or a 25th
 abbrev pub split_c : ℕ → Told

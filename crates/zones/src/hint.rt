@@ -117,6 +117,7 @@ fn answered(h: Hint, e: Expr, kind: Told) -> Hint
         Told::Yes => learned(h, e.opposite()),
         Told::Split => h,
         Told::Full => h,
+        Told::Other(_) => h,
     }
 }
 

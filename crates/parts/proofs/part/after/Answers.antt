@@ -18,3 +18,7 @@ returns-in-Split c = rw c.in-Split.is refl
 pub returns-in-Full : goal.returns-in-Full
 unfolding after_c
 returns-in-Full c = rw c.in-Full.is refl
+
+pub returns-in-Other : goal.returns-in-Other
+unfolding after_c
+returns-in-Other c = rw c.in-Other.is c.stopped.ensures

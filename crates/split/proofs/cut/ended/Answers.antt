@@ -22,3 +22,7 @@ returns-in-Split c = rw c.in-Split.is refl
 pub returns-in-Full : goal.returns-in-Full
 unfolding ended_c
 returns-in-Full c = rw c.in-Full.is c.refused.ensures
+
+pub returns-in-Other : goal.returns-in-Other
+unfolding ended_c
+returns-in-Other c = rw c.in-Other.is c.stopped.ensures

@@ -4,7 +4,7 @@ use native.Mathlib.Omega.{arith}
 use borrow.Author.Rules.{rules}
 use lib.ListN.{take}
 use Rattle.steps.specs.Steps.{with_guards_c}
-use Rattle.steps.proofs.Cases.{first_ones, guards_turn, guards_full, guards_done}
+use Rattle.steps.proofs.Cases.{first_ones, guards_put, guards_full, guards_done}
 use Rattle.steps.proofs.step.with_guards.Goals as goal
 
 pub returns-then-at-ge20 : goal.returns-then-at-ge20
@@ -15,7 +15,7 @@ returns-then-at-ge20 c =
 
 pub loop-guard-preserved : goal.loop-guard-preserved
 loop-guard-preserved c =
-    let loop = c.loop-guard in guards_turn _ loop.guard-index loop.more _ c.loop-guard-test.true c.if-at-ge20.false loop.invariant
+    let loop = c.loop-guard in guards_put _ loop.guard-index loop.more _ c.loop-guard-test.true c.if-at-ge20.false loop.invariant
 
 pub returns : goal.returns
 returns c =
